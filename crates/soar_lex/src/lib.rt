@@ -1,0 +1,10 @@
+//! Bytes into tokens.
+#![tactic(auto)]
+
+mod bytes;
+mod cut;
+mod run;
+
+pub use defs_text::{LexFault, Token, TokenKind};
+pub use cut::lex;
+pub use run::{Run, run_kind};
