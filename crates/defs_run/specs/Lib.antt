@@ -1,0 +1,9 @@
+pub mod Commands
+pub mod Forms
+pub mod Limits
+pub mod Loading
+pub mod Said
+pub mod Session
+pub mod Stage
+pub mod Transcript
+pub mod Worked
