@@ -1,7 +1,9 @@
-ghost use Rattle.std.specs.Prelude.{◌≡◌, map, IfOk};
+ghost use Rattle.std.specs.Prelude.{◌≡◌, ◌++◌, map, IfOk, OnOk};
 ghost use Rattle.defs_match.specs.Conflict as meaning;
 ghost use Rattle.defs_match.specs.Productions.{rule_seen};
 
+use crate::extension::rows;
+use crate::row::Row;
 use defs_match::{Instance, Rule};
 use soar_sym::{List, NoMemory};
 use soar_wm::Element;
@@ -15,6 +17,32 @@ pub fn conflict(
 ) -> Result<List<Instance>, NoMemory>
     ensures { IfOk result (λ instances. instances ≡ meaning.conflict (map rule_seen rules.now) elements.now) }
 {
-    let _ = (alloc, rules, elements);
-    Err(NoMemory)
+    let mut out = List::new(alloc);
+    'rules: for rule in rules {
+        add_instances(alloc, rule, elements, &mut out)?;
+    }
+    Ok(out)
+}
+
+/// Adds the instances of a rule.
+fn add_instances(
+    alloc: Global,
+    rule: &Rule,
+    elements: &[Element],
+    out: &mut List<Instance>,
+) -> Result<(), NoMemory>
+    ensures { OnOk result (out.new ≡ out.old ++ meaning.instances_of elements.now (rule_seen rule.now)) }
+{
+    let rows = rows(alloc, rule.production.conds.as_slice(), elements)?;
+    'rows: for row in rows.into_vec() {
+        out.push(instance_of(alloc, rule.number, row)?)?;
+    }
+    Ok(())
+}
+
+fn instance_of(alloc: Global, rule: u64, row: Row) -> Result<Instance, NoMemory>
+    ensures { IfOk result (λ instance. instance ≡ meaning.instance_of rule row) }
+{
+    let (tags, binds) = row.into_parts(alloc)?;
+    Ok(Instance { rule, tags, binds })
 }

@@ -2,5 +2,9 @@
 #![tactic(auto)]
 
 mod enumeration;
+mod extension;
+mod row;
+mod taking;
+mod testing;
 
 pub use enumeration::conflict;
