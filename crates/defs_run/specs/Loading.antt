@@ -82,6 +82,9 @@ production_of outline = record {
 abbrev pub is_named : Sym → RuleOf → Bool
 is_named name rule = symbol_eq name rule.production.name
 
+abbrev pub without_name : Sym → List RuleOf → List RuleOf
+without_name name rules = filter (λ rule. not (is_named name rule)) rules
+
 -- the rules with this production in the place of that of its name, last and under this number
 abbrev pub with_rule : List RuleOf → ℕ → ProductionOf → List RuleOf
-with_rule rules number production = filter (λ rule. not (is_named production.name rule)) rules ++ record { number = number; production = production } ∷ []
+with_rule rules number production = without_name production.name rules ++ record { number = number; production = production } ∷ []

@@ -5,7 +5,7 @@ use Rattle.soar_sym.specs.declared.symbol.Sym.{Sym}
 use Rattle.soar_sym.specs.declared.symbol.Sym.TheVariants.{Ident, Word, Int}
 use Rattle.soar_sym.specs.declared.symbol.Triple.{Triple}
 use Rattle.soar_wm.specs.declared.element.Element.{Element}
-use Rattle.soar_wm.specs.Kept.{Kept, tag_of, with_triple}
+use Rattle.soar_wm.specs.WorkingMemory.{WorkingMemory, tag_of, with_triple}
 use Rattle.defs_text.specs.Lexing.{Lexed, lexed}
 use Rattle.defs_text.specs.Numbered.{numbered, words_after}
 use Rattle.defs_text.specs.Symbols.{instance_text}
@@ -17,6 +17,8 @@ use Rattle.defs_run.specs.Commands.{CommandOf, first_run}
 use Rattle.defs_run.specs.Forms.{outline_at, addition_at}
 use Rattle.defs_run.specs.declared.form.Outline.{Outline}
 use Rattle.defs_run.specs.declared.form.Addition.{Addition}
+use Rattle.defs_run.specs.declared.form.Order.{Order}
+use Rattle.defs_run.specs.declared.form.Order.TheVariants.{Load, Add, Matches}
 use Rattle.defs_run.specs.Limits.{Drawn, words_to, elements_to, tags_to, counts_to}
 use Rattle.defs_run.specs.Loading.{production_of, with_rule}
 use Rattle.defs_run.specs.Said.{Line, always, Refusal, unknown_command, not_built, already_there, refusal_text}
@@ -25,7 +27,7 @@ use Rattle.defs_run.specs.Stage.{is_sp, is_add_wme, is_command}
 -- the words of the table, working memory, the loaded rules by number, and the last rule number
 pub record State : Type 0 where
   pub words : Texts
-  pub memory : Kept
+  pub memory : WorkingMemory
   pub rules : List RuleOf
   pub last_rule : ℕ
 
@@ -56,25 +58,16 @@ first_state = record { words = architecture; memory = record { elements = first_
 
 -- ---- orders
 
--- what a command of the right form asks for
-pub data Order : Type 0 where
-  load : ProductionOf → Order
-  add : Addition → Order
-  list_matches : Order
-
-abbrev pub load_of : Outline → Order
-load_of outline = load (production_of outline)
-
 abbrev pub as_load : Option Outline → Option Order
-as_load (Some outline) = Some (load_of outline)
+as_load (Some outline) = Some (Load outline)
 as_load None = None
 
 abbrev pub as_addition : Option Addition → Option Order
-as_addition (Some addition) = Some (add addition)
+as_addition (Some addition) = Some (Add addition)
 as_addition None = None
 
 abbrev pub as_matches : List Token → Option Order
-as_matches [] = Some list_matches
+as_matches [] = Some Matches
 as_matches (t ∷ tokens) = None
 
 -- the order of a command's word and of the tokens behind it
@@ -102,8 +95,8 @@ conflict_lines words rules (i ∷ instances) = map (instance_line words rules) (
 -- ---- commands
 
 -- the state is as it was
-abbrev pub refused_by : Refusal → CommandOf → State → Reply
-refused_by refusal command s = record { state = s; said = always (refusal_text refusal command.line) ∷ []; drawn = []; refused = true }
+abbrev pub refused_by : Refusal → ℕ → State → Reply
+refused_by refusal line s = record { state = s; said = always (refusal_text refusal line) ∷ []; drawn = []; refused = true }
 
 -- a triple of the top state
 abbrev pub top_triple : Addition → Triple
@@ -117,9 +110,9 @@ loaded production s = record {
   refused = false;
 }
 
-abbrev pub added : Triple → CommandOf → State → Option ℕ → Reply
-added t command s (Some tag) = refused_by (already_there tag) command s
-added t command s None = record {
+abbrev pub added : Triple → ℕ → State → Option ℕ → Reply
+added t line s (Some tag) = refused_by (already_there tag) line s
+added t line s None = record {
   state = record s { memory = with_triple s.memory t true };
   said = [];
   drawn = elements_to (length s.memory.elements + 1) ∷ tags_to (s.memory.last + 1) ∷ [];
@@ -129,11 +122,11 @@ added t command s None = record {
 abbrev pub matched : State → Reply
 matched s = record { state = s; said = conflict_lines s.words s.rules (conflict s.rules s.memory.elements); drawn = []; refused = false }
 
-abbrev pub carried_out : CommandOf → State → Option Order → Reply
-carried_out command s None = refused_by not_built command s
-carried_out command s (Some (load production)) = loaded production s
-carried_out command s (Some (add addition)) = added (top_triple addition) command s (tag_of (top_triple addition) s.memory.elements)
-carried_out command s (Some list_matches) = matched s
+abbrev pub carried_out : ℕ → State → Option Order → Reply
+carried_out line s None = refused_by not_built line s
+carried_out line s (Some (Load outline)) = loaded (production_of outline) s
+carried_out line s (Some (Add addition)) = added (top_triple addition) line s (tag_of (top_triple addition) s.memory.elements)
+carried_out line s (Some Matches) = matched s
 
 -- the words of a command join the table, and come to so many, before it is carried out
 abbrev pub with_words : State → Lexed → State
@@ -144,8 +137,8 @@ after_words read reply = record reply { drawn = words_to (length read.words) ∷
 
 abbrev pub obeyed_as : CommandOf → State → Lexed → Reply
 obeyed_as command s text =
-    let read = with_words s text in after_words read (carried_out command read (order_of read.words (first_run command.text) text))
+    let read = with_words s text in after_words read (carried_out command.line read (order_of read.words (first_run command.text) text))
 
 -- what a command does
 abbrev pub obeyed : State → CommandOf → Reply
-obeyed s command = if is_command (first_run command.text) then obeyed_as command s (lexed command.text) else refused_by unknown_command command s
+obeyed s command = if is_command (first_run command.text) then obeyed_as command s (lexed command.text) else refused_by unknown_command command.line s

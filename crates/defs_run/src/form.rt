@@ -30,3 +30,11 @@ pub struct Addition {
     pub attr: Sym,
     pub value: Sym,
 }
+
+/// What a command of the right form asks for.
+#[derive(Debug, Drop)]
+pub enum Order {
+    Load(Outline),
+    Add(Addition),
+    Matches,
+}

@@ -6,7 +6,7 @@ ghost use Rattle.defs_run.specs.Worked as worked;
 mod form;
 mod limit;
 
-pub use form::{Addition, Group, Operand, Outline};
+pub use form::{Addition, Group, Operand, Order, Outline};
 pub use limit::Which;
 
 /// Whole inputs with what is written for them and the status, as they were worked out by hand.

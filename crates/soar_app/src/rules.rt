@@ -1,0 +1,54 @@
+// The list of loaded rules.
+ghost use Rattle.std.specs.Prelude.{◌≡◌, map, filter, not, OnOk, OnErr};
+ghost use Rattle.defs_match.specs.Productions.{production_seen, rule_seen};
+ghost use Rattle.defs_run.specs.Loading.{is_named, with_rule, without_name};
+ghost use Rattle.defs_run.specs.Session.{rule_name};
+ghost use Rattle.soar_app.specs.Known.{AreNamesKnown};
+ghost use Rattle.soar_sym.specs.Words.{Texts, IsKnown};
+
+use crate::token::same_symbol;
+use defs_match::Rule;
+use soar_rule::Production;
+use soar_sym::{List, NoMemory, Sym};
+
+/// Puts a production in the place of that of its name: last, and under a number.
+pub fn load(rules: &mut List<Rule>, number: u64, production: Production) -> Result<(), NoMemory>
+    ensures ok { OnOk result (map rule_seen rules.new ≡ with_rule (map rule_seen rules.old) number (production_seen production)) }
+    ensures err { OnErr result (map rule_seen rules.new ≡ without_name production.name (map rule_seen rules.old)) }
+{
+    drop_named(rules, production.name);
+    rules.push(Rule { number, production })?;
+    Ok(())
+}
+
+/// Takes the rules of a name away.
+fn drop_named(rules: &mut List<Rule>, name: Sym)
+    ensures { map rule_seen rules.new ≡ without_name name (map rule_seen rules.old) }
+{
+    let mut at = 0;
+    'rules: while at < rules.len() {
+        if is_named(name, &rules.as_slice()[at]) {
+            let _ = rules.remove(at);
+        } else {
+            at += 1;
+        }
+    }
+}
+
+fn is_named(name: Sym, rule: &Rule) -> bool
+    ensures { result ≡ is_named name (rule_seen rule.now) }
+{
+    same_symbol(name, rule.production.name)
+}
+
+/// The name of the rule of a number.
+pub fn rule_name(rules: &[Rule], number: u64) -> Sym
+    ensures { result ≡ rule_name (map rule_seen rules.now) number }
+{
+    'rules: for rule in rules {
+        if rule.number == number {
+            return rule.production.name;
+        }
+    }
+    Sym::Int(0)
+}
