@@ -3,6 +3,7 @@
 
 mod bytes;
 mod cut;
+mod quote;
 mod run;
 
 pub use defs_text::{LexFault, Token, TokenKind};
