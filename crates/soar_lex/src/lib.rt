@@ -3,6 +3,7 @@
 
 mod bytes;
 mod cut;
+mod front;
 mod quote;
 mod run;
 
