@@ -4,6 +4,7 @@
 mod bytes;
 mod cut;
 mod front;
+mod name;
 mod quote;
 mod run;
 

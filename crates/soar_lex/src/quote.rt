@@ -1,7 +1,9 @@
 // Texts in bars and strings in quotes.
-ghost use Rattle.std.specs.Prelude.{◌≡◌, ◌<◌, ◌≤◌, length, Some, string_bytes, IfOk, IfSome, MatchResult};
+ghost use Rattle.std.specs.Prelude.{◌≡◌, ◌<◌, ◌≤◌, length, Some, string_bytes, IfErr, IfOk, IfSome, MatchResult};
+ghost use Rattle.std.specs.Str.{IsUtf8};
 ghost use Rattle.defs_text.specs.Quotes.{bad_escape, closing, fault_inside, lesser, meant, no_utf8};
 
+use defs_text::LexFault;
 use std::alloc::{AllocError, Global};
 
 /// How many bytes stand before the closing one.
@@ -40,11 +42,23 @@ pub fn checked<'a>(quote: u8, inside: &'a [u8]) -> Result<&'a str, usize>
 }
 
 /// The text that a text between bars or quotes means.
-pub fn meant(alloc: Global, inside: &str) -> Result<String, AllocError>
-    ensures { IfOk result (λ text. string_bytes text ≡ meant inside.now) }
+pub fn meant(alloc: Global, inside: &str) -> Result<String, LexFault>
+    ensures text { IfOk result (λ text. string_bytes text ≡ meant inside.now) }
+    ensures err { IfErr result (λ fault. fault ≡ LexFault.NoMemory) }
 {
-    match String::from_utf8(unescaped(alloc, inside.as_bytes())?) {
-        Ok(text) => Ok(text),
+    match unescaped(alloc, inside.as_bytes()) {
+        Ok(bytes) => Ok(owned(bytes)),
+        Err(_) => Err(LexFault::NoMemory),
+    }
+}
+
+/// UTF-8 as a text.
+fn owned(bytes: Vec<u8>) -> String
+    requires { IsUtf8 bytes.items }
+    ensures { string_bytes result ≡ bytes.items }
+{
+    match String::from_utf8(bytes) {
+        Ok(text) => text,
         Err(_) => unreachable!(),
     }
 }
