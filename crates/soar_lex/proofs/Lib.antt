@@ -1,3 +1,4 @@
+pub mod CutLemmas
 pub mod MeantLemmas
 pub mod QuoteLemmas
 pub mod RunLemmas
