@@ -65,7 +65,7 @@ pub fn front(text: &[u8], place: u32) -> Result<Piece<'_>, LexFault>
 }
 
 /// What a run is, by its kind and by what follows it.
-#[tactic(auto, using(crate::proofs::RunLemmas::inside_is_ascii))]
+#[tactic(auto, using(crate::proofs::FrontLemmas::inside_is_ascii))]
 fn run_front<'a>(run: &'a [u8], after: &[u8], place: u32) -> Result<Piece<'a>, LexFault>
     requires ascii { IsAscii run.now }
     requires room { place + length run.now < 2 ^ 32 }
@@ -126,7 +126,7 @@ fn inside(quote: u8, after: &[u8], place: u32) -> Result<&str, LexFault>
 }
 
 /// The longest run in front of a text, and what follows it.
-#[tactic(auto, using(crate::proofs::RunLemmas::run_is_ascii))]
+#[tactic(auto, using(crate::proofs::FrontLemmas::run_is_ascii))]
 fn split_run(text: &[u8]) -> (&[u8], &[u8])
     ensures run { result.0.now ≡ run_of text.now }
     ensures after { result.1.now ≡ after_run text.now }
@@ -163,7 +163,7 @@ fn inside_of(run: &[u8]) -> &[u8]
 }
 
 /// ASCII as a text.
-#[tactic(auto, using(crate::proofs::RunLemmas::ascii_is_text))]
+#[tactic(auto, using(crate::proofs::FrontLemmas::ascii_is_text))]
 fn ascii(bytes: &[u8]) -> &str
     requires { IsAscii bytes.now }
     ensures { result.now ≡ bytes.now }

@@ -1,5 +1,5 @@
 use Rattle.std.proofs.Common.{arith}
-use Rattle.soar_lex.proofs.RunLemmas.{angle_within}
+use Rattle.soar_lex.proofs.FrontLemmas.{angle_within}
 use Rattle.soar_lex.proofs.front.run_front.Goals as goal
 
 pub overflow_cast-result : goal.overflow_cast-result

@@ -1,4 +1,4 @@
--- Runs: their bytes are ASCII, and where the first angle stands.
+-- The front of a text: the bytes of a run are ASCII, and its first angle stands in it.
 use Rattle.std.proofs.Common.{◌≡◌, ℕ, suc, ◌+◌, ◌-◌, drop, ◌<◌, ◌≤◌, Bool, true, false, cond, List, [], ◌∷◌, length, take, refl, sym, ap, subst, ◌∙◌, arith}
 use Rattle.std.specs.List.{prefix_len, list_any}
 use Rattle.std.specs.Str.{IsAscii, IsUtf8}
