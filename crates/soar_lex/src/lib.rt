@@ -3,8 +3,9 @@
 
 mod bytes;
 mod cut;
+mod number;
 mod run;
 
-pub use defs_text::{LexFault, Token, TokenKind};
 pub use cut::lex;
+pub use defs_text::{LexFault, Token, TokenKind};
 pub use run::{Run, run_kind};
