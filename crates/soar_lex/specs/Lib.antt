@@ -1,1 +1,4 @@
 pub mod Answers
+pub mod Naming
+pub mod Pieces
+pub mod Steps

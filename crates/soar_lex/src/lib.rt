@@ -3,8 +3,12 @@
 
 mod bytes;
 mod cut;
+mod front;
+mod name;
+mod number;
+mod quote;
 mod run;
 
-pub use defs_text::{LexFault, Token, TokenKind};
 pub use cut::lex;
+pub use defs_text::{LexFault, Token, TokenKind};
 pub use run::{Run, run_kind};
