@@ -136,3 +136,6 @@ fn has_no_angle(bytes: &[u8]) -> bool
 {
     bytes.iter().all(|b| !angle(*b))
 }
+
+#[cfg(test)]
+mod tests;

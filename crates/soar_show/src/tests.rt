@@ -1,0 +1,99 @@
+use crate::{show_instance, show_symbol};
+use defs_match::Instance;
+use soar_sym::{List, Sym, SymTable, Text};
+use std::test::Fail;
+
+#[test]
+fn words_stand_bare_or_in_bars(rt: HostRuntime) -> Result<(), Fail> {
+    let mut table = SymTable::new(rt.alloc())?;
+    for (word, shown) in [
+        ("a", "a"),
+        ("state", "state"),
+        ("--", "--"),
+        ("1e", "1e"),
+        ("s1", "s1"),
+        ("S", "S"),
+        ("S0", "S0"),
+        ("S01", "S01"),
+        ("S1a", "S1a"),
+        ("S1", "|S1|"),
+        ("A4294967295", "|A4294967295|"),
+        ("A4294967296", "A4294967296"),
+        ("A99999999999999999999999", "A99999999999999999999999"),
+        ("5", "|5|"),
+        ("1e5", "|1e5|"),
+        ("1.5", "|1.5|"),
+        ("+", "|+|"),
+        ("-->", "|-->|"),
+        ("<x>", "|<x>|"),
+        ("a>b", "|a>b|"),
+        ("a b", "|a b|"),
+        ("", "||"),
+        ("é", "|é|"),
+        ("a|b", r"|a\|b|"),
+        (r"a\b", r"|a\\b|"),
+        (r"é\|€", r"|é\\\|€|"),
+    ] {
+        let symbol = table.intern(word)?;
+        let mut out = Text::new(rt.alloc());
+        show_symbol(&mut out, &table, symbol)?;
+        assert!(rt; out.as_str() == shown, "at {word}");
+    }
+    Ok(())
+}
+
+#[test]
+fn symbols_are_appended(rt: HostRuntime) -> Result<(), Fail> {
+    let table = SymTable::new(rt.alloc())?;
+    let mut out = Text::from_str(rt.alloc(), "x ")?;
+    for symbol in [
+        Sym::Int(0),
+        Sym::Int(-5),
+        Sym::Int(i64::MAX),
+        Sym::Int(i64::MIN),
+    ] {
+        show_symbol(&mut out, &table, symbol)?;
+        out.push(' ')?;
+    }
+    show_symbol(
+        &mut out,
+        &table,
+        Sym::Ident {
+            letter: b'S',
+            number: 1,
+        },
+    )?;
+    show_symbol(
+        &mut out,
+        &table,
+        Sym::Ident {
+            letter: b'Z',
+            number: 4_294_967_295,
+        },
+    )?;
+    assert!(rt; out.as_str() == "x 0 -5 9223372036854775807 -9223372036854775808 S1Z4294967295");
+    Ok(())
+}
+
+#[test]
+fn instances_are_named_with_their_tags(rt: HostRuntime) -> Result<(), Fail> {
+    let mut table = SymTable::new(rt.alloc())?;
+    let name = table.intern("find*block")?;
+    let barred = table.intern("B2")?;
+    let mut out = Text::new(rt.alloc());
+    let none = Instance {
+        rule: 1,
+        tags: List::new(rt.alloc()),
+        binds: List::new(rt.alloc()),
+    };
+    show_instance(&mut out, &table, &none, name)?;
+    assert!(rt; out.as_str() == "find*block:");
+    let two = Instance {
+        rule: 1,
+        tags: List::from_slice(rt.alloc(), &[12, 4_294_967_295])?,
+        binds: List::new(rt.alloc()),
+    };
+    show_instance(&mut out, &table, &two, barred)?;
+    assert!(rt; out.as_str() == "find*block:|B2|: 12 4294967295");
+    Ok(())
+}
