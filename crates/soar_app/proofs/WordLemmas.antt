@@ -11,6 +11,7 @@ use Rattle.defs_text.specs.Lexing.{Saying, mark, arrow, open_set, close_set, sig
 use Rattle.defs_text.specs.Numbered.{word_in, kind_in, numbered, texts_before, token_texts, words_after}
 use Rattle.defs_text.specs.declared.token.Token.{Token}
 use Rattle.defs_match.specs.Productions.{RuleOf}
+use Rattle.defs_run.specs.Session.{rule_name}
 use Rattle.soar_app.specs.Known.{IsKindKnown, AreTokensKnown, AreNamesKnown}
 
 -- ---- the table only grows
@@ -159,3 +160,12 @@ symbol_stays old new (Word word) more known = omega arith
 pub names_stay : (old new : Texts) (rules : List RuleOf) → length old ≤ length new → AreNamesKnown old rules → AreNamesKnown new rules
 names_stay old new [] more known = tt
 names_stay old new (rule ∷ rules) more known = (symbol_stays old new rule.production.name more known.0, names_stay old new rules more known.1)
+
+-- the name of the rule of a number
+pub name_known : (words : Texts) (rules : List RuleOf) (number : ℕ) → AreNamesKnown words rules → IsKnown words (rule_name rules number)
+name_known words [] number known = tt
+name_known words (rule ∷ rules) number known = by (rule.number == number) (name_known words rules number known.1)
+  where
+    by : (b : Bool) → IsKnown words (rule_name rules number) → IsKnown words (cond b rule.production.name (rule_name rules number))
+    by true later = known.0
+    by false later = later

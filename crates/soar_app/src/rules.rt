@@ -9,7 +9,7 @@ ghost use Rattle.soar_sym.specs.Words.{Texts, IsKnown};
 use crate::token::same_symbol;
 use defs_match::Rule;
 use soar_rule::Production;
-use soar_sym::{List, NoMemory, Sym};
+use soar_sym::{List, NoMemory, Sym, SymTable};
 
 /// Puts a production in the place of that of its name: last, and under a number.
 pub fn load(rules: &mut List<Rule>, number: u64, production: Production) -> Result<(), NoMemory>
@@ -42,7 +42,17 @@ fn is_named(name: Sym, rule: &Rule) -> bool
 }
 
 /// The name of the rule of a number.
-pub fn rule_name(rules: &[Rule], number: u64) -> Sym
+#[tactic(auto, using(crate::proofs::WordLemmas::name_known))]
+pub fn rule_name(table: &SymTable, rules: &[Rule], number: u64) -> Sym
+    requires { AreNamesKnown table.now (map rule_seen rules.now) }
+    ensures name { result ≡ rule_name (map rule_seen rules.now) number }
+    ensures known { IsKnown table.now result }
+{
+    let _ = table;
+    name_of(rules, number)
+}
+
+fn name_of(rules: &[Rule], number: u64) -> Sym
     ensures { result ≡ rule_name (map rule_seen rules.now) number }
 {
     'rules: for rule in rules {

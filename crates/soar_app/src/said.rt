@@ -3,14 +3,18 @@ ghost use Rattle.std.specs.Prelude.{◌≡◌, ◌++◌, ◌∷◌, [], Some, No
 ghost use Rattle.soar_sym.specs.Words.{Texts};
 ghost use Rattle.defs_match.specs.Productions.{rule_seen};
 ghost use Rattle.defs_run.specs.Limits.{limit_of, limit_text, name_of};
-ghost use Rattle.defs_run.specs.Said.{already_there, always, not_built, refusal_text, rendered, unknown_command};
+ghost use Rattle.defs_run.specs.Said.{already_there, always, line_at, not_built, refusal_text, rendered, unknown_command};
 ghost use Rattle.defs_run.specs.Session.{State, conflict_lines, instance_line, refused_by};
 ghost use Rattle.defs_run.specs.Transcript.{stopped, watch};
+ghost use Rattle.soar_app.specs.Known.{AreNamesKnown};
 ghost use Rattle.soar_app.specs.Steps.{Obeys};
 
+use crate::rules::rule_name;
 use crate::stop::Stop;
+use defs_match::{Instance, Rule};
 use defs_run::Which;
-use soar_sym::{NoMemory, Text};
+use soar_show::show_instance;
+use soar_sym::{NoMemory, SymTable, Text};
 use std::alloc::{AllocError, Global};
 
 /// Appends the line of a refusal.
@@ -85,4 +89,38 @@ fn limit_number(limit: Which) -> u64
         Which::Elements => 4_000_000,
         Which::Counts => 18_446_744_073_709_551_615,
     }
+}
+
+/// Says the instances of a conflict set, or that there are none.
+pub fn say_matches(
+    table: &SymTable,
+    rules: &[Rule],
+    instances: &[Instance],
+    out: &mut Text,
+) -> Result<(), NoMemory>
+    requires { AreNamesKnown table.now (map rule_seen rules.now) }
+    ensures { OnOk result (out.new ≡ out.old ++ rendered watch (conflict_lines table.now (map rule_seen rules.now) instances.now)) }
+{
+    if instances.is_empty() {
+        out.push_str("no matches\n")?;
+        return Ok(());
+    }
+    'instances: for instance in instances {
+        say_instance(table, rules, instance, out)?;
+    }
+    Ok(())
+}
+
+fn say_instance(
+    table: &SymTable,
+    rules: &[Rule],
+    instance: &Instance,
+    out: &mut Text,
+) -> Result<(), NoMemory>
+    requires { AreNamesKnown table.now (map rule_seen rules.now) }
+    ensures { OnOk result (out.new ≡ out.old ++ line_at watch (instance_line table.now (map rule_seen rules.now) instance.now)) }
+{
+    show_instance(out, table, instance, rule_name(table, rules, instance.rule))?;
+    out.push_str("\n")?;
+    Ok(())
 }

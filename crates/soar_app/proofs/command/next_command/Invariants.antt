@@ -4,8 +4,9 @@ use Rattle.soar_app.proofs.command.next_command.Given as goal
 
 abbrev pub invariant-lines : goal.invariant-lines
 invariant-lines l = record {
-  commands : commands_from (l.taken.now + 1) (lines_of l.rest.now) ≡ commands_from (l.initial.taken.now + 1) (lines_of l.initial.rest.now);
-  counted : l.taken.now + length l.rest.now ≤ l.initial.taken.now + length l.initial.rest.now;
+  commands : commands_from (l.taken + 1) (lines_of l.rest.now) ≡ commands_from (l.initial.taken + 1) (lines_of l.initial.rest.now);
+  shorter : length l.rest.now ≤ length l.initial.rest.now;
+  counted : l.taken + length l.rest.now ≤ l.initial.taken + length l.initial.rest.now;
 }
 
 abbrev pub decreases-lines : goal.decreases-lines
