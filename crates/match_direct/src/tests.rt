@@ -1,9 +1,11 @@
 mod build;
 
 use crate::conflict;
-use build::{add_rule, constant, found, have_tags, lacks, pattern, takes, top, variable};
+use build::{add_rule, found, have_tags, have_these, lacks, pattern, takes, top, variable};
 use soar_rule::{Atom, Cond, Relation, Test};
-use soar_sym::{List, Sym};
+use soar_sym::{List, NoMemory, Sym};
+use soar_wm::Element;
+use std::alloc::Global;
 use std::test::Fail;
 
 const S1: Sym = Sym::Ident {
@@ -14,20 +16,20 @@ const S1: Sym = Sym::Ident {
 #[test]
 fn elements_are_taken_in_order_of_tags(rt: HostRuntime) -> Result<(), Fail> {
     let alloc = rt.alloc();
-    let elements = [top(6, 24, Sym::Int(1)), top(7, 24, Sym::Int(2))];
-    let conds = vec![in alloc; takes(alloc, 24, 1)?, takes(alloc, 24, 2)?]?;
-    let one = found(alloc, conds, &elements[..1])?;
+    let mut elements = vec![in alloc; top(6, 24, Sym::Int(1))]?;
+    let one = found(alloc, takes_twice(alloc)?, elements.as_slice())?;
     assert!(rt; have_tags(&one, &[&[6, 6]]));
-    let conds = vec![in alloc; takes(alloc, 24, 1)?, takes(alloc, 24, 2)?]?;
-    let both = found(alloc, conds, &elements)?;
+    elements.push(top(7, 24, Sym::Int(2)))?;
+    let both = found(alloc, takes_twice(alloc)?, elements.as_slice())?;
     assert!(rt; have_tags(&both, &[&[6, 6], &[6, 7], &[7, 6], &[7, 7]]));
-    match both.get(1) {
-        Some(instance) => {
-            assert!(rt; instance.binds.as_slice() == [S1, Sym::Int(1), Sym::Int(2)].as_slice());
-        }
-        None => assert!(rt; false),
-    }
+    let binds = [S1, Sym::Int(1), Sym::Int(2)];
+    assert!(rt; both.get(1).is_some_and(|instance| instance.binds.as_slice() == binds.as_slice()));
     Ok(())
+}
+
+/// (<s> ^a <x>) (<s> ^a <y>)
+fn takes_twice(alloc: Global) -> Result<Vec<Cond>, NoMemory> {
+    Ok(vec![in alloc; takes(alloc, 24, 1)?, takes(alloc, 24, 2)?]?)
 }
 
 #[test]
@@ -80,92 +82,120 @@ fn relations_are_of_the_element_to_the_test(rt: HostRuntime) -> Result<(), Fail>
         (Relation::SameKind, Sym::Int(1), Sym::Int(2), true),
         (Relation::SameKind, Sym::Int(24), word, false),
     ] {
-        let value_tests = vec![in alloc; Test::Rel(relation, Atom::Const(to))]?;
-        let conds = vec![in alloc; Cond::Pos(pattern(alloc, 24, value_tests)?)]?;
-        let instances = found(alloc, conds, &[top(6, 24, value)])?;
+        let instances = found(alloc, stands_to(alloc, relation, to)?, &[top(6, 24, value)])?;
         assert!(rt; instances.is_empty() != holds, "{relation:?} {value:?} {to:?}");
     }
     Ok(())
 }
 
+fn stands_to(alloc: Global, relation: Relation, to: Sym) -> Result<Vec<Cond>, NoMemory> {
+    let tests = vec![in alloc; Test::Rel(relation, Atom::Const(to))]?;
+    Ok(vec![in alloc; Cond::Pos(pattern(alloc, 24, tests)?)]?)
+}
+
 #[test]
 fn a_field_passes_all_its_tests(rt: HostRuntime) -> Result<(), Fail> {
     let alloc = rt.alloc();
-    let elements = [
-        top(6, 24, Sym::Int(1)),
-        top(7, 25, Sym::Int(1)),
-        top(8, 25, Sym::Int(2)),
-        top(9, 25, Sym::Word(27)),
-        top(10, 25, S1),
-    ];
-    // { <> <x> <=> <x> <y> }
-    let kind = vec![in alloc; Test::Rel(Relation::Differ, Atom::Var(1)), Test::Rel(Relation::SameKind, Atom::Var(1)), variable(2)]?;
-    let conds = vec![in alloc; takes(alloc, 24, 1)?, Cond::Pos(pattern(alloc, 25, kind)?)]?;
-    assert!(rt; have_tags(&found(alloc, conds, &elements)?, &[&[6, 8]]));
-    let choices = List::from_slice(alloc, &[Sym::Word(27), Sym::Int(2)])?;
-    let one_of = vec![in alloc; Test::OneOf(choices)]?;
-    let conds = vec![in alloc; Cond::Pos(pattern(alloc, 25, one_of)?)]?;
-    assert!(rt; have_tags(&found(alloc, conds, &elements)?, &[&[8], &[9]]));
-    let two = vec![in alloc; constant(Sym::Int(2))]?;
-    let conds = vec![in alloc; Cond::Pos(pattern(alloc, 25, two)?)]?;
-    assert!(rt; have_tags(&found(alloc, conds, &elements)?, &[&[8]]));
-    // the identifier again
-    let conds = vec![in alloc; takes(alloc, 25, 0)?]?;
-    assert!(rt; have_tags(&found(alloc, conds, &elements)?, &[&[10]]));
+    let elements = elements_of_two_attributes(alloc)?;
+    let elements = elements.as_slice();
+    let instances = found(alloc, differs_in_kind(alloc)?, elements)?;
+    assert!(rt; have_tags(&instances, &[&[6, 8]]));
+    let instances = found(alloc, has_one_of_two(alloc)?, elements)?;
+    assert!(rt; have_tags(&instances, &[&[8], &[9]]));
+    let instances = found(alloc, has_itself(alloc)?, elements)?;
+    assert!(rt; have_tags(&instances, &[&[10]]));
     Ok(())
+}
+
+fn elements_of_two_attributes(alloc: Global) -> Result<Vec<Element>, NoMemory> {
+    let mut elements = vec![in alloc; top(6, 24, Sym::Int(1))]?;
+    for (tag, value) in [
+        (7, Sym::Int(1)),
+        (8, Sym::Int(2)),
+        (9, Sym::Word(27)),
+        (10, S1),
+    ] {
+        elements.push(top(tag, 25, value))?;
+    }
+    Ok(elements)
+}
+
+/// (<s> ^a <x>) (<s> ^b { <> <x> <=> <x> <y> })
+fn differs_in_kind(alloc: Global) -> Result<Vec<Cond>, NoMemory> {
+    let differs = Test::Rel(Relation::Differ, Atom::Var(1));
+    let is_same_kind = Test::Rel(Relation::SameKind, Atom::Var(1));
+    let tests = vec![in alloc; differs, is_same_kind, variable(2)]?;
+    let second = Cond::Pos(pattern(alloc, 25, tests)?);
+    Ok(vec![in alloc; takes(alloc, 24, 1)?, second]?)
+}
+
+/// (<s> ^b << v 2 >>)
+fn has_one_of_two(alloc: Global) -> Result<Vec<Cond>, NoMemory> {
+    let choices = List::from_slice(alloc, &[Sym::Word(27), Sym::Int(2)])?;
+    let tests = vec![in alloc; Test::OneOf(choices)]?;
+    Ok(vec![in alloc; Cond::Pos(pattern(alloc, 25, tests)?)]?)
+}
+
+/// (<s> ^b <s>)
+fn has_itself(alloc: Global) -> Result<Vec<Cond>, NoMemory> {
+    Ok(vec![in alloc; takes(alloc, 25, 0)?]?)
 }
 
 #[test]
 fn mark_and_flag_are_asked_for(rt: HostRuntime) -> Result<(), Fail> {
     let alloc = rt.alloc();
-    let mut elements = [
-        top(6, 24, Sym::Int(1)),
-        top(7, 24, Sym::Int(2)),
-        top(8, 24, Sym::Int(3)),
-    ];
-    elements[1].accept = true;
-    elements[2].of_state = false;
+    let mut elements = vec![in alloc; top(6, 24, Sym::Int(1))]?;
+    for (tag, accept, of_state) in [(7, true, true), (8, false, false)] {
+        let mut element = top(tag, 24, Sym::Int(2));
+        element.accept = accept;
+        element.of_state = of_state;
+        elements.push(element)?;
+    }
     for (state, accept, tags) in [
         (false, false, [6, 8].as_slice()),
         (true, false, [6].as_slice()),
         (false, true, [7].as_slice()),
     ] {
-        let mut asked = pattern(alloc, 24, vec![in alloc; variable(1)]?)?;
-        asked.state = state;
-        asked.accept = accept;
-        let instances = found(alloc, vec![in alloc; Cond::Pos(asked)]?, &elements)?;
-        assert_eq!(rt; instances.len(), tags.len(), "{state} {accept}");
-        for (instance, tag) in instances.as_slice().iter().zip(tags) {
-            assert!(rt; instance.tags.as_slice() == [*tag].as_slice(), "{state} {accept}");
-        }
+        let instances = found(alloc, asks_for(alloc, state, accept)?, elements.as_slice())?;
+        assert!(rt; have_these(&instances, tags), "{state} {accept}");
     }
     Ok(())
 }
 
+fn asks_for(alloc: Global, state: bool, accept: bool) -> Result<Vec<Cond>, NoMemory> {
+    let mut asked = pattern(alloc, 24, vec![in alloc; variable(1)]?)?;
+    asked.state = state;
+    asked.accept = accept;
+    Ok(vec![in alloc; Cond::Pos(asked)]?)
+}
+
 #[test]
-fn negations_block_and_bind_nothing(rt: HostRuntime) -> Result<(), Fail> {
+fn negations_block_in_one_another(rt: HostRuntime) -> Result<(), Fail> {
     let alloc = rt.alloc();
-    let elements = [
-        top(6, 24, Sym::Int(1)),
-        top(7, 25, Sym::Int(1)),
-        top(8, 26, Sym::Int(1)),
-        top(9, 27, Sym::Int(1)),
-        top(10, 24, Sym::Int(2)),
-    ];
-    let conds = vec![in alloc; takes(alloc, 24, 1)?, lacks(alloc, 25, 1)?]?;
-    assert!(rt; have_tags(&found(alloc, conds, &elements)?, &[&[10]]));
-    // -{(<s> ^b <x>) -{(<s> ^c <y>) -(<s> ^d <y>)}}, over one element more each time
-    for (count, blocked) in [(1, false), (2, true), (3, false), (4, true)] {
-        let inner = vec![in alloc; takes(alloc, 26, 2)?, lacks(alloc, 27, 2)?]?;
-        let inner = Cond::Conj(List::from_vec(inner));
-        let outer = vec![in alloc; takes(alloc, 25, 1)?, inner]?;
-        let outer = Cond::Conj(List::from_vec(outer));
-        let conds = vec![in alloc; takes(alloc, 24, 1)?, outer]?;
-        let instances = found(alloc, conds, &elements[..count])?;
-        assert!(rt; instances.is_empty() == blocked, "{count}");
-        for instance in instances.as_slice() {
-            assert!(rt; instance.binds.as_slice() == [S1, Sym::Int(1)].as_slice(), "{count}");
-        }
+    let mut elements = vec![in alloc; top(5, 24, Sym::Int(2)), top(6, 24, Sym::Int(1))]?;
+    // one element more each time
+    for (attr, simple, nested) in [
+        (25, [5].as_slice(), [5].as_slice()),
+        (26, [5].as_slice(), [5, 6].as_slice()),
+        (27, [5].as_slice(), [5].as_slice()),
+    ] {
+        elements.push(top(attr, attr, Sym::Int(1)))?;
+        let instances = found(alloc, is_alone(alloc)?, elements.as_slice())?;
+        assert!(rt; have_these(&instances, simple), "{attr}");
+        let instances = found(alloc, is_nested(alloc)?, elements.as_slice())?;
+        assert!(rt; have_these(&instances, nested), "{attr}");
     }
     Ok(())
+}
+
+/// (<s> ^a <x>) -(<s> ^b <x>)
+fn is_alone(alloc: Global) -> Result<Vec<Cond>, NoMemory> {
+    Ok(vec![in alloc; takes(alloc, 24, 1)?, lacks(alloc, 25, 1)?]?)
+}
+
+/// (<s> ^a <x>) -{(<s> ^b <x>) -{(<s> ^c <y>) -(<s> ^d <y>)}}
+fn is_nested(alloc: Global) -> Result<Vec<Cond>, NoMemory> {
+    let inner = List::from_vec(vec![in alloc; takes(alloc, 26, 2)?, lacks(alloc, 27, 2)?]?);
+    let outer = vec![in alloc; takes(alloc, 25, 1)?, Cond::Conj(inner)]?;
+    Ok(vec![in alloc; takes(alloc, 24, 1)?, Cond::Conj(List::from_vec(outer))]?)
 }

@@ -68,7 +68,7 @@ pub fn add_rule(
     number: u64,
     conds: Vec<Cond>,
 ) -> Result<(), NoMemory> {
-    let vars = List::from_slice(alloc, &[Sym::Word(0); 9])?;
+    let vars = List::from_slice(alloc, &[Sym::Word(1); 9])?;
     let conds = List::from_vec(conds);
     if conds_are_below(vars.len(), conds.as_slice()) {
         let production = Production {
@@ -104,6 +104,20 @@ pub fn have_tags(instances: &List<Instance>, wanted: &[&[u32]]) -> bool {
     }
     for i in 0..wanted.len() {
         if instances[i].tags.as_slice() != wanted[i] {
+            return false;
+        }
+    }
+    true
+}
+
+/// Whether the instances have one tag each, which are these.
+pub fn have_these(instances: &List<Instance>, tags: &[u32]) -> bool {
+    let instances = instances.as_slice();
+    if instances.len() != tags.len() {
+        return false;
+    }
+    for i in 0..tags.len() {
+        if instances[i].tags.as_slice() != &tags[i..i + 1] {
             return false;
         }
     }
