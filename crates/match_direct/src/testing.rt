@@ -68,11 +68,7 @@ fn after_one(test: &Test, symbol: &Sym, bindings: &mut Vec<(u32, Sym)>) -> Resul
 }
 
 /// Binds a variable that is free, or compares.
-fn bind(
-    variable: u32,
-    symbol: &Sym,
-    bindings: &mut Vec<(u32, Sym)>,
-) -> Result<bool, NoMemory>
+fn bind(variable: u32, symbol: &Sym, bindings: &mut Vec<(u32, Sym)>) -> Result<bool, NoMemory>
     ensures passed { IfOk result (λ passed. meaning.bind variable symbol.now bindings.old.items (meaning.symbol_of variable bindings.old.items) ≡ left passed bindings.new.items) }
     ensures grows { OnOk result (Grows bindings.old.items bindings.new.items) }
 {

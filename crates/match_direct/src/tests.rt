@@ -23,7 +23,10 @@ fn elements_are_taken_in_order_of_tags(rt: HostRuntime) -> Result<(), Fail> {
     let both = found(alloc, takes_twice(alloc)?, elements.as_slice())?;
     assert!(rt; have_tags(&both, &[&[6, 6], &[6, 7], &[7, 6], &[7, 7]]));
     let binds = [S1, Sym::Int(1), Sym::Int(2)];
-    assert!(rt; both.get(1).is_some_and(|instance| instance.binds.as_slice() == binds.as_slice()));
+    assert!(rt;
+        both.get(1)
+            .is_some_and(|instance| instance.binds.as_slice() == binds.as_slice())
+    );
     Ok(())
 }
 
@@ -83,7 +86,10 @@ fn relations_are_of_the_element_to_the_test(rt: HostRuntime) -> Result<(), Fail>
         (Relation::SameKind, Sym::Int(24), word, false),
     ] {
         let instances = found(alloc, stands_to(alloc, relation, to)?, &[top(6, 24, value)])?;
-        assert!(rt; instances.is_empty() != holds, "{relation:?} {value:?} {to:?}");
+        assert!(rt;
+            instances.is_empty() != holds,
+            "{relation:?} {value:?} {to:?}"
+        );
     }
     Ok(())
 }

@@ -158,7 +158,11 @@ fn pattern_is_below(bound: usize, pattern: &Pattern) -> bool
 fn field_is_below(bound: usize, field: &Field) -> bool
     ensures { result ≡ field_below bound field.now }
 {
-    field.tests.as_slice().iter().all(|test| test_is_below(bound, test))
+    field
+        .tests
+        .as_slice()
+        .iter()
+        .all(|test| test_is_below(bound, test))
 }
 
 fn test_is_below(bound: usize, test: &Test) -> bool

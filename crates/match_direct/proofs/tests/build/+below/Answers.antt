@@ -1,18 +1,14 @@
-use Rattle.std.proofs.Common.{◌≡◌, ◌∙◌, ap, sym, refl, Bool, true, ◌&&◌, ℕ, List, [], ◌∷◌, map}
-use Rattle.std.specs.List.{list_all}
+use Rattle.std.proofs.Common.{◌≡◌, ◌∙◌, ap, sym, Bool, ℕ, List}
+use Rattle.std.proofs.lemmas.List.Folds.{list_all-map}
 use Rattle.soar_rule.specs.Below.{cond_below, cond_step, conds_below}
 use Rattle.soar_rule.specs.declared.cond.Cond.{Cond, fold-roll-Cond}
 use Rattle.soar_rule.specs.declared.cond.Cond.TheVariants.{Conj, rolls-Conj}
 use Rattle.soar_rule.specs.declared.cond.Cond.TheOpen as F
 use Rattle.match_direct.proofs.tests.build.+below.Goals as goal
 
-all_map : (f : Cond → Bool) (xs : List Cond) → list_all (λ b. b) (map f xs) ≡ list_all f xs
-all_map f [] = refl
-all_map f (x ∷ xs) = ap (λ b. f x && b) (all_map f xs)
-
 below_conj : (bound : ℕ) (inside : List Cond) → cond_below bound (Conj inside) ≡ conds_below bound inside
 below_conj bound inside =
-    ap (cond_below bound) (sym (rolls-Conj inside)) ∙ fold-roll-Cond Bool (cond_step bound) (F.Conj inside) ∙ all_map (cond_below bound) inside
+    ap (cond_below bound) (sym (rolls-Conj inside)) ∙ fold-roll-Cond Bool (cond_step bound) (F.Conj inside) ∙ list_all-map (λ b. b) (cond_below bound) inside
 
 pub cond_is_below-returns-in-Conj : goal.cond_is_below-returns-in-Conj
 cond_is_below-returns-in-Conj t c =
