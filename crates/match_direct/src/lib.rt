@@ -8,3 +8,6 @@ mod taking;
 mod testing;
 
 pub use enumeration::conflict;
+
+#[cfg(test)]
+mod tests;

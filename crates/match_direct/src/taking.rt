@@ -22,10 +22,10 @@ pub fn takes(
     if !takes_marks(pattern, element) {
         return Ok(false);
     }
-    if !testing::constants_pass(pattern.attr.tests.as_slice(), element.attr) {
+    if !testing::constants_pass(pattern.attr.tests.as_slice(), &element.attr) {
         return Ok(false);
     }
-    if !testing::constants_pass(pattern.value.tests.as_slice(), element.value) {
+    if !testing::constants_pass(pattern.value.tests.as_slice(), &element.value) {
         return Ok(false);
     }
     fields_pass(pattern, element, bindings)
@@ -47,11 +47,11 @@ fn fields_pass(
     ensures passed { IfOk result (λ passed. bindings_at pattern.now element.now bindings.old.items ≡ left passed bindings.new.items) }
     ensures grows { OnOk result (Grows bindings.old.items bindings.new.items) }
 {
-    if !testing::passes(pattern.id.tests.as_slice(), element.id, bindings)? {
+    if !testing::passes(pattern.id.tests.as_slice(), &element.id, bindings)? {
         return Ok(false);
     }
-    if !testing::passes(pattern.attr.tests.as_slice(), element.attr, bindings)? {
+    if !testing::passes(pattern.attr.tests.as_slice(), &element.attr, bindings)? {
         return Ok(false);
     }
-    testing::passes(pattern.value.tests.as_slice(), element.value, bindings)
+    testing::passes(pattern.value.tests.as_slice(), &element.value, bindings)
 }

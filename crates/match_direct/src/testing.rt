@@ -11,10 +11,10 @@ use soar_sym::{NoMemory, Sym};
 /// also where a test fails.
 pub fn passes(
     tests: &[Test],
-    symbol: Sym,
+    symbol: &Sym,
     bindings: &mut Vec<(u32, Sym)>,
 ) -> Result<bool, NoMemory>
-    ensures passed { IfOk result (λ passed. meaning.passes tests.now symbol bindings.old.items ≡ left passed bindings.new.items) }
+    ensures passed { IfOk result (λ passed. meaning.passes tests.now symbol.now bindings.old.items ≡ left passed bindings.new.items) }
     ensures grows { OnOk result (Grows bindings.old.items bindings.new.items) }
 {
     if after_plain(tests, symbol, bindings)? {
@@ -25,12 +25,12 @@ pub fn passes(
 }
 
 /// Whether no constant of a field differs from the symbol.
-pub fn constants_pass(tests: &[Test], symbol: Sym) -> bool
-    ensures { result ≡ constants_pass tests.now symbol }
+pub fn constants_pass(tests: &[Test], symbol: &Sym) -> bool
+    ensures { result ≡ constants_pass tests.now symbol.now }
 {
     'tests: for test in tests {
         if let Test::Plain(Atom::Const(constant)) = test {
-            if !is_symbol(symbol, *constant) {
+            if !is_symbol(*symbol, *constant) {
                 return false;
             }
         }
@@ -41,10 +41,10 @@ pub fn constants_pass(tests: &[Test], symbol: Sym) -> bool
 /// The plain tests of a field.
 fn after_plain(
     tests: &[Test],
-    symbol: Sym,
+    symbol: &Sym,
     bindings: &mut Vec<(u32, Sym)>,
 ) -> Result<bool, NoMemory>
-    ensures passed { IfOk result (λ passed. meaning.after_plain tests.now symbol bindings.old.items ≡ left passed bindings.new.items) }
+    ensures passed { IfOk result (λ passed. meaning.after_plain tests.now symbol.now bindings.old.items ≡ left passed bindings.new.items) }
     ensures grows { OnOk result (Grows bindings.old.items bindings.new.items) }
 {
     'tests: for test in tests {
@@ -56,38 +56,34 @@ fn after_plain(
 }
 
 /// One plain test.
-fn after_one(test: &Test, symbol: Sym, bindings: &mut Vec<(u32, Sym)>) -> Result<bool, NoMemory>
-    ensures passed { IfOk result (λ passed. after_one test.now symbol bindings.old.items ≡ left passed bindings.new.items) }
+fn after_one(test: &Test, symbol: &Sym, bindings: &mut Vec<(u32, Sym)>) -> Result<bool, NoMemory>
+    ensures passed { IfOk result (λ passed. after_one test.now symbol.now bindings.old.items ≡ left passed bindings.new.items) }
     ensures grows { OnOk result (Grows bindings.old.items bindings.new.items) }
 {
     match test {
-        Test::Plain(Atom::Const(constant)) => Ok(is_symbol(symbol, *constant)),
+        Test::Plain(Atom::Const(constant)) => Ok(is_symbol(*symbol, *constant)),
         Test::Plain(Atom::Var(variable)) => bind(*variable, symbol, bindings),
         _ => Ok(true),
     }
 }
 
 /// Binds a variable that is free, or compares.
-fn bind(
-    variable: u32,
-    symbol: Sym,
-    bindings: &mut Vec<(u32, Sym)>,
-) -> Result<bool, NoMemory>
-    ensures passed { IfOk result (λ passed. meaning.bind variable symbol bindings.old.items (meaning.symbol_of variable bindings.old.items) ≡ left passed bindings.new.items) }
+fn bind(variable: u32, symbol: &Sym, bindings: &mut Vec<(u32, Sym)>) -> Result<bool, NoMemory>
+    ensures passed { IfOk result (λ passed. meaning.bind variable symbol.now bindings.old.items (meaning.symbol_of variable bindings.old.items) ≡ left passed bindings.new.items) }
     ensures grows { OnOk result (Grows bindings.old.items bindings.new.items) }
 {
     match symbol_of(variable, bindings.as_slice()) {
-        Some(bound) => Ok(is_symbol(symbol, bound)),
+        Some(bound) => Ok(is_symbol(*symbol, bound)),
         None => {
-            bindings.push((variable, symbol))?;
+            bindings.push((variable, *symbol))?;
             Ok(true)
         }
     }
 }
 
 /// The tests of a field that are not plain.
-fn others_pass(tests: &[Test], symbol: Sym, bindings: &[(u32, Sym)]) -> bool
-    ensures { result ≡ meaning.others_pass tests.now symbol bindings.now }
+fn others_pass(tests: &[Test], symbol: &Sym, bindings: &[(u32, Sym)]) -> bool
+    ensures { result ≡ meaning.others_pass tests.now symbol.now bindings.now }
 {
     'tests: for test in tests {
         if !other_passes(test, symbol, bindings) {
@@ -98,13 +94,13 @@ fn others_pass(tests: &[Test], symbol: Sym, bindings: &[(u32, Sym)]) -> bool
 }
 
 /// One test that is not plain.
-fn other_passes(test: &Test, symbol: Sym, bindings: &[(u32, Sym)]) -> bool
-    ensures { result ≡ other_passes test.now symbol bindings.now }
+fn other_passes(test: &Test, symbol: &Sym, bindings: &[(u32, Sym)]) -> bool
+    ensures { result ≡ other_passes test.now symbol.now bindings.now }
 {
     match test {
         Test::Plain(_) => true,
         Test::Rel(relation, atom) => match symbol_at(*atom, bindings) {
-            Some(other) => stands(*relation, symbol, other),
+            Some(other) => stands(*relation, *symbol, other),
             None => false,
         },
         Test::OneOf(symbols) => contains_symbol(symbols.as_slice(), symbol),
@@ -175,11 +171,11 @@ fn is_same_kind(a: Sym, b: Sym) -> bool
     }
 }
 
-fn contains_symbol(symbols: &[Sym], symbol: Sym) -> bool
-    ensures { result ≡ meaning.contains_symbol symbols.now symbol }
+fn contains_symbol(symbols: &[Sym], symbol: &Sym) -> bool
+    ensures { result ≡ meaning.contains_symbol symbols.now symbol.now }
 {
     'symbols: for one in symbols {
-        if is_symbol(symbol, *one) {
+        if is_symbol(*symbol, *one) {
             return true;
         }
     }
