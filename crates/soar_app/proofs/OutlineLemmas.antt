@@ -27,18 +27,17 @@ pub word_at_known : (words : Texts) (tokens : List Token) (word : Sym) → AreTo
 word_at_known words [] word known is = absurd (cc)
 word_at_known words (t ∷ tokens) word known is = word_kind_known words t.kind word known.0 is
 
+abbrev read_as : Token → List Token → Option Group → Groups
+read_as t tokens o = elim o as (λ _. Groups) [ Some group ↦ with_group group (groups_from (size_of group - 1) tokens) | None ↦ record { groups = []; rest = t ∷ tokens } ]
+
 -- groups and what is behind them are no more than the tokens
 pub groups_few : (skip : ℕ) (tokens : List Token) → length (groups_from skip tokens).groups + length (groups_from skip tokens).rest ≤ length tokens
 groups_few skip [] = omega arith
 groups_few (suc skip) (t ∷ tokens) = omega (arith, groups_few skip tokens)
 groups_few zero (t ∷ tokens) = by (group_at (t ∷ tokens)) (λ skip. groups_few skip tokens)
   where
-    read : Option Group → Groups
-    read o = elim o as (λ _. Groups) [ Some group ↦ with_group group (groups_from (size_of group - 1) tokens) | None ↦ record { groups = []; rest = t ∷ tokens } ]
-
     by : (o : Option Group) → ((skip : ℕ) → length (groups_from skip tokens).groups + length (groups_from skip tokens).rest ≤ length tokens)
-        → length (read o).groups + length (read o).rest ≤ length (t ∷ tokens)
-    unfolding read
+        → length (read_as t tokens o).groups + length (read_as t tokens o).rest ≤ length (t ∷ tokens)
     by (Some group) later = omega (arith, later (size_of group - 1))
     by None later = omega arith
 
@@ -62,7 +61,7 @@ outlined_few name tokens outline is = by (begins_arrow (groups_at tokens).rest) 
     by : (b : Bool) → (if b then concluded name (groups_at tokens).groups (groups_at (drop 1 (groups_at tokens).rest)) else None) ≡ Some outline
         → (name ≡ outline.name) × (length outline.conditions + length outline.makes ≤ length tokens)
     by true e =
-        let made : record { name = name; conditions = (groups_at tokens).groups; makes = (groups_at (drop 1 (groups_at tokens).rest)).groups } ≡ outline = concluded_is name _ _ outline e in
+        let made : record { name = name; conditions = (groups_at tokens).groups; makes = (groups_at (drop 1 (groups_at tokens).rest)).groups } ≡ outline = concluded_is name (groups_at tokens).groups (groups_at (drop 1 (groups_at tokens).rest)) outline e in
         let conditions : length (groups_at tokens).groups ≡ length outline.conditions = ap (λ o. length o.conditions) made in
         let makes : length (groups_at (drop 1 (groups_at tokens).rest)).groups ≡ length outline.makes = ap (λ o. length o.makes) made in
         (ap (λ o. o.name) made, omega (arith, conditions, makes, groups_few 0 tokens, groups_few 0 (drop 1 (groups_at tokens).rest), length-drop 1 (groups_at tokens).rest))

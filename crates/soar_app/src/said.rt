@@ -7,7 +7,7 @@ ghost use Rattle.defs_run.specs.Said.{already_there, always, line_at, not_built,
 ghost use Rattle.defs_run.specs.Session.{State, conflict_lines, instance_line, refused_by};
 ghost use Rattle.defs_run.specs.Transcript.{stopped, watch};
 ghost use Rattle.soar_app.specs.Known.{AreNamesKnown};
-ghost use Rattle.soar_app.specs.Steps.{Obeys};
+ghost use Rattle.soar_app.specs.Steps.{IsKept, Obeys};
 
 use crate::rules::rule_name;
 use crate::stop::Stop;
@@ -34,7 +34,7 @@ fn say_refusal(
 
 /// Refuses a command whose first word is none.
 pub fn refuse_unknown(alloc: Global, line: u64, out: &mut Text) -> Result<bool, Stop>
-    ensures { (s : State) → Obeys (refused_by unknown_command line s) s out.old out.new result }
+    ensures { (s : State) → IsKept s → Obeys (refused_by unknown_command line s) s out.old out.new result }
 {
     say_refusal(alloc, out, 10, line, "unknown command")?;
     Ok(true)
@@ -42,7 +42,7 @@ pub fn refuse_unknown(alloc: Global, line: u64, out: &mut Text) -> Result<bool, 
 
 /// Refuses a command that is of no form that is built.
 pub fn refuse_not_built(alloc: Global, line: u64, out: &mut Text) -> Result<bool, Stop>
-    ensures { (s : State) → Obeys (refused_by not_built line s) s out.old out.new result }
+    ensures { (s : State) → IsKept s → Obeys (refused_by not_built line s) s out.old out.new result }
 {
     say_refusal(alloc, out, 18, line, "not built")?;
     Ok(true)
@@ -50,7 +50,7 @@ pub fn refuse_not_built(alloc: Global, line: u64, out: &mut Text) -> Result<bool
 
 /// Refuses a triple that working memory has.
 pub fn refuse_twice(alloc: Global, line: u64, tag: u32, out: &mut Text) -> Result<bool, Stop>
-    ensures { (s : State) → Obeys (refused_by (already_there tag) line s) s out.old out.new result }
+    ensures { (s : State) → IsKept s → Obeys (refused_by (already_there tag) line s) s out.old out.new result }
 {
     let reason = format!(in alloc; "already there as {tag}")?;
     say_refusal(alloc, out, 35, line, reason.as_str())?;

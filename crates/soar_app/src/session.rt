@@ -1,12 +1,16 @@
-ghost use Rattle.std.specs.Prelude.{◌≡◌, ◌+◌, ◌≤◌, ◌^◌, map, length, IfOk};
+ghost use Rattle.std.specs.Prelude.{◌≡◌, ◌+◌, ◌<◌, ◌≤◌, ◌^◌, Err, map, length, IfOk};
+ghost use Rattle.soar_sym.specs.Words.{Texts};
+ghost use Rattle.soar_lex.specs.Answers.{IsCut};
+ghost use Rattle.defs_run.specs.Commands.{CommandOf};
 ghost use Rattle.soar_sym.specs.Words.{IsKnown};
 ghost use Rattle.defs_match.specs.Productions.{rule_seen};
 ghost use Rattle.defs_run.specs.Loading.{production_of};
-ghost use Rattle.defs_run.specs.Session.{added, carried_out, first_state, loaded, matched, obeyed, obeyed_as, order_by, top_triple};
+ghost use Rattle.defs_run.specs.Session.{State, added, carried_out, first_state, loaded, matched, obeyed, obeyed_as, order_by, top_triple};
 ghost use Rattle.soar_wm.specs.WorkingMemory.{tag_of};
-ghost use Rattle.defs_text.specs.Lexing.{lexed};
+ghost use Rattle.defs_text.specs.Lexing.{Lexed, lexed};
 ghost use Rattle.soar_app.specs.Known.{AreTokensKnown};
-ghost use Rattle.soar_app.specs.Steps.{Obeys};
+ghost use Rattle.soar_app.specs.States.{state_of};
+ghost use Rattle.soar_app.specs.Steps.{IsKept, Obeys, StopsBy};
 
 use crate::command::first_run;
 use crate::order::{is_command, order_by};
@@ -16,7 +20,7 @@ use crate::start::fill;
 use crate::stop::Stop;
 use crate::token::behind;
 use crate::rules;
-use defs_match::Rule;
+use crate::state::Session;
 use defs_run::{Addition, Order, Outline, Which};
 use defs_text::Token;
 use match_direct::conflict;
@@ -24,37 +28,14 @@ use soar_lex::{LexFault, lex};
 use soar_sym::{List, NoMemory, Sym, SymTable, Text, Triple};
 use soar_wm::{AddFault, Memory};
 use std::alloc::Global;
-use std::marker::Model;
 
 /// The most elements of working memory.
 const MOST_ELEMENTS: u32 = 4_000_000;
 
-/// The state of a run between two commands.
-#[derive(Drop)]
-pub struct Session {
-    table: SymTable,
-    memory: Memory,
-    rules: List<Rule>,
-    last_rule: u64,
-}
-
-impl Model for Session {
-    ghost use Rattle.std.specs.Prelude.{map};
-    ghost use Rattle.defs_match.specs.Productions.{rule_seen};
-    ghost use Rattle.defs_run.specs.Session.{State};
-    ghost use Rattle.soar_app.specs.Known.{AreNamesKnown};
-
-    ghost Value = { State };
-
-    ghost view = { λ s. record { words = s.table; memory = s.memory; rules = map rule_seen s.rules; last_rule = s.last_rule } };
-
-    ghost invariant = { λ s. AreNamesKnown s.table (map rule_seen s.rules) };
-}
-
 impl Session {
     /// The top state with its input and output links, and no rule.
     pub fn new(alloc: Global) -> Result<Session, NoMemory>
-        ensures { IfOk result (λ session. session ≡ first_state) }
+        ensures { IfOk result (λ session. state_of session ≡ first_state) }
     {
         let table = SymTable::new(alloc)?;
         let mut memory = Memory::new(alloc, MOST_ELEMENTS, 0)?;
@@ -75,8 +56,9 @@ impl Session {
         text: &[u8],
         out: &mut Text,
     ) -> Result<bool, Stop>
-        requires { length text.now ≤ 2 ^ 26 }
-        ensures { Obeys (obeyed self.old (record { line = line; text = text.now })) self.new out.old out.new result }
+        requires short { length text.now ≤ 2 ^ 26 }
+        requires kept { IsKept (state_of self.old) }
+        ensures { Obeys (obeyed (state_of self.old) (record { line = line; text = text.now })) (state_of self.new) out.old out.new result }
     {
         if is_command(first_run(text)) {
             self.obey_built(alloc, line, text, out)
@@ -93,17 +75,16 @@ impl Session {
         text: &[u8],
         out: &mut Text,
     ) -> Result<bool, Stop>
-        requires { length text.now ≤ 2 ^ 26 }
-        ensures { Obeys (obeyed_as (record { line = line; text = text.now }) self.old (lexed text.now)) self.new out.old out.new result }
+        requires short { length text.now ≤ 2 ^ 26 }
+        requires kept { IsKept (state_of self.old) }
+        ensures { Obeys (obeyed_as (record { line = line; text = text.now }) (state_of self.old) (lexed text.now)) (state_of self.new) out.old out.new result }
     {
         let word = first_run(text);
         let text = List::from_slice(alloc, text)?;
         let _within = self.table.word_count();
         match lex(alloc, &mut self.table, &text) {
             Ok(tokens) => self.carry_out(alloc, line, word, behind(tokens.as_slice(), 1), out),
-            Err(LexFault::WordsSpent) => Err(Stop::Limit(Which::Words)),
-            Err(LexFault::NoMemory) => Err(Stop::NoMemory),
-            Err(_) => refuse_not_built(alloc, line, out),
+            Err(fault) => refuse_fault(alloc, line, fault, out),
         }
     }
 
@@ -116,9 +97,10 @@ impl Session {
         tokens: &[Token],
         out: &mut Text,
     ) -> Result<bool, Stop>
-        requires known { AreTokensKnown self.old.words tokens.now }
+        requires known { AreTokensKnown (state_of self.old).words tokens.now }
         requires few { length tokens.now ≤ 2 ^ 27 }
-        ensures { Obeys (carried_out line self.old (order_by self.old.words word.now tokens.now)) self.new out.old out.new result }
+        requires kept { IsKept (state_of self.old) }
+        ensures { Obeys (carried_out line (state_of self.old) (order_by (state_of self.old).words word.now tokens.now)) (state_of self.new) out.old out.new result }
     {
         match order_by(alloc, &self.table, word, tokens)? {
             Some(Order::Load(outline)) => self.load(alloc, &outline, out),
@@ -130,12 +112,13 @@ impl Session {
 
     /// Loads a production under the next rule number.
     fn load(&mut self, alloc: Global, outline: &Outline, out: &Text) -> Result<bool, Stop>
-        requires known { IsKnown self.old.words outline.now.name }
+        requires known { IsKnown (state_of self.old).words outline.now.name }
         requires few { length outline.now.conditions + length outline.now.makes ≤ 2 ^ 27 }
-        ensures { Obeys (loaded (production_of outline.now) self.old) self.new out.now out.now result }
+        requires kept { IsKept (state_of self.old) }
+        ensures { Obeys (loaded (production_of outline.now) (state_of self.old)) (state_of self.new) out.now out.now result }
     {
         let _ = out;
-        if self.last_rule == u64::MAX {
+        if self.last_rule >= u64::MAX {
             return Err(Stop::Limit(Which::Counts));
         }
         let production = production(alloc, outline)?;
@@ -152,7 +135,8 @@ impl Session {
         addition: Addition,
         out: &mut Text,
     ) -> Result<bool, Stop>
-        ensures { Obeys (added (top_triple addition) line self.old (tag_of (top_triple addition) self.old.memory.elements)) self.new out.old out.new result }
+        requires { IsKept (state_of self.old) }
+        ensures { Obeys (added (top_triple addition) line (state_of self.old) (tag_of (top_triple addition) (state_of self.old).memory.elements)) (state_of self.new) out.old out.new result }
     {
         match self.memory.add(triple_of(addition), true) {
             Ok(_) => Ok(false),
@@ -165,7 +149,8 @@ impl Session {
 
     /// Says the conflict set.
     fn list_matches(&self, alloc: Global, out: &mut Text) -> Result<bool, Stop>
-        ensures { Obeys (matched self.now) self.now out.old out.new result }
+        requires { IsKept (state_of self.now) }
+        ensures { Obeys (matched (state_of self.now)) (state_of self.now) out.old out.new result }
     {
         let elements = self.memory.all(alloc)?;
         let instances = conflict(alloc, self.rules.as_slice(), elements.as_slice())?;
@@ -176,6 +161,29 @@ impl Session {
             out,
         )?;
         Ok(false)
+    }
+}
+
+/// Refuses a command whose tokens have a fault, where that does not stop the session.
+fn refuse_fault(alloc: Global, line: u64, fault: LexFault, out: &mut Text) -> Result<bool, Stop>
+    ensures { (s : State) (command : CommandOf) (table : Texts) (text : Lexed)
+        → command.line ≡ line → length s.words < 2 ^ 32 → IsKept s → IsCut s.words table text (Err fault)
+        → Obeys (obeyed_as command s text) (record s { words = table }) out.old out.new result }
+{
+    match stop_of(fault) {
+        Some(stop) => Err(stop),
+        None => refuse_not_built(alloc, line, out),
+    }
+}
+
+/// How a fault of a text's tokens stops a session. The others are refusals.
+fn stop_of(fault: LexFault) -> Option<Stop>
+    ensures { StopsBy fault result }
+{
+    match fault {
+        LexFault::WordsSpent => Some(Stop::Limit(Which::Words)),
+        LexFault::NoMemory => Some(Stop::NoMemory),
+        _ => None,
     }
 }
 

@@ -1,5 +1,5 @@
 // Working memory at the start.
-ghost use Rattle.std.specs.Prelude.{◌≡◌, [], OnOk};
+ghost use Rattle.std.specs.Prelude.{◌≡◌, [], false, OnOk};
 ghost use Rattle.soar_wm.specs.WorkingMemory.{with_triple};
 ghost use Rattle.defs_run.specs.Session.{first_state};
 
