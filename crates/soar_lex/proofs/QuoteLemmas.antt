@@ -31,9 +31,5 @@ closing_past quote at bytes within other =
     ∙ ap (λ t. counted_from at (elim t as (λ _. Option ℕ) [ true ↦ Some 0 | false ↦ option_map (λ n. 1 + n) (closing_from quote (get_or bytes at 0 == 92) (drop (at + 1) bytes)) ])) other
     ∙ counted_next at _
 
-pub counted_all : (r : Option ℕ) → counted_from 0 r ≡ r
-counted_all None = refl
-counted_all (Some n) = ap Some (omega arith)
-
 pub text_has_no_fault : (bytes : List ℕ) → IsUtf8 bytes → no_utf8 bytes ≡ None
 text_has_no_fault bytes text = let e = utf8_valid_len-IsUtf8 bytes text in grind (arith, nat_tests)
