@@ -54,8 +54,14 @@ const CUT: [(&[u8], &[(Want, u32, u32)]); 41] = [
     (b"|\xc3\xa9|", &[(Want::Barred("\u{e9}"), 0, 4)]),
     (b"\"\"", &[(Want::Doc(""), 0, 2)]),
     (b"\"a\\\"b|\"", &[(Want::Doc("a\"b|"), 0, 7)]),
-    (b"a|b|", &[(Want::Bare("a"), 0, 1), (Want::Barred("b"), 1, 4)]),
-    (b"^name", &[(Want::Mark(94), 0, 1), (Want::Bare("name"), 1, 5)]),
+    (
+        b"a|b|",
+        &[(Want::Bare("a"), 0, 1), (Want::Barred("b"), 1, 4)],
+    ),
+    (
+        b"^name",
+        &[(Want::Mark(94), 0, 1), (Want::Bare("name"), 1, 5)],
+    ),
     (b"a\nb", &[(Want::Bare("a"), 0, 1), (Want::Bare("b"), 2, 3)]),
     (b"1.", &[(Want::Int(1), 0, 1), (Want::Mark(46), 1, 2)]),
     (
@@ -150,7 +156,14 @@ fn faults_show_at_their_bytes(rt: HostRuntime) -> Result<(), Fail> {
 #[test]
 fn words_before_a_fault_join_the_table(rt: HostRuntime) -> Result<(), Fail> {
     let mut table = SymTable::new(rt.alloc())?;
-    assert!(rt; cut(rt.alloc(), &mut table, b"red \"doc\" <x> |blue| red # green").is_err());
+    assert!(rt;
+        cut(
+            rt.alloc(),
+            &mut table,
+            b"red \"doc\" <x> |blue| red # green"
+        )
+        .is_err()
+    );
     assert!(rt; table.intern("red")? == Sym::Word(24));
     assert!(rt; table.intern("x")? == Sym::Word(25));
     assert!(rt; table.intern("blue")? == Sym::Word(26));
