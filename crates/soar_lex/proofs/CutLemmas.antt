@@ -1,15 +1,15 @@
 -- The loop over the pieces of a text.
-use Rattle.std.proofs.Common.{◌≡◌, ℕ, zero, suc, ◌+◌, ◌-◌, ◌<◌, ◌≤◌, ◌^◌, Bool, true, false, List, [], ◌∷◌, ◌++◌, map, length, drop, Option, Some, None, Result, Ok, Err, refl, sym, ap, subst, ◌∙◌, arith, length-append, length-drop, append_assoc, ⊎_elim}
+use Rattle.std.proofs.Common.{◌≡◌, ℕ, zero, suc, ◌+◌, ◌-◌, ◌<◌, ◌≤◌, ◌^◌, List, [], ◌∷◌, ◌++◌, map, length, drop, Option, Some, None, Err, refl, sym, ap, subst, ◌∙◌, arith, length-drop, ⊎_elim}
 use Rattle.std.proofs.lemmas.Bool.{cases_lt}
 use Rattle.std.proofs.lemmas.List.{map-append}
-use Rattle.soar_sym.specs.Words.{Texts, with_texts}
-use Rattle.defs_text.specs.Lexing.{Saying, Spelled, Fault, Piece, token, nothing, fault, Lexed, with_token, lexed_from, lexed, piece_of, front_at, bad_byte, open_string, wide_number, float_number}
-use Rattle.defs_text.specs.Numbered.{numbered, kind_in, texts_before, token_texts, words_after}
+use Rattle.soar_sym.specs.Words.{Texts}
+use Rattle.defs_text.specs.Lexing.{Spelled, Fault, Piece, token, nothing, fault, Lexed, with_token, lexed_from, lexed, piece_of, front_at, bad_byte, open_string, wide_number, float_number}
+use Rattle.defs_text.specs.Numbered.{numbered, kind_in, token_texts, words_after}
 use Rattle.defs_text.specs.declared.token.Token.{Token}
 use Rattle.defs_text.specs.declared.token.LexFault.{LexFault}
 use Rattle.defs_text.specs.declared.token.LexFault.TheVariants as refusal
 use Rattle.soar_lex.specs.Answers.{Grown, Gained, CutWhole, IsCut}
-use Rattle.soar_lex.specs.Pieces.{IsFault, piece_at}
+use Rattle.soar_lex.specs.Pieces.{piece_at}
 use Rattle.soar_lex.specs.Steps.{spelled, size_of, Advanced, Stopped}
 use Rattle.soar_lex.proofs.WordLemmas.{grown_same, grown_then, grown_all, grown_length, words_then, kind_later}
 
@@ -113,7 +113,7 @@ spelled_later : (now new later : Texts) (place : ℕ) (piece : Piece) → new �
     → map (numbered new) (spelled place piece) ≡ map (numbered later) (spelled place piece)
 spelled_later now new later place (token says count) is grown =
     ap (λ kind. record { kind = kind; start = place; end = place + count } ∷ [])
-      (sym (subst (λ ws. Grown ws later → kind_in later says ≡ kind_in ws says) (sym is) (kind_later now later says) grown))
+    (sym (subst (λ ws. Grown ws later → kind_in later says ≡ kind_in ws says) (sym is) (kind_later now later says) grown))
 spelled_later now new later place (nothing count) is grown = refl
 spelled_later now new later place (fault e) is grown = refl
 
@@ -122,15 +122,15 @@ pub advances : (old now new : Texts) (text rest : List ℕ) (place count : ℕ) 
 advances old now new text rest place count tokens after so_far step = record {
   done = so_far.done ++ more;
   whole = so_far.whole
-    ∙ ap (with_tokens so_far.done) (piece_passed place rest (omega arith) (omega arith)
+      ∙ ap (with_tokens so_far.done) (piece_passed place rest (omega arith) (omega arith)
       ∙ ap (λ n. with_tokens more (lexed_from 0 (place + n) (drop n rest))) step.count_is)
-    ∙ sym (with_both so_far.done more (lexed_from 0 (place + count) (drop count rest)));
+      ∙ sym (with_both so_far.done more (lexed_from 0 (place + count) (drop count rest)));
   words = step.words ∙ ap (λ ws. words_after ws more) so_far.words ∙ sym (words_then old so_far.done more);
   few = λ h. few h;
   tokens_are = λ later grown. step.tokens
-    ∙ ap (λ ts. ts ++ map (numbered new) more) (so_far.tokens_are later (grown_then now new later gained grown))
-    ∙ ap (λ ts. map (numbered later) so_far.done ++ ts) (spelled_later now new later place (piece_at place rest) step.words grown)
-    ∙ sym (map-append (numbered later) so_far.done more);
+      ∙ ap (λ ts. ts ++ map (numbered new) more) (so_far.tokens_are later (grown_then now new later gained grown))
+      ∙ ap (λ ts. map (numbered later) so_far.done ++ ts) (spelled_later now new later place (piece_at place rest) step.words grown)
+      ∙ sym (map-append (numbered later) so_far.done more);
   place_is = omega (arith, length-drop count rest);
 }
   where
@@ -142,8 +142,8 @@ advances old now new text rest place count tokens after so_far step = record {
 
     few : length old < length new → length new < 2 ^ 32
     few h = ⊎_elim step.few
-      (λ (no : length new ≤ length now). let same : length new ≡ length now = omega (arith, grown_length now new gained) in omega (arith, so_far.few (omega (arith, h, same)), same))
-      (cases_lt (length now) (length new))
+        (λ (no : length new ≤ length now). let same : length new ≡ length now = omega (arith, grown_length now new gained) in omega (arith, so_far.few (omega (arith, h, same)), same))
+        (cases_lt (length now) (length new))
 
 -- the whole text was cut
 pub ends : (old now : Texts) (text rest : List ℕ) (place : ℕ) (tokens : List Token) → Cutting old now text rest place tokens → length rest ≡ 0 → CutWhole old now (lexed text) tokens
@@ -166,11 +166,13 @@ grown_so_far old now text rest place tokens so_far = subst (Grown old) (sym so_f
 faulty : (old now new : Texts) (text rest : List ℕ) (place : ℕ) (tokens : List Token) (e : Fault) → Cutting old now text rest place tokens
     → piece_at place rest ≡ fault e → new ≡ now → ((lexed text).fault ≡ Some e) × Gained old new (lexed text)
 unfolding lexed
-faulty old now new text rest place tokens e so_far is same =
-    (ap (λ l. l.fault) whole, record {
-      words = same ∙ so_far.words ∙ ap (λ l. words_after old l.tokens) (sym whole);
-      few = subst (λ ws. length old < length ws → length ws < 2 ^ 32) (sym same) so_far.few;
-    })
+faulty old now new text rest place tokens e so_far is same = (
+  ap (λ l. l.fault) whole,
+  record {
+    words = same ∙ so_far.words ∙ ap (λ l. words_after old l.tokens) (sym whole);
+    few = subst (λ ws. length old < length ws → length ws < 2 ^ 32) (sym same) so_far.few;
+  },
+)
   where
     whole : lexed_from 0 0 text ≡ record { tokens = so_far.done; fault = Some e }
     whole = so_far.whole ∙ ap (with_tokens so_far.done) (fault_at place rest e is) ∙ closed_with so_far.done (Some e)

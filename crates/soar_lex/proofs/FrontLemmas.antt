@@ -1,5 +1,5 @@
 -- The front of a text: the bytes of a run are ASCII, and its first angle stands in it.
-use Rattle.std.proofs.Common.{◌≡◌, ℕ, suc, ◌+◌, ◌-◌, drop, ◌<◌, ◌≤◌, Bool, true, false, cond, List, [], ◌∷◌, length, take, refl, sym, ap, subst, ◌∙◌, arith}
+use Rattle.std.proofs.Common.{◌≡◌, ℕ, suc, ◌+◌, ◌-◌, drop, ◌<◌, ◌≤◌, Bool, true, false, cond, List, [], ◌∷◌, length, take, refl, subst, arith}
 use Rattle.std.specs.List.{prefix_len, list_any}
 use Rattle.std.specs.Str.{IsAscii, IsUtf8}
 use Rattle.std.proofs.lemmas.Str.{IsUtf8-from_ascii, IsAscii-take, IsAscii-drop}
@@ -35,7 +35,7 @@ angle_within run n e = subst (λ m. m ≤ length run) (picked (bytes_eq (codes "
   where
     picked : (a b c d f g h i : Bool)
         → (if a then an_arrow else if b then opens_set else if c then closes_set else if d then a_sign (sign_place signs run) else if f then a_variable (inside_of run)
-          else if g then a_number (integer_of run) else if h then a_float else if i then has_angle (angles_before run) else a_word) ≡ has_angle n
+        else if g then a_number (integer_of run) else if h then a_float else if i then has_angle (angles_before run) else a_word) ≡ has_angle n
         → angles_before run ≡ n
     picked true b c d f g h i e = absurd (cc)
     picked false true c d f g h i e = absurd (cc)

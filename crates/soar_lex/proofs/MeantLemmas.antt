@@ -1,5 +1,5 @@
 -- The text that the bytes inside bars or quotes mean is UTF-8 where they are.
-use Rattle.std.proofs.Common.{◌≡◌, ℕ, ◌+◌, ◌/◌, ◌%◌, ◌<◌, ◌≤◌, ◌≢◌, ◌==◌, ◌&&◌, Bool, true, false, ltb, cond, List, [], ◌∷◌, ◌++◌, length, refl, sym, ap, subst, ◌∙◌, arith}
+use Rattle.std.proofs.Common.{◌≡◌, ℕ, ◌+◌, ◌/◌, ◌<◌, ◌≤◌, ◌≢◌, ◌==◌, ◌&&◌, Bool, true, false, ltb, cond, List, [], ◌∷◌, ◌++◌, length, refl, sym, ap, subst, ◌∙◌, arith}
 use Rattle.std.proofs.Math.Utf8.{scalar, scalars, encode, encodes, next}
 use Rattle.std.specs.Char.{IsScalar}
 use Rattle.std.specs.Str.{IsUtf8}
@@ -56,7 +56,7 @@ ascii_means c rest ascii one later false = by (c == 92)
 high_first : (c : ℕ) (rest : List ℕ) → 128 ≤ c → IsScalar c → IsUtf8 (meant_from false rest) → (behind : Bool) → IsUtf8 (meant_from behind (encode c ++ rest))
 high_first c rest high one later behind =
     subst IsUtf8 (sym (high_means_behind behind (encode c) rest (encode_high c high) (encode_some c)))
-      (IsUtf8-append (encode c) (meant_from false rest) (IsUtf8-encode c one) later)
+    (IsUtf8-append (encode c) (meant_from false rest) (IsUtf8-encode c one) later)
 
 both : (a b : Bool) → (a && b) ≡ true → (a ≡ true) × (b ≡ true)
 both true b e = (refl, e)

@@ -1,5 +1,5 @@
 -- Bars and quotes: the search for the closing byte, and UTF-8 inside.
-use Rattle.std.proofs.Common.{◌≡◌, ℕ, ◌+◌, Bool, true, false, List, [], ◌∷◌, ◌++◌, length, get_or, drop, ◌<◌, ◌==◌, Option, Some, None, refl, sym, ap, ◌∙◌, arith}
+use Rattle.std.proofs.Common.{◌≡◌, ℕ, ◌+◌, true, false, List, length, get_or, drop, ◌<◌, ◌==◌, Option, Some, None, refl, ap, ◌∙◌, arith}
 use Rattle.std.specs.Option.{option_map}
 use Rattle.std.specs.Str.{IsUtf8}
 use Rattle.std.proofs.lemmas.Str.{utf8_valid_len-IsUtf8}
@@ -30,10 +30,6 @@ closing_past quote at bytes within other =
     at_drop_more (λ rest. counted_from at (closing_from quote false rest)) bytes at 0 within
     ∙ ap (λ t. counted_from at (elim t as (λ _. Option ℕ) [ true ↦ Some 0 | false ↦ option_map (λ n. 1 + n) (closing_from quote (get_or bytes at 0 == 92) (drop (at + 1) bytes)) ])) other
     ∙ counted_next at _
-
-pub counted_all : (r : Option ℕ) → counted_from 0 r ≡ r
-counted_all None = refl
-counted_all (Some n) = ap Some (omega arith)
 
 pub text_has_no_fault : (bytes : List ℕ) → IsUtf8 bytes → no_utf8 bytes ≡ None
 text_has_no_fault bytes text = let e = utf8_valid_len-IsUtf8 bytes text in grind (arith, nat_tests)

@@ -1,5 +1,5 @@
 -- Texts that become words of a table, and what a table that has gained others says of them.
-use Rattle.std.proofs.Common.{◌≡◌, ℕ, ◌+◌, ◌-◌, ◌<◌, ◌≤◌, ◌^◌, ◌||◌, Bool, true, false, cond, List, [], ◌∷◌, ◌++◌, length, Option, Some, None, refl, sym, ap, subst, ◌∙◌, arith, length-append, append_assoc, append-nil}
+use Rattle.std.proofs.Common.{◌≡◌, ℕ, ◌+◌, ◌≤◌, ◌||◌, Bool, true, false, cond, List, [], ◌∷◌, ◌++◌, length, Option, Some, None, refl, sym, ap, ◌∙◌, arith, length-append, append_assoc, append-nil}
 use Rattle.std.specs.Prelude.{unwrap_or}
 use Rattle.std.specs.Option.{option_map}
 use Rattle.std.specs.List.{list_any, position_from}
@@ -10,7 +10,7 @@ use Rattle.soar_sym.specs.Words.{Texts, has_text, place_of, with_text, with_text
 use Rattle.soar_sym.proofs.TableLemmas.{with_text_new, position_new, position_old, bytes_eq_same}
 use Rattle.defs_text.specs.Lexing.{Saying, mark, arrow, open_set, close_set, sign, variable_named, integer, word_of as a_word_of, documentation, Spelled}
 use Rattle.defs_text.specs.declared.token.TokenKind.TheVariants as kind
-use Rattle.defs_text.specs.Numbered.{word_in, kind_in, numbered, texts_before, token_texts, words_after}
+use Rattle.defs_text.specs.Numbered.{word_in, kind_in, texts_before, token_texts, words_after}
 use Rattle.soar_lex.specs.Answers.{Grown}
 
 -- ---- the word of a text
@@ -100,7 +100,7 @@ word_later : (words later : Texts) (text : List ℕ) → Grown (with_text words 
 word_later words later text grown =
     let place = place_with words text in
     ap (λ p. Word (unwrap_or p 0))
-      (ap (λ ws. place_of ws text) grown.1 ∙ position_old (bytes_eq text) 0 (with_text words text) grown.0 place.0 place.1 ∙ sym place.1)
+    (ap (λ ws. place_of ws text) grown.1 ∙ position_old (bytes_eq text) 0 (with_text words text) grown.0 place.0 place.1 ∙ sym place.1)
 
 -- a token that was read is the same in each later table
 pub kind_later : (words later : Texts) (says : Saying) → Grown (with_texts words (texts_before says [])) later → kind_in later says ≡ kind_in (with_texts words (texts_before says [])) says

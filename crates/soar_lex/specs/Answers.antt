@@ -1,5 +1,5 @@
 -- What the answers of this crate's calls say.
-use Rattle.std.specs.Prelude.{◌≡◌, ℕ, ◌-◌, ◌^◌, ◌<◌, Bool, true, false, ℤ, List, ◌++◌, map, length, Option, Some, None, Result, Ok, Err}
+use Rattle.std.specs.Prelude.{◌≡◌, ℕ, ◌-◌, ◌^◌, ◌<◌, true, false, ℤ, List, ◌++◌, map, length, Some, None, Result, Ok, Err}
 use Rattle.soar_sym.specs.Words.{Texts}
 use Rattle.defs_text.specs.Runs.{an_arrow, opens_set, closes_set, a_sign, a_variable, a_number, a_float, has_angle, a_word, run_kind, inside_of, fits_integer}
 use Rattle.defs_text.specs.Lexing.{Lexed, bad_byte, open_string, wide_number, float_number}

@@ -1,4 +1,4 @@
--- One piece cut off the front of what is left of a text.
+-- One piece cut off the front of what is left of a text. No public clause cites this module.
 use Rattle.std.specs.Prelude.{◌≡◌, ℕ, ◌+◌, ◌-◌, ◌^◌, ◌<◌, ◌≤◌, List, [], ◌∷◌, ◌++◌, map, length, Result, Ok, Err}
 use Rattle.soar_sym.specs.Words.{Texts}
 use Rattle.defs_text.specs.Lexing.{Spelled, Piece, token, nothing, fault}

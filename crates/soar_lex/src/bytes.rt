@@ -1,5 +1,5 @@
 ghost use Rattle.std.specs.Prelude.{◌≡◌, codes};
-ghost use Rattle.defs_text.specs.Bytes.{is_among, is_angle, is_blank, is_digit, is_mark, is_run_byte};
+ghost use Rattle.defs_text.specs.Bytes.{is_among, is_blank, is_mark, is_run_byte};
 
 /// Space, tab, carriage return, form feed and newline.
 pub fn blank(byte: u8) -> bool

@@ -10,11 +10,7 @@ use soar_sym::{List, SymTable};
 use std::alloc::Global;
 
 /// Cuts a text into tokens, whose words and variables join the table in their order, up to the first fault.
-pub fn lex(
-    alloc: Global,
-    table: &mut SymTable,
-    text: &List<u8>,
-) -> Result<List<Token>, LexFault>
+pub fn lex(alloc: Global, table: &mut SymTable, text: &List<u8>) -> Result<List<Token>, LexFault>
     requires { length text.now ≤ 2 ^ 26 }
     ensures { IsCut table.old table.new (lexed text.now) result }
 {

@@ -1,11 +1,11 @@
 // What stands at the front of a text.
-ghost use Rattle.std.specs.Prelude.{◌≡◌, ℕ, ◌+◌, ◌<◌, ◌≤◌, ◌^◌, ◌∷◌, List as ListOf, length, IfOk};
+ghost use Rattle.std.specs.Prelude.{◌≡◌, ℕ, ◌+◌, ◌<◌, ◌≤◌, ◌^◌, List as ListOf, length, IfOk};
 ghost use Rattle.std.specs.List.{prefix_len};
 ghost use Rattle.std.specs.Str.{IsAscii};
 ghost use Rattle.defs_text.specs.Bytes.{is_run_byte};
 ghost use Rattle.defs_text.specs.Runs.{inside_of, run_kind};
 ghost use Rattle.defs_text.specs.Quotes.{closing};
-ghost use Rattle.defs_text.specs.Lexing.{after_run, begins_fraction, front_at, piece_of, quoted_piece, quoted_word, run_of, run_piece, documentation, Saying};
+ghost use Rattle.defs_text.specs.Lexing.{after_run, begins_fraction, quoted_piece, quoted_word, run_of, run_piece, documentation, Saying};
 ghost use Rattle.soar_lex.specs.Pieces.{bytes_of, piece_at, IsFront, IsInside};
 
 use crate::bytes::{blank, mark, run_byte};
@@ -14,7 +14,7 @@ use crate::run::{Run, run_kind};
 use defs_text::LexFault;
 
 /// What a token says, with its text as it stands.
-#[derive(Clone, Copy, Debug)]
+#[derive(Clone, Copy)]
 pub enum Says<'a> {
     Mark(u8),
     Arrow,
@@ -31,7 +31,7 @@ pub enum Says<'a> {
 }
 
 /// A blank, or a token with the number of its bytes.
-#[derive(Clone, Copy, Debug)]
+#[derive(Clone, Copy)]
 pub enum Piece<'a> {
     Blank,
     Token(Says<'a>, usize),

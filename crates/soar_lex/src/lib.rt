@@ -12,3 +12,6 @@ mod run;
 pub use cut::lex;
 pub use defs_text::{LexFault, Token, TokenKind};
 pub use run::{Run, run_kind};
+
+#[cfg(test)]
+mod tests;

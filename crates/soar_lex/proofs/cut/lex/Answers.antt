@@ -11,7 +11,7 @@ pieces-preserved c =
     let table = c.cut_piece.new.table in
     let tokens = c.cut_piece.new.tokens in
     subst (λ rest. Cutting c.args.table.now table c.args.text.now rest (c.pieces.place + c.in_ok-count.count) tokens) (sym c.split_at.ensures.back)
-      (advances _ _ _ _ _ _ _ _ _ c.pieces.invariant c.in_ok-count.ensures)
+    (advances _ _ _ _ _ _ _ _ _ c.pieces.invariant c.in_ok-count.ensures)
 
 pub returns-in_err-count : goal.returns-in_err-count
 returns-in_err-count c =

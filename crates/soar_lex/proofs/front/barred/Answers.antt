@@ -1,7 +1,7 @@
 use Rattle.std.proofs.Common.{sym, subst}
 use Rattle.std.proofs.lemmas.Result.{err_from_is_err_and}
 use Rattle.defs_text.specs.Quotes.{closing}
-use Rattle.defs_text.specs.Lexing.{quoted_piece, quoted_word, documentation}
+use Rattle.defs_text.specs.Lexing.{quoted_piece, quoted_word}
 use Rattle.soar_lex.specs.Pieces.{IsFront, IsFault}
 use Rattle.soar_lex.proofs.front.barred.Goals as goal
 

@@ -1,6 +1,6 @@
-use Rattle.std.proofs.Common.{◌≡◌, ◌∙◌, ◌+◌, ap, sym, List, ℕ, length, take, Option, Some, None, refl, arith}
+use Rattle.std.proofs.Common.{◌≡◌, ◌∙◌, ◌+◌, ap, sym, List, ℕ, length, take, Option, Some, None}
 use Rattle.defs_text.specs.Quotes.{closing, fault_inside, meant}
-use Rattle.defs_text.specs.Lexing.{Saying, Piece, token, fault, bad_byte, quoted_piece, inside_piece}
+use Rattle.defs_text.specs.Lexing.{Saying, token, quoted_piece, inside_piece}
 use Rattle.soar_lex.proofs.front.inside.Goals as goal
 
 pub returns-in-None-clause-piece : goal.returns-in-None-clause-piece
@@ -17,7 +17,7 @@ found quote place count says after inside wrong there is bad =
 pub returns-in-Ok-clause-piece : goal.returns-in-Ok-clause-piece
 returns-in-Ok-clause-piece c = λ says.
     found c.args.quote c.args.place c.in-Some.count says c.args.after.now c.in-Ok.inside.now None (sym c.in-Some.ensures.count) (c.in-Ok.ensures.text.0 ∙ c.split_at.ensures.front)
-      (ap (fault_inside c.args.quote) c.in-Ok.ensures.text.0 ∙ c.in-Ok.ensures.text.1)
+    (ap (fault_inside c.args.quote) c.in-Ok.ensures.text.0 ∙ c.in-Ok.ensures.text.1)
     ∙ ap (λ n. token (says (meant c.in-Ok.inside.now)) (n + 2)) (sym (ap length c.in-Ok.ensures.text.0 ∙ c.split_at.ensures.front_len))
 
 pub returns-in-Err-clause-piece : goal.returns-in-Err-clause-piece
