@@ -1,11 +1,10 @@
 // One symbol against the tests of a field.
 ghost use Rattle.std.specs.Prelude.{◌≡◌, IfOk, OnOk};
-ghost use Rattle.soar_sym.specs.Equality.{symbol_eq};
 ghost use Rattle.defs_match.specs.Testing as meaning;
 ghost use Rattle.match_direct.specs.Steps.{left, after_one, other_passes, constants_pass, Grows};
 
 use soar_rule::{Atom, Relation, Test};
-use soar_sym::{NoMemory, Sym};
+use soar_sym::{NoMemory, Sym, is_symbol};
 
 /// Whether a symbol passes the tests of a field. What its variables are bound to is added to the bindings,
 /// also where a test fails.
@@ -180,21 +179,4 @@ fn contains_symbol(symbols: &[Sym], symbol: &Sym) -> bool
         }
     }
     false
-}
-
-fn is_symbol(a: Sym, b: Sym) -> bool
-    ensures { result ≡ symbol_eq a b }
-{
-    match (a, b) {
-        (
-            Sym::Ident { letter, number },
-            Sym::Ident {
-                letter: other_letter,
-                number: other_number,
-            },
-        ) => letter == other_letter && number == other_number,
-        (Sym::Word(word), Sym::Word(other)) => word == other,
-        (Sym::Int(value), Sym::Int(other)) => value == other,
-        _ => false,
-    }
 }

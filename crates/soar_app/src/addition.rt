@@ -6,11 +6,11 @@ ghost use Rattle.defs_text.specs.Symbols.{is_identifier_form};
 ghost use Rattle.defs_run.specs.Forms.{addition_at, addition_if, attribute_at, begins_top, constant_at, constant_kind, is_addition, is_plain_word, is_top_kind, plain_word};
 ghost use Rattle.soar_app.specs.Known.{AreTokensKnown, IsKindKnown};
 
-use crate::token::{begins_mark, behind, same_symbol};
+use crate::token::{begins_mark, behind};
 use defs_run::Addition;
 use defs_text::{Token, TokenKind};
 use soar_show::is_identifier_form;
-use soar_sym::{Sym, SymTable};
+use soar_sym::{Sym, SymTable, is_symbol};
 
 /// The word `operator` of the architecture.
 const OPERATOR: Sym = Sym::Word(7);
@@ -28,7 +28,7 @@ pub fn addition_at(table: &SymTable, tokens: &[Token]) -> Option<Addition>
 fn addition_if(fits: bool, attr: Sym, value: Sym) -> Option<Addition>
     ensures { result ≡ addition_if fits attr value }
 {
-    if fits && !same_symbol(attr, OPERATOR) {
+    if fits && !is_symbol(attr, OPERATOR) {
         Some(Addition { attr, value })
     } else {
         None

@@ -4,6 +4,8 @@ ghost use Rattle.std.specs.List.{prefix_len, list_all};
 ghost use Rattle.defs_text.specs.Bytes.{is_blank};
 ghost use Rattle.defs_run.specs.Commands.{command_text, commands_from, ends_first_run, first_run, is_blank_line, lines_of};
 
+use soar_lex::blank;
+
 /// Takes the next command off, with the blank lines before it. `taken` counts the lines, and so numbers them.
 pub fn next_command<'a>(rest: &mut &'a [u8], taken: &mut u64) -> Option<&'a [u8]>
     requires { taken.old + length rest.old.now < 2 ^ 64 }
@@ -94,10 +96,4 @@ fn ends_first_run(byte: u8) -> bool
     ensures { result ≡ ends_first_run byte }
 {
     blank(byte) || byte == b'{'
-}
-
-fn blank(byte: u8) -> bool
-    ensures { result ≡ is_blank byte }
-{
-    byte == b' ' || byte == b'\t' || byte == b'\r' || byte == b'\x0c' || byte == b'\n'
 }

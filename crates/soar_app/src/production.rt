@@ -6,10 +6,9 @@ ghost use Rattle.defs_match.specs.Productions.{action_seen, production_seen};
 ghost use Rattle.defs_run.specs.Loading.{action_in, atom_in, condition_in, has_name, names_after, names_of, number_in, pattern_in, plain_field, production_of, with_name, with_operand};
 ghost use Rattle.soar_app.specs.Naming.{are_named, is_group_named, is_operand_named};
 
-use crate::token::same_symbol;
 use defs_run::{Group, Operand, Outline};
 use soar_rule::{Action, Atom, Cond, Field, Kind, Pattern, Pref, Production, Support, Test, Value};
-use soar_sym::{List, NoMemory, Sym};
+use soar_sym::{List, NoMemory, Sym, is_symbol};
 use std::alloc::Global;
 
 /// The number of a name.
@@ -22,7 +21,7 @@ fn number(names: &[Sym], name: Sym) -> u32
 {
     let mut at = 0;
     'names: for other in names {
-        if same_symbol(name, *other) {
+        if is_symbol(name, *other) {
             return at;
         }
         at += 1;
@@ -127,7 +126,7 @@ fn add_name(names: &mut List<Sym>, name: Sym) -> Result<(), NoMemory>
 fn has_name(names: &[Sym], name: Sym) -> bool
     ensures { result ≡ has_name names.now name }
 {
-    names.iter().any(|other| same_symbol(name, *other))
+    names.iter().any(|other| is_symbol(name, *other))
 }
 
 fn add_operand(names: &mut List<Sym>, operand: Operand) -> Result<(), NoMemory>

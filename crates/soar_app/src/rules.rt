@@ -6,10 +6,9 @@ ghost use Rattle.defs_run.specs.Session.{rule_name};
 ghost use Rattle.soar_app.specs.Known.{AreNamesKnown};
 ghost use Rattle.soar_sym.specs.Words.{Texts, IsKnown};
 
-use crate::token::same_symbol;
 use defs_match::Rule;
 use soar_rule::Production;
-use soar_sym::{List, NoMemory, Sym, SymTable};
+use soar_sym::{List, NoMemory, Sym, SymTable, is_symbol};
 
 /// Puts a production in the place of that of its name: last, and under a number.
 pub fn load(rules: &mut List<Rule>, number: u64, production: Production) -> Result<(), NoMemory>
@@ -38,7 +37,7 @@ fn drop_named(rules: &mut List<Rule>, name: Sym)
 fn is_named(name: Sym, rule: &Rule) -> bool
     ensures { result ≡ is_named name (rule_seen rule.now) }
 {
-    same_symbol(name, rule.production.name)
+    is_symbol(name, rule.production.name)
 }
 
 /// The name of the rule of a number.

@@ -1,32 +1,13 @@
 // What stands in front of a list of tokens.
 ghost use Rattle.std.specs.Prelude.{◌≡◌, drop};
-ghost use Rattle.soar_sym.specs.Equality.{symbol_eq};
 ghost use Rattle.defs_run.specs.Forms.{begins_mark, begins_arrow, begins_state, variable_at, word_at, operand_at, is_mark_kind, is_arrow_kind, is_state_kind, variable_kind, word_kind, operand_kind};
 
 use defs_run::Operand;
 use defs_text::{Token, TokenKind};
-use soar_sym::Sym;
+use soar_sym::{Sym, is_symbol};
 
 /// The word `state`, the first of the architecture's.
 const STATE: Sym = Sym::Word(0);
-
-/// Whether two symbols are one.
-pub fn same_symbol(a: Sym, b: Sym) -> bool
-    ensures { result ≡ symbol_eq a b }
-{
-    match (a, b) {
-        (
-            Sym::Ident { letter, number },
-            Sym::Ident {
-                letter: other_letter,
-                number: other_number,
-            },
-        ) => letter == other_letter && number == other_number,
-        (Sym::Word(word), Sym::Word(other)) => word == other,
-        (Sym::Int(value), Sym::Int(other)) => value == other,
-        _ => false,
-    }
-}
 
 /// The tokens behind so many.
 pub fn behind(tokens: &[Token], count: usize) -> &[Token]
@@ -88,7 +69,7 @@ fn is_state(kind: &TokenKind) -> bool
     ensures { result ≡ is_state_kind kind.now }
 {
     match kind {
-        TokenKind::Word(word, bare) => same_symbol(*word, STATE) && *bare,
+        TokenKind::Word(word, bare) => is_symbol(*word, STATE) && *bare,
         _ => false,
     }
 }

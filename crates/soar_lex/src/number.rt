@@ -4,6 +4,8 @@ ghost use Rattle.std.specs.List.{list_all, prefix_len};
 ghost use Rattle.defs_text.specs.Bytes.{is_digit};
 ghost use Rattle.defs_text.specs.Runs.{unsigned, begins_digit, begins_with, are_digits, is_integer, is_exponent, is_float, after_digits, number_from, integer_of, fits_integer};
 
+use crate::bytes::digit;
+
 /// An optional sign and one or more digits.
 pub fn is_integer(run: &[u8]) -> bool
     ensures { result ≡ is_integer run.now }
@@ -72,12 +74,6 @@ fn unsigned(run: &[u8]) -> &[u8]
         Some((b'+' | b'-', rest)) => rest,
         _ => run,
     }
-}
-
-fn digit(byte: u8) -> bool
-    ensures { result ≡ is_digit byte }
-{
-    b'0' <= byte && byte <= b'9'
 }
 
 fn begins_digit(bytes: &[u8]) -> bool

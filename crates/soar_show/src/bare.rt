@@ -4,8 +4,7 @@ ghost use Rattle.defs_text.specs.Bytes.{is_digit, is_run_byte};
 ghost use Rattle.defs_text.specs.Runs.{begins_with, number_from, run_kind};
 ghost use Rattle.defs_text.specs.Symbols.{is_identifier_form, is_identifier_number, is_word_kind, reads_back, stands_bare};
 
-use crate::bytes::{capital, digit, run_byte};
-use soar_lex::{Run, run_kind};
+use soar_lex::{Run, capital, digit, run_byte, run_kind};
 
 /// The greatest number of an identifier.
 const MOST_NUMBER: u64 = 4_294_967_295;

@@ -2,7 +2,6 @@
 #![tactic(auto)]
 
 mod bare;
-mod bytes;
 mod instance;
 mod symbol;
 mod word;
