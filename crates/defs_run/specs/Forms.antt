@@ -1,11 +1,11 @@
 -- The forms of commands at the present stage, over the tokens behind the command's word. What is of no form is not built.
-use Rattle.std.specs.Prelude.{ℕ, zero, suc, ◌+◌, ◌-◌, ◌&&◌, ◌||◌, ◌==◌, not, Bool, true, false, List, [], ◌∷◌, ◌++◌, drop, Option, Some, None, if◌then◌else◌, option_and_then, codes}
-use Rattle.std.specs.List.{list_any, list_all}
+use Rattle.std.specs.Prelude.{ℕ, zero, suc, ◌-◌, ◌&&◌, ◌||◌, ◌==◌, not, Bool, true, false, List, [], ◌∷◌, ◌++◌, drop, Option, Some, None, if◌then◌else◌, option_and_then, codes}
+use Rattle.std.specs.List.{list_any}
 use Rattle.std.specs.Str.{bytes_eq}
 use Rattle.soar_sym.specs.Words.{Texts, text_of}
 use Rattle.soar_sym.specs.Equality.{symbol_eq}
 use Rattle.soar_sym.specs.declared.symbol.Sym.{Sym}
-use Rattle.soar_sym.specs.declared.symbol.Sym.TheVariants.{Ident, Word, Int}
+use Rattle.soar_sym.specs.declared.symbol.Sym.TheVariants.{Word, Int}
 use Rattle.defs_text.specs.Runs.{is_empty}
 use Rattle.defs_text.specs.Symbols.{is_identifier_form}
 use Rattle.defs_text.specs.declared.token.TokenKind.{TokenKind}

@@ -1,5 +1,5 @@
 -- Limits: a step draws numbers, and the first that is beyond its limit ends the program.
-use Rattle.std.specs.Prelude.{ℕ, Bool, nat_lt, List, [], ◌∷◌, ◌++◌, Option, Some, None, if◌then◌else◌, codes}
+use Rattle.std.specs.Prelude.{ℕ, nat_lt, List, [], ◌∷◌, ◌++◌, Option, Some, None, if◌then◌else◌, codes}
 use Rattle.std.specs.Fmt.{decimal}
 use Rattle.defs_run.specs.declared.limit.Which.{Which}
 use Rattle.defs_run.specs.declared.limit.Which.TheVariants as which

@@ -1,5 +1,5 @@
 -- The production of an outline, and the list of rules once it is loaded (Soar manual, sp).
-use Rattle.std.specs.Prelude.{ℕ, ◌+◌, Bool, true, false, not, List, [], ◌∷◌, ◌++◌, map, filter, Option, Some, None, if◌then◌else◌}
+use Rattle.std.specs.Prelude.{ℕ, ◌+◌, Bool, false, not, List, [], ◌∷◌, ◌++◌, map, filter, None, if◌then◌else◌}
 use Rattle.std.specs.List.{list_any}
 use Rattle.soar_sym.specs.Equality.{symbol_eq}
 use Rattle.soar_sym.specs.declared.symbol.Sym.{Sym}
@@ -11,7 +11,7 @@ use Rattle.soar_rule.specs.declared.cond.Pattern.{Pattern}
 use Rattle.soar_rule.specs.declared.production.Kind.TheVariants.{User}
 use Rattle.soar_rule.specs.declared.production.Support.TheVariants.{Unset}
 use Rattle.defs_match.specs.Conditions.{Condition, positive, all_of}
-use Rattle.defs_match.specs.Productions.{ValueOf, atom_value, accepts, ActionOf, makes, ProductionOf, RuleOf}
+use Rattle.defs_match.specs.Productions.{atom_value, accepts, ActionOf, makes, ProductionOf, RuleOf}
 use Rattle.defs_run.specs.declared.form.Operand.{Operand}
 use Rattle.defs_run.specs.declared.form.Operand.TheVariants.{Variable, Constant}
 use Rattle.defs_run.specs.declared.form.Group.{Group}

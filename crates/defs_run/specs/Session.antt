@@ -1,5 +1,5 @@
 -- The state of a session, and what each command does to it, says and draws.
-use Rattle.std.specs.Prelude.{ℕ, ◌+◌, ◌==◌, nat_lt, Bool, true, false, pos, List, [], ◌∷◌, ◌++◌, map, length, drop, Option, Some, None, if◌then◌else◌, codes, option_and_then}
+use Rattle.std.specs.Prelude.{ℕ, ◌+◌, ◌==◌, Bool, true, false, pos, List, [], ◌∷◌, map, length, drop, Option, Some, None, if◌then◌else◌, codes}
 use Rattle.soar_sym.specs.Words.{Texts, architecture}
 use Rattle.soar_sym.specs.declared.symbol.Sym.{Sym}
 use Rattle.soar_sym.specs.declared.symbol.Sym.TheVariants.{Ident, Word, Int}
