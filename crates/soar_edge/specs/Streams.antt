@@ -1,0 +1,12 @@
+-- A source and a sink over std's readers and writers, as contracts see them.
+use Rattle.std.specs.Prelude.{ℕ, List, Option}
+
+-- the bytes that the reader has left, where std knows them, and how many faults there were
+pub record ReaderState : Type 0 where
+  pub unread : Option (List ℕ)
+  pub faults : ℕ
+
+-- the bytes that the writer holds, where std knows them, and how many faults there were
+pub record WriterState : Type 0 where
+  pub written : Option (List ℕ)
+  pub faults : ℕ
