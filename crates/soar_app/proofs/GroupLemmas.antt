@@ -1,5 +1,5 @@
 -- Groups in front, one after another.
-use Rattle.std.proofs.Common.{◌≡◌, ℕ, zero, suc, ◌+◌, ◌-◌, ◌<◌, ◌≤◌, Bool, true, false, cond, List, [], ◌∷◌, ◌++◌, length, drop, Option, Some, None, refl, sym, ap, ◌∙◌, arith}
+use Rattle.std.proofs.Common.{◌≡◌, ℕ, zero, suc, ◌-◌, ◌<◌, Bool, true, false, cond, List, [], ◌∷◌, length, drop, Some, None, refl, sym, ap, ◌∙◌, arith}
 use Rattle.defs_text.specs.declared.token.Token.{Token}
 use Rattle.defs_run.specs.declared.form.Group.{Group}
 use Rattle.defs_run.specs.Forms.{group_at, size_of, Groups, with_group, groups_from, groups_at}

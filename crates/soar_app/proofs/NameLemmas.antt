@@ -1,7 +1,7 @@
 -- The names of an outline's variables.
-use Rattle.std.proofs.Common.{◌≡◌, ℕ, zero, suc, ◌+◌, ◌*◌, ◌<◌, ◌≤◌, ◌^◌, Bool, true, false, cond, ◌&&◌, ◌||◌, List, [], ◌∷◌, ◌++◌, length, length-append, refl, sym, ap, ap₂, subst, ◌∙◌, arith}
+use Rattle.std.proofs.Common.{◌≡◌, ◌+◌, ◌*◌, ◌<◌, ◌≤◌, ◌^◌, Bool, true, false, ◌&&◌, ◌||◌, List, [], ◌∷◌, ◌++◌, length, length-append, refl, arith}
 use Rattle.std.proofs.lemmas.Grind.{common_steps}
-use Rattle.std.specs.List.{list_any, list_all}
+use Rattle.std.specs.List.{list_any}
 use Rattle.soar_sym.specs.Equality.{symbol_eq}
 use Rattle.soar_sym.specs.declared.symbol.Sym.{Sym}
 use Rattle.soar_sym.specs.declared.symbol.Sym.TheVariants.{Ident, Word, Int}

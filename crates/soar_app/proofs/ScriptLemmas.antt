@@ -1,11 +1,11 @@
 -- The part of an input that is run.
-use Rattle.std.proofs.Common.{◌≡◌, ℕ, ◌+◌, Bool, true, false, List, [], ◌∷◌, ◌++◌, Option, Some, None, not, ◌^◌, ◌<◌, ◌≤◌, length, take, nat_lt, arith, length-append, refl, sym, ap, ◌∙◌}
+use Rattle.std.proofs.Common.{◌≡◌, ℕ, Bool, true, false, List, [], ◌∷◌, ◌++◌, Option, Some, None, not, ◌^◌, ◌<◌, ◌≤◌, length, take, nat_lt, arith, length-append, refl, sym, ap, ◌∙◌}
 use Rattle.std.proofs.lemmas.Grind.{common_steps}
 use Rattle.std.proofs.lemmas.List.{take-append-le}
 use Rattle.std.specs.Prelude.{◌==◌, if◌then◌else◌, IfSome}
 use Rattle.defs_run.specs.Commands.{commands_of, onto_part, whole_part}
 use Rattle.defs_run.specs.Session.{first_state}
-use Rattle.defs_run.specs.Transcript.{Transcript, run_from, input_run}
+use Rattle.defs_run.specs.Transcript.{run_from, input_run}
 use Rattle.soar_app.specs.Reading.{ReadsInput}
 
 -- one byte more at the end

@@ -1,27 +1,27 @@
 -- Limits and names along a session's steps.
-use Rattle.std.proofs.Common.{◌≡◌, ℕ, zero, suc, drop, ◌+◌, ◌-◌, ◌^◌, ◌<◌, ◌≤◌, Bool, true, false, cond, not, nat_lt, List, [], ◌∷◌, ◌++◌, length, map, filter, Option, Some, None, refl, sym, ap, subst, ◌∙◌, arith}
+use Rattle.std.proofs.Common.{◌≡◌, ℕ, zero, suc, drop, ◌+◌, ◌-◌, ◌^◌, ◌<◌, ◌≤◌, Bool, true, false, cond, not, nat_lt, List, [], ◌∷◌, ◌++◌, length, map, Option, Some, None, refl, sym, ap, subst, ◌∙◌, arith}
 use Rattle.std.proofs.lemmas.Bool.Decides.{nat_tests}
 use Rattle.soar_sym.specs.Words.{Texts, IsKnown}
 use Rattle.soar_sym.specs.declared.symbol.Sym.{Sym}
 use Rattle.defs_match.specs.Productions.{ProductionOf, RuleOf}
-use Rattle.defs_run.specs.Limits.{Drawn, words_to, elements_to, tags_to, counts_to, limit_of, passes, or_else, first_passed}
+use Rattle.defs_run.specs.Limits.{Drawn, words_to, tags_to, limit_of, passes, or_else, first_passed}
 use Rattle.defs_run.specs.Loading.{is_named, without_name, with_rule}
 use Rattle.defs_run.specs.declared.limit.Which.{Which}
 use Rattle.defs_run.specs.declared.limit.Which.TheVariants as which
-use Rattle.std.specs.Prelude.{Result, Ok, Err, ◌&&◌}
+use Rattle.std.specs.Prelude.{Result, Ok, Err}
 use Rattle.std.proofs.lemmas.List.{append-nil, length-map}
 use Rattle.soar_sym.specs.declared.symbol.Triple.{Triple}
 use Rattle.soar_wm.specs.WorkingMemory.{WorkingMemory, Adds, tag_of, with_triple}
 use Rattle.soar_wm.specs.declared.element.AddFault.{AddFault}
 use Rattle.soar_wm.specs.declared.element.AddFault.TheVariants as add
-use Rattle.defs_text.specs.Lexing.{Lexed, Spelled, Piece, token, nothing, fault, front_at, piece_of, with_token, lexed_from, lexed, Fault}
+use Rattle.defs_text.specs.Lexing.{Lexed, Piece, token, nothing, fault, front_at, piece_of, with_token, lexed_from, lexed, Fault}
 use Rattle.defs_text.specs.Numbered.{numbered, words_after}
 use Rattle.defs_text.specs.declared.token.Token.{Token}
 use Rattle.defs_text.specs.declared.token.LexFault.{LexFault}
 use Rattle.defs_text.specs.declared.token.LexFault.TheVariants as faults
 use Rattle.soar_lex.specs.Answers.{Gained, CutWhole, IsCut}
 use Rattle.defs_run.specs.Commands.{CommandOf, first_run}
-use Rattle.defs_run.specs.Session.{State, Reply, loaded, added, carried_out, with_words, after_words, obeyed_as, order_by, order_of, refused_by}
+use Rattle.defs_run.specs.Session.{State, loaded, added, carried_out, with_words, after_words, obeyed_as, order_by, order_of, refused_by}
 use Rattle.defs_run.specs.Said.{not_built}
 use Rattle.defs_run.specs.declared.form.Order.{Order}
 use Rattle.soar_app.specs.Known.{AreNamesKnown, AreTokensKnown}

@@ -1,6 +1,5 @@
 -- What one command of a run writes, and how a run ends.
 use Rattle.std.specs.Prelude.{◌≡◌, ℕ, Bool, List, Option, Some, None, Result, Ok, Err}
-use Rattle.soar_edge.specs.declared.fault.PutFault.{PutFault}
 use Rattle.soar_edge.specs.declared.status.Status.{Status}
 use Rattle.soar_edge.specs.declared.status.Status.TheVariants as status
 use Rattle.defs_run.specs.Limits.{first_passed}

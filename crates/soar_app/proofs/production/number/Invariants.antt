@@ -1,5 +1,5 @@
 use Rattle.std.proofs.Common.{◌≡◌, ◌+◌, drop}
-use Rattle.defs_run.specs.Loading.{has_name, number_in}
+use Rattle.defs_run.specs.Loading.{number_in}
 use Rattle.soar_app.proofs.production.number.Given as goal
 
 abbrev pub invariant-names : goal.invariant-names

@@ -1,6 +1,6 @@
-use Rattle.std.proofs.Common.{arith, ◌≡◌, ◌+◌, ◌++◌, ◌∷◌, ◌||◌, ◌∙◌, [], List, ℕ, append_assoc, sym, ap, subst}
+use Rattle.std.proofs.Common.{arith, ◌≡◌, ◌+◌, ◌++◌, ◌∙◌, List, ℕ, append_assoc, sym, ap, subst}
 use Rattle.soar_edge.proofs.CallerLemmas.{appends_then}
-use Rattle.defs_run.specs.Commands.{CommandOf, commands_from, commands_of, lines_of}
+use Rattle.defs_run.specs.Commands.{CommandOf, commands_from, lines_of}
 use Rattle.defs_run.specs.Session.{State, obeyed}
 use Rattle.defs_run.specs.Transcript.{Transcript, before, run_from}
 use Rattle.soar_app.specs.Runs.{step_text, IsAnswered, Passed}

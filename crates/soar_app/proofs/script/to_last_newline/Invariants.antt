@@ -1,4 +1,4 @@
-use Rattle.std.proofs.Common.{◌≡◌, ◌≤◌, take, length}
+use Rattle.std.proofs.Common.{◌≡◌, ◌≤◌, take}
 use Rattle.defs_run.specs.Commands.{whole_part}
 use Rattle.soar_app.proofs.script.to_last_newline.Given as goal
 

@@ -2,7 +2,7 @@ use Rattle.std.proofs.Common.{sym, subst}
 use Rattle.defs_run.specs.Said.{not_built}
 use Rattle.defs_run.specs.Session.{State, refused_by}
 use Rattle.soar_app.specs.Steps.{IsKept, Obeys}
-use Rattle.soar_app.proofs.SessionLemmas.{faulty_read, kept_read, refused_text, stopped_text}
+use Rattle.soar_app.proofs.SessionLemmas.{faulty_read, kept_read, refused_text}
 use Rattle.soar_app.proofs.session.refuse_fault.Goals as goal
 
 pub returns-in-None : goal.returns-in-None

@@ -1,6 +1,5 @@
-use Rattle.std.proofs.Common.{◌≡◌, ◌∙◌, ap, sym, subst, Some, None, true}
-use Rattle.soar_sym.specs.declared.symbol.Triple.{Triple}
-use Rattle.soar_wm.specs.WorkingMemory.{AddsNew, tag_of, with_triple}
+use Rattle.std.proofs.Common.{◌≡◌, sym, subst, Some, None, true}
+use Rattle.soar_wm.specs.WorkingMemory.{AddsNew, tag_of}
 use Rattle.defs_run.specs.Session.{State, added, top_triple}
 use Rattle.soar_app.specs.States.{state_of}
 use Rattle.soar_app.specs.Steps.{Obeys}

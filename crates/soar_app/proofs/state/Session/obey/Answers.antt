@@ -1,4 +1,4 @@
-use Rattle.std.proofs.Common.{◌≡◌, ◌∙◌, ap, sym, subst, false}
+use Rattle.std.proofs.Common.{◌≡◌, ◌∙◌, ap, subst, false}
 use Rattle.std.specs.Prelude.{if◌then◌else◌}
 use Rattle.defs_text.specs.Lexing.{lexed}
 use Rattle.defs_run.specs.Commands.{first_run}

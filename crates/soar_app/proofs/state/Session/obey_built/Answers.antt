@@ -1,6 +1,5 @@
 use Rattle.std.proofs.Common.{◌≡◌, ◌∙◌, ◌<◌, ◌≤◌, ◌^◌, refl, ap, sym, subst, arith, drop, length, length-drop}
-use Rattle.std.proofs.lemmas.Grind.{common_steps}
-use Rattle.defs_text.specs.Lexing.{Lexed, lexed}
+use Rattle.defs_text.specs.Lexing.{lexed}
 use Rattle.soar_lex.specs.Answers.{CutWhole}
 use Rattle.defs_run.specs.Commands.{CommandOf}
 use Rattle.defs_run.specs.Session.{State, obeyed_as}
@@ -8,7 +7,7 @@ use Rattle.soar_app.specs.Known.{AreTokensKnown}
 use Rattle.soar_app.specs.States.{state_of}
 use Rattle.soar_app.specs.Steps.{Obeys}
 use Rattle.soar_app.proofs.WordLemmas.{known_behind}
-use Rattle.soar_app.proofs.SessionLemmas.{cut_known, cut_few, kept_read, whole_read}
+use Rattle.soar_app.proofs.SessionLemmas.{cut_known, cut_few, kept_read}
 use Rattle.soar_app.proofs.state.Session.obey_built.Goals as goal
 
 pub carry_out-requires-clause-known : goal.carry_out-requires-clause-known
