@@ -1,0 +1,102 @@
+-- Operator support and instance support (Soar manual, persistence; the static rule is this engine's).
+use Rattle.std.specs.Prelude.{ℕ, zero, suc, Bool, true, false, ◌&&◌, ◌==◌, not, List, [], ◌∷◌, Option, Some, None, if◌then◌else◌}
+use Rattle.std.specs.List.{list_any}
+use Rattle.soar_sym.specs.Equality.{symbol_eq}
+use Rattle.soar_sym.specs.declared.symbol.Sym.{Sym}
+use Rattle.soar_rule.specs.declared.cond.Atom.{Atom}
+use Rattle.soar_rule.specs.declared.cond.Atom.TheVariants.{Const, Var}
+use Rattle.soar_rule.specs.declared.production.Support.{Support}
+use Rattle.soar_rule.specs.declared.production.Support.TheVariants as support
+use Rattle.soar_wm.specs.declared.element.Element.{Element}
+use Rattle.defs_match.specs.Productions.{ValueOf, atom_value, call_value, ActionOf, makes, writes, halts, ProductionOf}
+use Rattle.defs_match.specs.Testing.{Bindings, symbol_of}
+use Rattle.defs_soar.specs.declared.preference.Wish.{Wish}
+use Rattle.defs_soar.specs.declared.preference.Preference.{Preference}
+use Rattle.defs_soar.specs.declared.goal.Goal.{Goal}
+use Rattle.defs_soar.specs.Architecture.{operator_word}
+use Rattle.defs_soar.specs.Goals.{goal_ids, is_goal, is_operator_slot}
+
+-- ---- the match goal
+
+-- the depth of the deepest goal that is the identifier of one of these elements, 0 without one
+abbrev pub depth_from : ℕ → List Sym → List Element → ℕ
+depth_from n [] elements = 0
+depth_from n (goal ∷ goals) elements =
+    let below = depth_from (suc n) goals elements in
+    if below == 0 then (if list_any (λ e. symbol_eq e.id goal) elements then n else 0) else below
+
+abbrev pub match_depth : List Goal → List Element → ℕ
+match_depth goals elements = depth_from 1 (goal_ids goals) elements
+
+abbrev pub goal_at_depth : ℕ → List Goal → Option Sym
+goal_at_depth depth [] = None
+goal_at_depth zero (goal ∷ goals) = None
+goal_at_depth (suc zero) (goal ∷ goals) = Some goal.id
+goal_at_depth (suc (suc depth)) (goal ∷ goals) = goal_at_depth (suc depth) goals
+
+-- ---- operator kind
+
+-- the operator of a selected operator element of the goal, among these
+abbrev pub operator_selected : Sym → List Element → Option Sym
+operator_selected goal [] = None
+operator_selected goal (e ∷ elements) =
+    if symbol_eq e.id goal && (symbol_eq e.attr operator_word && not e.accept) then Some e.value else operator_selected goal elements
+
+abbrev pub is_other : Sym → Option Sym → Bool
+is_other operator None = false
+is_other operator (Some s) = not (symbol_eq s operator)
+
+-- the identifier is bound by the conditions to something else than the operator; a constant counts as bound to itself
+abbrev pub is_bound_to_other : Bindings → Sym → Atom → Bool
+is_bound_to_other bindings operator (Var variable) = is_other operator (symbol_of variable bindings)
+is_bound_to_other bindings operator (Const s) = not (symbol_eq s operator)
+
+abbrev pub atom_value_of : Bindings → Atom → Option Sym
+atom_value_of bindings (Const s) = Some s
+atom_value_of bindings (Var variable) = symbol_of variable bindings
+
+abbrev pub is_operator_symbol : Option Sym → Bool
+is_operator_symbol None = false
+is_operator_symbol (Some s) = symbol_eq s operator_word
+
+-- a call counts as another attribute than `operator`
+abbrev pub is_operator_attribute : Bindings → ValueOf → Bool
+is_operator_attribute bindings (atom_value a) = is_operator_symbol (atom_value_of bindings a)
+is_operator_attribute bindings (call_value f arguments) = false
+
+abbrev pub is_goal_atom : List Goal → Bindings → Atom → Bool
+is_goal_atom goals bindings a = elim (atom_value_of bindings a) [ Some s ↦ is_goal goals s | None ↦ false ]
+
+-- a make that is no preference for an operator of a goal, on something else than the operator
+abbrev pub changes_other : List Goal → Bindings → Sym → ActionOf → Bool
+changes_other goals bindings operator (makes id attr value preference) =
+    is_bound_to_other bindings operator id && not (is_operator_attribute bindings attr && is_goal_atom goals bindings id)
+changes_other goals bindings operator (writes written) = false
+changes_other goals bindings operator halts = false
+
+abbrev pub applies_operator : List Goal → Bindings → List ActionOf → Option Sym → Bool
+applies_operator goals bindings actions None = false
+applies_operator goals bindings actions (Some operator) = list_any (changes_other goals bindings operator) actions
+
+abbrev pub selected_at : List Element → Option Sym → Option Sym
+selected_at elements None = None
+selected_at elements (Some goal) = operator_selected goal elements
+
+-- a firing that applies the selected operator of its match goal
+abbrev pub applies : List Goal → List Element → Bindings → List ActionOf → Bool
+applies goals elements bindings actions = applies_operator goals bindings actions (selected_at elements (goal_at_depth (match_depth goals elements) goals))
+
+-- a flag decides, and without one whether an operator is applied
+abbrev pub kind_by : Support → Bool → Bool
+kind_by support.Operator applying = true
+kind_by support.Instance applying = false
+kind_by support.Unset applying = applying
+
+-- the firing is of operator kind; the elements are those of its instance
+abbrev pub operator_kind : List Goal → List Element → Bindings → ProductionOf → Bool
+operator_kind goals elements bindings production = kind_by production.support (applies goals elements bindings production.actions)
+
+-- preferences for operators of goals always have instance support
+abbrev pub row_of : List Goal → ℕ → Bool → Wish → Preference
+row_of goals firing operator_kind_of w =
+    record { firing = firing; wish = w; operator_support = operator_kind_of && not (is_operator_slot goals w.id w.attr) }

@@ -1,0 +1,86 @@
+use crate::preference::Wish;
+use defs_match::{Instance, Rule};
+use soar_sym::{List, Sym, Text};
+use soar_wm::Element;
+
+/// In which way a firing used an element of its instance (Soar manual, backtracing).
+#[derive(Clone, Copy, Debug, PartialEq, Eq)]
+pub enum How {
+    /// Its identifier is of a higher level, or the firing is of the top goal.
+    Upper,
+    /// A goal's own element.
+    Architecture,
+    /// An item, with the tag of the marked operator element that it names.
+    Item(u32),
+    /// A selected operator, with the tag of its marked element.
+    Selected(u32),
+    /// Made by the firing of this number.
+    Made(u64),
+}
+
+/// An element of an instance, and how it was used.
+#[derive(Clone, Copy, Debug, PartialEq, Eq)]
+pub struct Used {
+    pub element: Element,
+    pub how: How,
+}
+
+/// A firing as it is recorded. `depth` is that of its match goal, and `goals` are the goals among its symbols.
+#[derive(Debug, Drop)]
+pub struct Firing {
+    pub number: u64,
+    pub name: Sym,
+    pub rule: Rule,
+    pub depth: u32,
+    pub instance: Instance,
+    pub goals: List<Sym>,
+    pub used: List<Used>,
+    pub made: List<Wish>,
+}
+
+/// Why an action was dropped.
+#[derive(Clone, Copy, Debug, PartialEq, Eq)]
+pub enum DropCause {
+    /// A result outside 64 bits.
+    Overflow,
+    /// A divisor of 0.
+    ZeroDivisor,
+    /// A function that needs an integer has something else.
+    NotANumber,
+    /// A word of more than 1 MiB.
+    TooLong,
+    /// The identifier is a constant.
+    NotAnIdentifier,
+    /// A preference that operators alone have, for something else, or with something else than an operator.
+    NotAnOperator,
+    /// A number beyond 1,000,000,000 in a numeric preference.
+    OutOfRange,
+}
+
+/// A dropped action, by its place among the rule's actions from 1.
+#[derive(Clone, Copy, Debug, PartialEq, Eq)]
+pub struct Dropped {
+    pub action: u32,
+    pub cause: DropCause,
+}
+
+/// What a firing makes: preferences, a text, whether it halts the agent, and what was dropped.
+#[derive(Debug, Drop)]
+pub struct Made {
+    pub wishes: List<Wish>,
+    pub texts: Text,
+    pub halted: bool,
+    pub dropped: List<Dropped>,
+}
+
+/// Firings by number.
+pub trait Keeps {
+    /// The firing of a number, where it is kept.
+    fn firing(&self, number: u64) -> Option<&Firing>;
+}
+
+/// Identifiers by level.
+pub trait Leveled {
+    /// The level of an identifier, where some goal reaches it.
+    fn level_of(&self, id: Sym) -> Option<u32>;
+}
