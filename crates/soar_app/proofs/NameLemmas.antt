@@ -102,7 +102,7 @@ all_named names [] = refl
 all_named names (group ∷ groups) =
     let read : List Sym = with_operand (with_name names group.id) group.value in
     both _ _ (group_stays read groups group (both _ _ (operand_kept (with_name names group.id) group.value group.id (name_added names group.id)) (operand_added (with_name names group.id) group.value)))
-      (all_named read groups)
+    (all_named read groups)
 
 -- at most two names a group
 name_more : (names : List Sym) (name : Sym) → length (with_name names name) ≤ length names + 1

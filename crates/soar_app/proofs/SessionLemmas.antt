@@ -86,7 +86,7 @@ pub adds : (s : State) (t : Triple) (line : ℕ) (memory : WorkingMemory) (said 
 adds s t line memory said kept missing room left is =
     subst (λ o. Replied (added t line s o) (record s { memory = memory }) said said false) (sym missing) (record {
       within = ap (λ o. or_else o (first_passed (tags_to (s.memory.last + 1) ∷ []))) (not_passed (length s.memory.elements + 1) which.Elements (omega (arith, room, kept.limit)))
-        ∙ ap (λ o. or_else o None) (not_passed (s.memory.last + 1) which.Tags (omega (arith, left)));
+          ∙ ap (λ o. or_else o None) (not_passed (s.memory.last + 1) which.Tags (omega (arith, left)));
       state = ap (λ (m : WorkingMemory). record s { memory = m }) is;
       text = sym (append-nil said);
       refused = refl;
@@ -154,7 +154,7 @@ tokens_few bytes = lexed_few 0 0 bytes
 pub cut_known : (old new : Texts) (text : Lexed) (tokens : List Token) → CutWhole old new text tokens → AreTokensKnown new tokens
 cut_known old new text tokens cut =
     subst (AreTokensKnown new) (sym cut.tokens_are)
-      (subst (λ words. AreTokensKnown words (map (numbered words) text.tokens)) (sym cut.gained.words) (tokens_known old text.tokens))
+    (subst (λ words. AreTokensKnown words (map (numbered words) text.tokens)) (sym cut.gained.words) (tokens_known old text.tokens))
 
 pub cut_few : (old new : Texts) (bytes : List ℕ) (tokens : List Token) → CutWhole old new (lexed bytes) tokens → length tokens ≤ length bytes
 cut_few old new bytes tokens cut =
@@ -208,9 +208,9 @@ whole_read command s new table text tokens before after result small cut obeys =
     let words : table ≡ words_after s.words text.tokens = cut.gained.words in
     let spelled : drop 1 tokens ≡ drop 1 (map (numbered (words_after s.words text.tokens)) text.tokens) = ap (drop 1) (cut.tokens_are ∙ ap (λ ws. map (numbered ws) text.tokens) words) in
     obeys_read command s new text (order_by (words_after s.words text.tokens) (first_run command.text) (drop 1 (map (numbered (words_after s.words text.tokens)) text.tokens))) before after result
-      (gained_few s.words table text small cut.gained) (order_whole (words_after s.words text.tokens) (first_run command.text) text cut.fault)
-      (subst (λ ts. Obeys (carried_out command.line (with_words s text) (order_by (words_after s.words text.tokens) (first_run command.text) ts)) new before after result) spelled
-        (subst (λ ws. Obeys (carried_out command.line (record s { words = ws }) (order_by ws (first_run command.text) (drop 1 tokens))) new before after result) words obeys))
+    (gained_few s.words table text small cut.gained) (order_whole (words_after s.words text.tokens) (first_run command.text) text cut.fault)
+    (subst (λ ts. Obeys (carried_out command.line (with_words s text) (order_by (words_after s.words text.tokens) (first_run command.text) ts)) new before after result) spelled
+    (subst (λ ws. Obeys (carried_out command.line (record s { words = ws }) (order_by ws (first_run command.text) (drop 1 tokens))) new before after result) words obeys))
 
 -- a text with a fault, which is refused
 pub faulty_read : (command : CommandOf) (s : State) (table : Texts) (text : Lexed) (reason : LexFault) (before after : List ℕ) (result : Result Bool Stop)
@@ -220,8 +220,8 @@ pub faulty_read : (command : CommandOf) (s : State) (table : Texts) (text : Lexe
 faulty_read command s table text reason before after result small cut none obeys =
     let read : ((e : Fault) × (text.fault ≡ Some e)) × Gained s.words table text = refused_text s.words table text reason cut none in
     obeys_read command s (record s { words = table }) text None before after result
-      (gained_few s.words table text small read.1) (order_faulty (words_after s.words text.tokens) (first_run command.text) text read.0.0 read.0.1)
-      (subst (λ ws. Obeys (refused_by not_built command.line (record s { words = ws })) (record s { words = table }) before after result) read.1.words obeys)
+    (gained_few s.words table text small read.1) (order_faulty (words_after s.words text.tokens) (first_run command.text) text read.0.0 read.0.1)
+    (subst (λ ws. Obeys (refused_by not_built command.line (record s { words = ws })) (record s { words = table }) before after result) read.1.words obeys)
 
 -- ---- the refusals of an addition
 

@@ -2,7 +2,9 @@
 ghost use Rattle.std.specs.Prelude.{◌≡◌, ◌-◌, ◌&&◌, ◌||◌, [], take, drop, OnOk, IfOk};
 ghost use Rattle.defs_run.specs.Forms.{begins_mark, group_at, group_if, groups_at, marked_triple, size_of, triple_at, occurs_in, is_variable, is_value_in, are_connected, are_conditions, is_make, are_makes};
 
-use crate::token::{behind, begins_mark, begins_state, operand_at, same_symbol, variable_at, word_at};
+use crate::token::{
+    begins_mark, begins_state, behind, operand_at, same_symbol, variable_at, word_at,
+};
 use defs_run::{Group, Operand};
 use defs_text::Token;
 use soar_sym::{List, NoMemory, Sym};
@@ -125,9 +127,7 @@ fn is_make(group: Group) -> bool
 fn occurs_in(groups: &[Group], name: Sym) -> bool
     ensures { result ≡ occurs_in groups.now name }
 {
-    groups
-        .iter()
-        .any(|group| same_symbol(name, group.id) || is_variable(name, group.value))
+    groups.iter().any(|group| same_symbol(name, group.id) || is_variable(name, group.value))
 }
 
 fn is_value_in(groups: &[Group], name: Sym) -> bool

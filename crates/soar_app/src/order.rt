@@ -65,11 +65,7 @@ pub fn order_by(
     Ok(matches_of(tokens))
 }
 
-fn load_of(
-    alloc: Global,
-    table: &SymTable,
-    tokens: &[Token],
-) -> Result<Option<Order>, NoMemory>
+fn load_of(alloc: Global, table: &SymTable, tokens: &[Token]) -> Result<Option<Order>, NoMemory>
     requires known { AreTokensKnown table.now tokens.now }
     requires few { length tokens.now ≤ 2 ^ 27 }
     ensures order { IfOk result (λ order. order ≡ as_load (outline_at tokens.now)) }

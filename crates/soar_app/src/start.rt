@@ -10,14 +10,17 @@ const TOP: Sym = Sym::Ident {
     letter: b'S',
     number: 1,
 };
+
 const IO: Sym = Sym::Ident {
     letter: b'I',
     number: 1,
 };
+
 const INPUT: Sym = Sym::Ident {
     letter: b'I',
     number: 2,
 };
+
 const OUTPUT: Sym = Sym::Ident {
     letter: b'I',
     number: 3,

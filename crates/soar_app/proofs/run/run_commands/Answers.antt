@@ -13,9 +13,9 @@ returns-in_err-again-clause-prefix g c =
     let s : State = state_of c.commands.session in
     let command : CommandOf = record { line = c.next_command.new.taken; text = c.in-Some.command.now } in
     some_more _ _ _ c.commands.invariant.written.0 _ c.args.too_long c.commands.refused s command (commands_from (c.next_command.new.taken + 1) (lines_of c.next_command.new.rest.now))
-      c.commands.invariant.written.1
-      (ap (λ cs. c.commands.invariant.written.0 ++ (run_from c.args.too_long s c.commands.refused cs).text) (sym c.in-Some.ensures.command) ∙ c.commands.invariant.written.2)
-      c.in_err-again.ensures.prefix
+    c.commands.invariant.written.1
+    (ap (λ cs. c.commands.invariant.written.0 ++ (run_from c.args.too_long s c.commands.refused cs).text) (sym c.in-Some.ensures.command) ∙ c.commands.invariant.written.2)
+    c.in_err-again.ensures.prefix
 
 pub commands-preserved : goal.commands-preserved
 commands-preserved g c =
@@ -26,7 +26,7 @@ commands-preserved g c =
     let done : List ℕ = c.commands.invariant.written.0 in
     let passed : Passed (obeyed s command) new c.in-Went.again = subst (IsAnswered (obeyed s command) new) c.in-Went.is c.in_ok-again.ensures.answer in
     let step : run_from c.args.too_long s c.commands.refused (commands_from (c.commands.taken + 1) (lines_of c.commands.rest.now))
-      ≡ before (step_text (obeyed s command)) (run_from c.args.too_long new c.either-refused.result rest) =
+    ≡ before (step_text (obeyed s command)) (run_from c.args.too_long new c.either-refused.result rest) =
     ap (run_from c.args.too_long s c.commands.refused) c.in-Some.ensures.command
     ∙ goes_on c.args.too_long c.commands.refused c.in-Went.again s new command rest passed
     ∙ ap (λ b. before (step_text (obeyed s command)) (run_from c.args.too_long new b rest)) (sym c.either-refused.ensures) in
@@ -47,11 +47,11 @@ returns-in-Stopped-clause-prefix g c =
     let s : State = state_of c.commands.session in
     let command : CommandOf = record { line = c.next_command.new.taken; text = c.in-Some.command.now } in
     some_more _ _ _ c.commands.invariant.written.0 _ c.args.too_long c.commands.refused s command (commands_from (c.next_command.new.taken + 1) (lines_of c.next_command.new.rest.now))
-      c.commands.invariant.written.1
-      (ap (λ cs. c.commands.invariant.written.0 ++ (run_from c.args.too_long s c.commands.refused cs).text) (sym c.in-Some.ensures.command) ∙ c.commands.invariant.written.2)
-      c.in_ok-again.ensures.prefix
+    c.commands.invariant.written.1
+    (ap (λ cs. c.commands.invariant.written.0 ++ (run_from c.args.too_long s c.commands.refused cs).text) (sym c.in-Some.ensures.command) ∙ c.commands.invariant.written.2)
+    c.in_ok-again.ensures.prefix
 
 pub returns-clause-prefix : goal.returns-clause-prefix
 returns-clause-prefix g c =
     none_left _ _ c.commands.invariant.written.0 _ c.args.too_long c.commands.refused (state_of c.commands.session) (commands_from (c.commands.taken + 1) (lines_of c.commands.rest.now))
-      c.commands.invariant.written.1 c.commands.invariant.written.2 c.in_default.ensures.command
+    c.commands.invariant.written.1 c.commands.invariant.written.2 c.in_default.ensures.command

@@ -17,6 +17,6 @@ returns-in-Err-clause-prefix g c =
 pub returns-in-Ok-run_all-clause-complete : goal.returns-in-Ok-run_all-clause-complete
 returns-in-Ok-run_all-clause-complete g c =
     complete_run _ (λ stock. g.F.Shelf.files c.args.files.now ≡ Some stock) _ _ _ c.args.words.now.items c.in-Ok-read_script.script.too_long c.in-Ok-read_script.script.text _
-      c.in-Ok-read_script.ensures.commands
-      (c.end_of.ensures ∙ c.in-Ok-run_all.ensures.status
-      ∙ ap (λ text. (run_from c.in-Ok-read_script.script.too_long first_state false (commands_of text)).status) c.as_slice.ensures)
+    c.in-Ok-read_script.ensures.commands
+    (c.end_of.ensures ∙ c.in-Ok-run_all.ensures.status
+    ∙ ap (λ text. (run_from c.in-Ok-read_script.script.too_long first_state false (commands_of text)).status) c.as_slice.ensures)

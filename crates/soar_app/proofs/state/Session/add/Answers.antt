@@ -19,8 +19,8 @@ returns-in-Err-Twice c =
     let there : tag_of (top_triple c.args.addition) s.memory.elements ≡ Some c.in-Err-Twice.tag =
     subst (λ t. tag_of t s.memory.elements ≡ Some c.in-Err-Twice.tag) c.triple_of.ensures (adds_twice s.memory c.add.new.self c.triple_of.result true c.in-Err-Twice.field-0 c.in-Err-Twice.tag c.in-Err-Twice.field-0-is c.in-Err-Twice.ensures.answer) in
     subst (λ m. Obeys (added (top_triple c.args.addition) c.args.line s (tag_of (top_triple c.args.addition) s.memory.elements)) (record s { memory = m }) c.args.out.now c.refuse_twice.new.out c.refuse_twice.result)
-      (sym c.in-Err-Twice.ensures.err)
-      (subst (λ o. Obeys (added (top_triple c.args.addition) c.args.line s o) s c.args.out.now c.refuse_twice.new.out c.refuse_twice.result) (sym there) (c.refuse_twice.ensures s c.requires))
+    (sym c.in-Err-Twice.ensures.err)
+    (subst (λ o. Obeys (added (top_triple c.args.addition) c.args.line s o) s c.args.out.now c.refuse_twice.new.out c.refuse_twice.result) (sym there) (c.refuse_twice.ensures s c.requires))
 
 pub returns-in-Err-Full : goal.returns-in-Err-Full
 returns-in-Err-Full c =

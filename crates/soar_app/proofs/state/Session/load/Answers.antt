@@ -8,4 +8,4 @@ use Rattle.soar_app.proofs.state.Session.load.Goals as goal
 pub returns : goal.returns
 returns c =
     loads (state_of c.args.self.now) (production_of c.args.outline.now) (map rule_seen c.load.new.rules) c.args.out.now c.if-self-ge18446744073709551615.false c.requires.kept c.requires.known
-      (c.in_ok-load.ensures.ok ∙ ap (with_rule (map rule_seen c.args.self.now.rules) (c.args.self.now.last_rule + 1)) c.in_ok-production.ensures)
+    (c.in_ok-load.ensures.ok ∙ ap (with_rule (map rule_seen c.args.self.now.rules) (c.args.self.now.last_rule + 1)) c.in_ok-production.ensures)

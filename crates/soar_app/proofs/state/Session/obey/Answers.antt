@@ -14,4 +14,4 @@ returns-else-is_command c =
     let s : State = state_of c.args.self.now in
     let no : false ≡ is_command (first_run c.args.text.now) = c.if-is_command.ensures ∙ ap is_command c.first_run.ensures in
     subst (λ b. Obeys (if b then obeyed_as (record { line = c.args.line; text = c.args.text.now }) s (lexed c.args.text.now) else refused_by unknown_command c.args.line s) s c.args.out.now c.refuse_unknown.new.out c.refuse_unknown.result)
-      no (c.refuse_unknown.ensures s c.requires.kept)
+    no (c.refuse_unknown.ensures s c.requires.kept)

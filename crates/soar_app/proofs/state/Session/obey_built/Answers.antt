@@ -16,7 +16,7 @@ carry_out-requires-clause-known c =
     let text : lexed c.in_ok-text.text ≡ lexed c.args.text.now = ap lexed c.in_ok-text.ensures in
     let cut : CutWhole c.args.self.now.table c.lex.new.table (lexed c.in_ok-text.text) c.in-Ok.tokens = c.in-Ok.ensures in
     subst (AreTokensKnown c.lex.new.table) (ap (drop 1) (sym c.as_slice.ensures) ∙ sym c.behind.ensures)
-      (known_behind c.lex.new.table 1 c.in-Ok.tokens (cut_known _ _ _ _ cut))
+    (known_behind c.lex.new.table 1 c.in-Ok.tokens (cut_known _ _ _ _ cut))
 
 pub carry_out-requires-clause-few : goal.carry_out-requires-clause-few
 carry_out-requires-clause-few c =
@@ -35,5 +35,5 @@ returns c =
     let command : CommandOf = record { line = c.args.line; text = c.args.text.now } in
     let small : length s.words < 2 ^ 32 = omega (arith, c.word_count-within.ensures) in
     subst (λ text. Obeys (obeyed_as command s (lexed text)) (record s { words = c.lex.new.table }) c.args.out.now c.refuse_fault.new.out c.refuse_fault.result)
-      c.in_ok-text.ensures
-      (c.refuse_fault.ensures s command c.lex.new.table (lexed c.in_ok-text.text) refl small c.requires.kept c.in-Err.ensures)
+    c.in_ok-text.ensures
+    (c.refuse_fault.ensures s command c.lex.new.table (lexed c.in_ok-text.text) refl small c.requires.kept c.in-Err.ensures)
