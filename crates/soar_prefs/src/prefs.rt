@@ -3,6 +3,7 @@ ghost use Rattle.defs_soar.specs.Preferences.{slot_of, without_firings, without_
 ghost use Rattle.soar_prefs.specs.Memory.{Adds, without_triple};
 
 use crate::fault::PrefFault;
+use crate::rows;
 use defs_soar::Preference;
 use soar_sym::{List, NoMemory, Sym, Triple};
 use std::alloc::Global;
@@ -39,36 +40,43 @@ impl Prefs {
         ensures answer { Adds self.old self.new row result }
         ensures err { OnErr result (self.new ≡ self.old) }
     {
-        let _ = row;
-        Err(PrefFault::NoMemory)
+        if rows::is_kept_already(self.rows.as_slice(), &row) {
+            return Ok(());
+        }
+        if self.rows.len() >= self.limit as usize {
+            return Err(PrefFault::Full);
+        }
+        match self.rows.push(row) {
+            Ok(()) => Ok(()),
+            Err(_) => Err(PrefFault::NoMemory),
+        }
     }
 
     /// Takes the instance-supported rows of a firing away.
     pub fn retract(&mut self, firing: u64)
         ensures { self.new ≡ record self.old { rows = without_firings self.old.rows (firing ∷ []) } }
     {
-        let _ = firing;
+        rows::drop_firing(&mut self.rows, firing);
     }
 
     /// Takes all rows of a triple away.
     pub fn reject_now(&mut self, triple: Triple)
         ensures { self.new ≡ record self.old { rows = without_triple self.old.rows triple } }
     {
-        let _ = triple;
+        rows::drop_triple(&mut self.rows, triple);
     }
 
     /// Takes the rows of an identifier away.
     pub fn drop_id(&mut self, id: Sym)
         ensures { self.new ≡ record self.old { rows = without_id self.old.rows id } }
     {
-        let _ = id;
+        rows::drop_id(&mut self.rows, id);
     }
 
     /// The rows of a slot, in order of adding.
     pub fn slot(&self, alloc: Global, id: Sym, attr: Sym) -> Result<List<Preference>, NoMemory>
         ensures { IfOk result (λ rows. rows ≡ slot_of self.now.rows id attr) }
     {
-        let _ = (alloc, id, attr, self.rows.len());
-        Err(NoMemory)
+        rows::copy_of_slot(alloc, self.rows.as_slice(), id, attr)
     }
 }
