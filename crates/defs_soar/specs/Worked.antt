@@ -5,7 +5,12 @@ use Rattle.soar_sym.specs.declared.symbol.Sym.{Sym}
 use Rattle.soar_sym.specs.declared.symbol.Sym.TheVariants.{Ident, Word, Int}
 use Rattle.soar_rule.specs.declared.cond.Atom.TheVariants.{Const, Var}
 use Rattle.soar_rule.specs.declared.action.Func.TheVariants as func
-use Rattle.defs_match.specs.Productions.{ValueOf, atom_value, call_value, values_of, accepts, is_better_than, is_indifferent_to, makes}
+use Rattle.soar_rule.specs.declared.production.Kind.TheVariants.{User}
+use Rattle.soar_rule.specs.declared.production.Support.{Support}
+use Rattle.soar_rule.specs.declared.production.Support.TheVariants as support
+use Rattle.soar_wm.specs.declared.element.Element.{Element}
+use Rattle.defs_match.specs.Conditions.{no_more}
+use Rattle.defs_match.specs.Productions.{ValueOf, atom_value, call_value, values_of, accepts, is_better_than, is_indifferent_to, makes, ActionOf, ProductionOf}
 use Rattle.defs_soar.specs.declared.preference.PrefKind.{PrefKind}
 use Rattle.defs_soar.specs.declared.preference.PrefKind.TheVariants as kind
 use Rattle.defs_soar.specs.declared.preference.Preference.{Preference}
@@ -22,6 +27,7 @@ use Rattle.defs_soar.specs.Firing.{made_by}
 use Rattle.defs_soar.specs.Goals.{plain_triple}
 use Rattle.defs_soar.specs.Levels.{level}
 use Rattle.defs_soar.specs.Preferences.{rows_after}
+use Rattle.defs_soar.specs.Support.{operator_kind}
 use Rattle.defs_soar.specs.Settling.{settled}
 
 abbrev pub s1 : Sym
@@ -170,3 +176,23 @@ Drops =
     (record { bindings = (0, s1) ∷ []; words = words_at_firing; letters = letters_at_start; vars = Word 24 ∷ Word 25 ∷ []; needed = [] }) in
     (map (λ d. d.action) made.dropped ≡ 1 ∷ 2 ∷ 3 ∷ 4 ∷ []) × (map (λ d. d.cause) made.dropped ≡ cause.ZeroDivisor ∷ cause.NotAnIdentifier ∷ cause.NotAnOperator ∷ cause.OutOfRange ∷ [])
     × (map (λ w. w.value) made.wishes ≡ Ident 79 1 ∷ [])
+
+-- ---- support
+
+-- (state <s> ^operator <o>) with O1 selected: an action on <s> has operator support, one on <o> has not, a flag decides
+abbrev pub selected_o1 : List Element
+selected_o1 = record { tag = 8; id = s1; attr = operator_word; value = Ident 79 1; accept = false; of_state = true } ∷ []
+
+abbrev pub on : ℕ → ActionOf
+on n = makes (Var n) (const 26) (const 26) accepts
+
+abbrev pub rule_with : Support → ActionOf → ProductionOf
+rule_with flag action = record { name = Word 24; doc = None; kind = User; support = flag; vars = Word 24 ∷ Word 25 ∷ []; conditions = no_more; actions = action ∷ [] }
+
+abbrev pub is_operator_kind : Support → ActionOf → Bool
+is_operator_kind flag action = operator_kind (top_goal ∷ []) selected_o1 ((0, s1) ∷ (1, Ident 79 1) ∷ []) (rule_with flag action)
+
+abbrev pub Supported : Type 0
+Supported =
+    (is_operator_kind support.Unset (on 0) ≡ true) × (is_operator_kind support.Unset (on 1) ≡ false) × (is_operator_kind support.Operator (on 1) ≡ true)
+    × (is_operator_kind support.Instance (on 0) ≡ false) × (is_operator_kind support.Unset (makes (Var 0) (const 7) (var 1) accepts) ≡ false)
