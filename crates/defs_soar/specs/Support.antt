@@ -9,7 +9,7 @@ use Rattle.soar_rule.specs.declared.production.Support.{Support}
 use Rattle.soar_rule.specs.declared.production.Support.TheVariants as support
 use Rattle.soar_wm.specs.declared.element.Element.{Element}
 use Rattle.soar_rule.specs.declared.cond.Test.{Test}
-use Rattle.soar_rule.specs.declared.cond.Test.TheVariants.{Plain, Rel, OneOf}
+use Rattle.soar_rule.specs.declared.cond.Test.TheVariants.{Plain}
 use Rattle.soar_rule.specs.declared.cond.Field.{Field}
 use Rattle.soar_rule.specs.declared.cond.Pattern.{Pattern}
 use Rattle.defs_match.specs.Conditions.{positive, negated, conjunctive, Conditions, no_more, condition_and}
