@@ -1,5 +1,5 @@
 -- Operator support and instance support (Soar manual, persistence; the static rule is this engine's).
-use Rattle.std.specs.Prelude.{ℕ, zero, suc, Bool, true, false, ◌&&◌, ◌==◌, not, List, [], ◌∷◌, Option, Some, None, if◌then◌else◌}
+use Rattle.std.specs.Prelude.{ℕ, zero, suc, Bool, true, false, ◌&&◌, ◌==◌, not, List, [], ◌∷◌, Option, Some, None, if◌then◌else◌, ◌||◌}
 use Rattle.std.specs.List.{list_any}
 use Rattle.soar_sym.specs.Equality.{symbol_eq}
 use Rattle.soar_sym.specs.declared.symbol.Sym.{Sym}
@@ -8,6 +8,11 @@ use Rattle.soar_rule.specs.declared.cond.Atom.TheVariants.{Const, Var}
 use Rattle.soar_rule.specs.declared.production.Support.{Support}
 use Rattle.soar_rule.specs.declared.production.Support.TheVariants as support
 use Rattle.soar_wm.specs.declared.element.Element.{Element}
+use Rattle.soar_rule.specs.declared.cond.Test.{Test}
+use Rattle.soar_rule.specs.declared.cond.Test.TheVariants.{Plain}
+use Rattle.soar_rule.specs.declared.cond.Field.{Field}
+use Rattle.soar_rule.specs.declared.cond.Pattern.{Pattern}
+use Rattle.defs_match.specs.Conditions.{positive, negated, conjunctive, Conditions, no_more, condition_and}
 use Rattle.defs_match.specs.Productions.{ValueOf, atom_value, call_value, ActionOf, makes, writes, halts, ProductionOf}
 use Rattle.defs_match.specs.Testing.{Bindings, symbol_of}
 use Rattle.defs_soar.specs.declared.preference.Wish.{Wish}
@@ -46,10 +51,29 @@ abbrev pub is_other : Sym → Option Sym → Bool
 is_other operator None = false
 is_other operator (Some s) = not (symbol_eq s operator)
 
--- the identifier is bound by the conditions to something else than the operator; a constant counts as bound to itself
-abbrev pub is_bound_to_other : Bindings → Sym → Atom → Bool
-is_bound_to_other bindings operator (Var variable) = is_other operator (symbol_of variable bindings)
-is_bound_to_other bindings operator (Const s) = not (symbol_eq s operator)
+-- ---- constants that conditions bind to themselves, as identifiers in the rules of justifications
+
+abbrev pub is_plain_of : Sym → Test → Bool
+is_plain_of s (Plain (Const c)) = symbol_eq c s
+is_plain_of s other = false
+
+abbrev pub has_plain : Sym → Field → Bool
+has_plain s field = list_any (is_plain_of s) field.tests
+
+abbrev pub has_plain_in : Sym → Pattern → Bool
+has_plain_in s p = has_plain s p.id || (has_plain s p.attr || has_plain s p.value)
+
+-- the constant is a plain test of a positive condition outside negations
+abbrev pub is_plain_constant : Conditions → Sym → Bool
+is_plain_constant no_more s = false
+is_plain_constant (condition_and (positive p) conditions) s = has_plain_in s p || is_plain_constant conditions s
+is_plain_constant (condition_and (negated p) conditions) s = is_plain_constant conditions s
+is_plain_constant (condition_and (conjunctive inside) conditions) s = is_plain_constant conditions s
+
+-- the identifier is bound by the conditions to something else than the operator
+abbrev pub is_bound_to_other : Conditions → Bindings → Sym → Atom → Bool
+is_bound_to_other conditions bindings operator (Var variable) = is_other operator (symbol_of variable bindings)
+is_bound_to_other conditions bindings operator (Const s) = is_plain_constant conditions s && not (symbol_eq s operator)
 
 abbrev pub atom_value_of : Bindings → Atom → Option Sym
 atom_value_of bindings (Const s) = Some s
@@ -68,23 +92,23 @@ abbrev pub is_goal_atom : List Goal → Bindings → Atom → Bool
 is_goal_atom goals bindings a = elim (atom_value_of bindings a) [ Some s ↦ is_goal goals s | None ↦ false ]
 
 -- a make that is no preference for an operator of a goal, on something else than the operator
-abbrev pub changes_other : List Goal → Bindings → Sym → ActionOf → Bool
-changes_other goals bindings operator (makes id attr value preference) =
-    is_bound_to_other bindings operator id && not (is_operator_attribute bindings attr && is_goal_atom goals bindings id)
-changes_other goals bindings operator (writes written) = false
-changes_other goals bindings operator halts = false
+abbrev pub changes_other : List Goal → Conditions → Bindings → Sym → ActionOf → Bool
+changes_other goals conditions bindings operator (makes id attr value preference) =
+    is_bound_to_other conditions bindings operator id && not (is_operator_attribute bindings attr && is_goal_atom goals bindings id)
+changes_other goals conditions bindings operator (writes written) = false
+changes_other goals conditions bindings operator halts = false
 
-abbrev pub applies_operator : List Goal → Bindings → List ActionOf → Option Sym → Bool
-applies_operator goals bindings actions None = false
-applies_operator goals bindings actions (Some operator) = list_any (changes_other goals bindings operator) actions
+abbrev pub applies_operator : List Goal → ProductionOf → Bindings → Option Sym → Bool
+applies_operator goals production bindings None = false
+applies_operator goals production bindings (Some operator) = list_any (changes_other goals production.conditions bindings operator) production.actions
 
 abbrev pub selected_at : List Element → Option Sym → Option Sym
 selected_at elements None = None
 selected_at elements (Some goal) = operator_selected goal elements
 
 -- a firing that applies the selected operator of its match goal
-abbrev pub applies : List Goal → List Element → Bindings → List ActionOf → Bool
-applies goals elements bindings actions = applies_operator goals bindings actions (selected_at elements (goal_at_depth (match_depth goals elements) goals))
+abbrev pub applies : List Goal → List Element → Bindings → ProductionOf → Bool
+applies goals elements bindings production = applies_operator goals production bindings (selected_at elements (goal_at_depth (match_depth goals elements) goals))
 
 -- a flag decides, and without one whether an operator is applied
 abbrev pub kind_by : Support → Bool → Bool
@@ -94,7 +118,7 @@ kind_by support.Unset applying = applying
 
 -- the firing is of operator kind; the elements are those of its instance
 abbrev pub operator_kind : List Goal → List Element → Bindings → ProductionOf → Bool
-operator_kind goals elements bindings production = kind_by production.support (applies goals elements bindings production.actions)
+operator_kind goals elements bindings production = kind_by production.support (applies goals elements bindings production)
 
 -- preferences for operators of goals always have instance support
 abbrev pub row_of : List Goal → ℕ → Bool → Wish → Preference
