@@ -12,7 +12,7 @@ use std::marker::Model;
 /// Preference memory: rows in order of adding, at most so many.
 #[derive(Drop)]
 pub struct Prefs {
-    rows: List<Preference>,
+    rows: Vec<Preference>,
     limit: u32,
 }
 
@@ -21,7 +21,7 @@ impl Model for Prefs {
 
     ghost Value = { PreferenceMemory };
 
-    ghost view = { λ p. record { rows = p.rows; limit = p.limit } };
+    ghost view = { λ p. record { rows = p.rows.items; limit = p.limit } };
 }
 
 impl Prefs {
@@ -30,7 +30,7 @@ impl Prefs {
         ensures { IfOk result (λ prefs. prefs ≡ record { rows = []; limit = limit }) }
     {
         Ok(Prefs {
-            rows: List::new(alloc),
+            rows: Vec::new(alloc),
             limit,
         })
     }

@@ -29,22 +29,22 @@ fn has_wish(rows: &[Preference], wish: Wish) -> bool
 }
 
 /// Drops the instance-supported rows of a firing.
-pub fn drop_firing(rows: &mut List<Preference>, firing: u64)
-    ensures { rows.new ≡ without_firings rows.old (firing ∷ []) }
+pub fn drop_firing(rows: &mut Vec<Preference>, firing: u64)
+    ensures { rows.new.items ≡ without_firings rows.old.items (firing ∷ []) }
 {
     rows.retain(|row| !is_of_firing(firing, row));
 }
 
 /// Drops the rows of a triple.
-pub fn drop_triple(rows: &mut List<Preference>, triple: Triple)
-    ensures { rows.new ≡ without_triple rows.old triple }
+pub fn drop_triple(rows: &mut Vec<Preference>, triple: Triple)
+    ensures { rows.new.items ≡ without_triple rows.old.items triple }
 {
     rows.retain(|row| !is_of_triple(triple, row));
 }
 
 /// Drops the rows of an identifier.
-pub fn drop_id(rows: &mut List<Preference>, id: Sym)
-    ensures { rows.new ≡ without_id rows.old id }
+pub fn drop_id(rows: &mut Vec<Preference>, id: Sym)
+    ensures { rows.new.items ≡ without_id rows.old.items id }
 {
     rows.retain(|row| !is_symbol(row.wish.id, id));
 }
