@@ -117,7 +117,12 @@ fn only_an_operator_supported_row_is_kept_once(rt: HostRuntime) -> Result<(), Fa
     // Another referent or kind makes another row.
     assert!(rt; prefs.add(by_operator(4, better_than_another)) == Ok(()));
     assert!(rt; prefs.add(by_operator(5, colored(1))) == Ok(()));
-    assert!(rt; firings_are(prefs.slot(rt.alloc(), S1, COLOR)?.as_slice(), &[1, 1, 2, 4, 5]));
+    assert!(rt;
+        firings_are(
+            prefs.slot(rt.alloc(), S1, COLOR)?.as_slice(),
+            &[1, 1, 2, 4, 5]
+        )
+    );
     Ok(())
 }
 
