@@ -1,0 +1,11 @@
+ghost use Rattle.soar_choose.specs.Laws.{LeftIsSome, LeftIsAcceptable, NoneLeftIsBeaten, OwnNamesCountForNothing, OneIsChosen, OrderCountsForNothing};
+
+/// What the choice means, in the words of the subject.
+pub fn choice_laws()
+    ensures some { LeftIsSome }
+    ensures acceptable { LeftIsAcceptable }
+    ensures unbeaten { NoneLeftIsBeaten }
+    ensures own_names { OwnNamesCountForNothing }
+    ensures one { OneIsChosen }
+    ensures order { OrderCountsForNothing }
+{}
