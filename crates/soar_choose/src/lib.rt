@@ -4,6 +4,8 @@
 mod choosing;
 mod drawing;
 mod laws;
+mod rows;
+mod values;
 
 pub use choosing::choose;
 pub use defs_soar::{Choice, Mode, Scored};
