@@ -22,8 +22,8 @@ first_above_within number so_far (s ∷ left) below least =
     by (int_lt (pos number) (so_far +ℤ s.sum)) refl (first_above_within number (so_far +ℤ s.sum) left (omega (arith, ints, below)))
   where
     by : (b : Bool) → int_lt (pos number) (so_far +ℤ s.sum) ≡ b
-      → ((pos number <ℤ (so_far +ℤ s.sum) → ⊥) → first_above number (so_far +ℤ s.sum) left < length left)
-      → cond b 0 (1 + first_above number (so_far +ℤ s.sum) left) < suc (length left)
+        → ((pos number <ℤ (so_far +ℤ s.sum) → ⊥) → first_above number (so_far +ℤ s.sum) left < length left)
+        → cond b 0 (1 + first_above number (so_far +ℤ s.sum) left) < suc (length left)
     by true e rest = omega arith
     by false e rest = omega (arith, rest (not_below (pos number) (so_far +ℤ s.sum) e))
 
@@ -42,8 +42,8 @@ greatest_found z [] = inl (omega (arith, ints))
 greatest_found z (s ∷ left) = by (int_lt z s.sum) (greatest_found s.sum left) (greatest_found z left)
   where
     by : (b : Bool) → (greatest_from s.sum left ≤ℤ s.sum) ⊎ (first_with (greatest_from s.sum left) left < length left)
-      → (greatest_from z left ≤ℤ z) ⊎ (first_with (greatest_from z left) left < length left)
-      → (greatest_from (cond b s.sum z) left ≤ℤ z) ⊎ (first_with (greatest_from (cond b s.sum z) left) (s ∷ left) < suc (length left))
+        → (greatest_from z left ≤ℤ z) ⊎ (first_with (greatest_from z left) left < length left)
+        → (greatest_from (cond b s.sum z) left ≤ℤ z) ⊎ (first_with (greatest_from (cond b s.sum z) left) (s ∷ left) < suc (length left))
     by true here there = inr (found_before (greatest_from s.sum left) s left here)
     by false here (inl h) = inl h
     by false here (inr h) = inr (found_before (greatest_from z left) s left (inr h))

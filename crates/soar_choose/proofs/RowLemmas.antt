@@ -1,5 +1,5 @@
 -- What holds of each row holds of those that are left.
-use Rattle.std.proofs.Common.{◌≡◌, ℕ, ◌+◌, ◌<◌, zero, suc, Bool, true, false, cond, List, [], ◌∷◌, length, drop, get_or, ℤ, pos, ◌+ℤ◌, None, subst, ap}
+use Rattle.std.proofs.Common.{◌≡◌, ℕ, ◌+◌, ◌<◌, zero, suc, Bool, true, false, cond, List, [], ◌∷◌, length, drop, get_or, ◌+ℤ◌, None, subst, ap}
 use Rattle.std.specs.Ordering.{is_lt}
 use Rattle.std.proofs.lemmas.List.{drop_more}
 use Rattle.soar_sym.specs.Equality.{symbol_eq}

@@ -1,5 +1,5 @@
 -- What the choice means, in the words of the subject.
-use Rattle.std.specs.Prelude.{◌≡◌, ◌⊎◌, ℕ, Bool, true, false, ◌||◌, List, [], ◌∷◌, ◌++◌, map, Some, None}
+use Rattle.std.specs.Prelude.{◌≡◌, ◌⊎◌, true, false, List, [], ◌∷◌, map, Some}
 use Rattle.std.specs.List.Sorted.{IsPermutation}
 use Rattle.soar_sym.specs.Words.{Texts, IsTable}
 use Rattle.soar_sym.specs.declared.symbol.Sym.{Sym}

@@ -10,11 +10,7 @@ use soar_sym::{List, NoMemory, Sym, SymTable, is_symbol};
 use std::alloc::Global;
 
 /// What the rows of a slot leave, or the impasse that they give, in symbol order (Soar manual, preference semantics).
-pub fn choose(
-    alloc: Global,
-    table: &SymTable,
-    rows: &List<Preference>,
-) -> Result<Choice, NoMemory>
+pub fn choose(alloc: Global, table: &SymTable, rows: &List<Preference>) -> Result<Choice, NoMemory>
     requires known { AreKnown table.now rows.now }
     requires few { length rows.now ≤ 1000000 }
     requires range { AreInRange rows.now }
@@ -27,20 +23,12 @@ pub fn choose(
         [value] if !has_kind(rows, PrefKind::Prohibit, *value) => {
             Ok(Choice::Left(all_scored(alloc, rows, required.as_slice())?))
         }
-        _ => Ok(Choice::Constraint(all_scored(
-            alloc,
-            rows,
-            required.as_slice(),
-        )?)),
+        _ => Ok(Choice::Constraint(all_scored(alloc, rows, required.as_slice())?)),
     }
 }
 
 /// The values that are acceptable, and neither prohibited nor rejected.
-fn candidates(
-    alloc: Global,
-    table: &SymTable,
-    rows: &[Preference],
-) -> Result<Vec<Sym>, NoMemory>
+fn candidates(alloc: Global, table: &SymTable, rows: &[Preference]) -> Result<Vec<Sym>, NoMemory>
     requires { AreKnown table.now rows.now }
     ensures { IfOk result (λ values. values.items ≡ candidates_of table.now rows.now) }
 {
@@ -54,7 +42,8 @@ fn allowed(alloc: Global, rows: &[Preference], values: &[Sym]) -> Result<Vec<Sym
 {
     let mut left = Vec::new(alloc);
     'values: for value in values {
-        if !(has_kind(rows, PrefKind::Prohibit, *value) || has_kind(rows, PrefKind::Reject, *value))
+        if !(has_kind(rows, PrefKind::Prohibit, *value)
+            || has_kind(rows, PrefKind::Reject, *value))
         {
             left.push(*value)?;
         }
@@ -113,11 +102,7 @@ fn among(alloc: Global, rows: &[Preference], values: &[Sym]) -> Result<Choice, N
 }
 
 /// The values with their sums.
-fn all_scored(
-    alloc: Global,
-    rows: &[Preference],
-    values: &[Sym],
-) -> Result<List<Scored>, NoMemory>
+fn all_scored(alloc: Global, rows: &[Preference], values: &[Sym]) -> Result<List<Scored>, NoMemory>
     requires few { length rows.now ≤ 1000000 }
     requires range { AreInRange rows.now }
     ensures { IfOk result (λ all. all ≡ all_scored_of rows.now values.now) }
@@ -145,11 +130,7 @@ fn is_beaten(rows: &[Preference], candidates: &[Sym], value: Sym) -> bool
 }
 
 /// The candidates that no other is better than.
-fn unbeaten(
-    alloc: Global,
-    rows: &[Preference],
-    candidates: &[Sym],
-) -> Result<Vec<Sym>, NoMemory>
+fn unbeaten(alloc: Global, rows: &[Preference], candidates: &[Sym]) -> Result<Vec<Sym>, NoMemory>
     ensures { IfOk result (λ left. left.items ≡ unbeaten_of rows.now candidates.now) }
 {
     let mut left = Vec::new(alloc);
@@ -170,11 +151,7 @@ fn best_of(alloc: Global, rows: &[Preference], values: Vec<Sym>) -> Result<Vec<S
 }
 
 /// The values that are not called worst, if there are some, and else all.
-fn without_worst(
-    alloc: Global,
-    rows: &[Preference],
-    values: Vec<Sym>,
-) -> Result<Vec<Sym>, NoMemory>
+fn without_worst(alloc: Global, rows: &[Preference], values: Vec<Sym>) -> Result<Vec<Sym>, NoMemory>
     ensures { IfOk result (λ left. left.items ≡ without_worst_of rows.now values.items) }
 {
     let left = without_kind(alloc, rows, PrefKind::Worst, values.as_slice())?;
@@ -244,7 +221,9 @@ fn are_indifferent(rows: &[Preference], a: Sym, b: Sym) -> bool
 fn is_indifferent_to_all(rows: &[Preference], value: Sym, others: &[Sym]) -> bool
     ensures { result ≡ list_all (are_indifferent_of rows.now value) others.now }
 {
-    others.iter().all(|other| are_indifferent(rows, value, *other))
+    others
+        .iter()
+        .all(|other| are_indifferent(rows, value, *other))
 }
 
 /// Whether every two values are indifferent to each other.

@@ -8,8 +8,8 @@ sums-preserved c =
     let here = sums_step c.args.left.now c.sums.at c.sums-test.true c.sums.invariant.rest in
     record {
       whole = first_above_step c.args.number _ _ c.args.left.now c.sums.at c.sums-test.true
-        (omega (arith, ints, here.0, c.from-so_far.ensures))
-        (grind (arith, ints, here.0, c.from-so_far.ensures, c.from.ensures)) ∙ c.sums.invariant.whole;
+          (omega (arith, ints, here.0, c.from-so_far.ensures))
+          (grind (arith, ints, here.0, c.from-so_far.ensures, c.from.ensures)) ∙ c.sums.invariant.whole;
       rest = here.1;
       low = omega (arith, ints, here.0, c.from-so_far.ensures);
       high = omega (arith, ints, here.0, c.from-so_far.ensures);

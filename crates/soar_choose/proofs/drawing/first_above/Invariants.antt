@@ -1,4 +1,4 @@
-use Rattle.std.proofs.Common.{◌≡◌, ◌+◌, ◌*◌, drop, ℤ, pos, neg_ℤ, ◌≤ℤ◌}
+use Rattle.std.proofs.Common.{◌≡◌, ◌+◌, ◌*◌, drop, pos, neg_ℤ, ◌≤ℤ◌}
 use Rattle.defs_soar.specs.Draw.{first_above}
 use Rattle.soar_choose.specs.Rows.{AreSumsWithin}
 use Rattle.soar_choose.proofs.drawing.first_above.Given as goal

@@ -1,7 +1,7 @@
 use Rattle.std.proofs.Common.{arith}
 use Rattle.std.proofs.lemmas.Int.{ints}
 use Rattle.std.proofs.lemmas.List.{drop_more}
-use Rattle.std.proofs.Common.{ap, ◌∙◌, sym}
+use Rattle.std.proofs.Common.{ap}
 use Rattle.defs_soar.specs.Draw.{total_of}
 use Rattle.soar_choose.proofs.DrawLemmas.{no_candidate, sums_step}
 use Rattle.soar_choose.proofs.drawing.total.Goals as goal

@@ -1,4 +1,4 @@
-use Rattle.std.proofs.Common.{◌≡◌, ◌*◌, drop, ℤ, pos, neg_ℤ, ◌+ℤ◌, ◌≤ℤ◌}
+use Rattle.std.proofs.Common.{◌≡◌, ◌*◌, drop, pos, neg_ℤ, ◌+ℤ◌, ◌≤ℤ◌}
 use Rattle.defs_soar.specs.Draw.{total_of}
 use Rattle.soar_choose.specs.Rows.{AreSumsWithin}
 use Rattle.soar_choose.proofs.drawing.total.Given as goal

@@ -1,6 +1,5 @@
 use Rattle.std.proofs.Common.{◌≡◌, drop}
 use Rattle.defs_soar.specs.Choice.{values_of}
-use Rattle.soar_choose.specs.Parts.{AreSymbolsKnown}
 use Rattle.soar_choose.proofs.values.values_of.Given as goal
 
 abbrev pub invariant-rows : goal.invariant-rows
