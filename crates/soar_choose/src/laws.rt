@@ -1,7 +1,8 @@
-ghost use Rattle.soar_choose.specs.Laws.{LeftIsSome, OneIsChosen};
+ghost use Rattle.soar_choose.specs.Laws.{LeftIsSome, NoneLeftIsBeaten, OneIsChosen};
 
 /// What the choice means, in the words of the subject.
 pub fn choice_laws()
     ensures some { LeftIsSome }
+    ensures unbeaten { NoneLeftIsBeaten }
     ensures one { OneIsChosen }
 {}
