@@ -41,7 +41,7 @@ both : (a b : Bool) → (a && b) ≡ true → (a ≡ true) × (b ≡ true)
 both true b h = (refl, h)
 both false b h = cc
 
-in_filter : (p : Sym → Bool) (xs : List Sym) (v : Sym) → has_symbol (filter p xs) v ≡ true → (p v ≡ true) × (has_symbol xs v ≡ true)
+pub in_filter : (p : Sym → Bool) (xs : List Sym) (v : Sym) → has_symbol (filter p xs) v ≡ true → (p v ≡ true) × (has_symbol xs v ≡ true)
 in_filter p xs v h = both (p v) (has_symbol xs v) (sym (any-filter_same (symbol_eq v) p (p v) (λ k e. ap p (sym (symbol_same v k e))) xs) ∙ h)
 
 in_if_some : (xs ys : List Sym) (v : Sym) → has_symbol (if_some xs ys) v ≡ true → (has_symbol xs v ≡ true) ⊎ (has_symbol ys v ≡ true)
@@ -51,7 +51,7 @@ in_if_some (x ∷ xs) ys v h = inl h
 in_part : (p : Sym → Bool) (xs : List Sym) (v : Sym) → has_symbol (if_some (filter p xs) xs) v ≡ true → has_symbol xs v ≡ true
 in_part p xs v h = elim (in_if_some (filter p xs) xs v h) [ inl k ↦ (in_filter p xs v k).1 | inr k ↦ k ]
 
-values_scored : (rows : List Preference) (xs : List Sym) → values_left (all_scored rows xs) ≡ xs
+pub values_scored : (rows : List Preference) (xs : List Sym) → values_left (all_scored rows xs) ≡ xs
 values_scored rows [] = refl
 values_scored rows (x ∷ xs) = ap (λ ys. x ∷ ys) (values_scored rows xs)
 

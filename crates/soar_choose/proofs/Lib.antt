@@ -1,3 +1,4 @@
+mod AcceptLemmas
 mod DrawLemmas
-mod RowLemmas
 mod LawLemmas
+mod RowLemmas
