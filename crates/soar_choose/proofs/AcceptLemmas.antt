@@ -39,9 +39,10 @@ in_with words (t ∷ xs) s v h = by (symbol_eq s t) (is_lt (symbol_cmp words s t
     after : (symbol_eq v s ≡ true) ⊎ (has_symbol xs v ≡ true) → (symbol_eq v s ≡ true) ⊎ ((symbol_eq v t || has_symbol xs v) ≡ true)
     after (inl e) = inl e
     after (inr e) = inr (second (symbol_eq v t) (has_symbol xs v) e)
+
     by : (b d : Bool) → has_symbol (cond b (t ∷ xs) (cond d (s ∷ t ∷ xs) (t ∷ with_symbol words xs s))) v ≡ true
-      → (has_symbol (with_symbol words xs s) v ≡ true → (symbol_eq v s ≡ true) ⊎ (has_symbol xs v ≡ true))
-      → (symbol_eq v s ≡ true) ⊎ ((symbol_eq v t || has_symbol xs v) ≡ true)
+        → (has_symbol (with_symbol words xs s) v ≡ true → (symbol_eq v s ≡ true) ⊎ (has_symbol xs v ≡ true))
+        → (symbol_eq v s ≡ true) ⊎ ((symbol_eq v t || has_symbol xs v) ≡ true)
     by true d k rest = inr k
     by false true k rest = either (symbol_eq v s) (symbol_eq v t || has_symbol xs v) k
     by false false k rest =
@@ -53,8 +54,8 @@ in_values words k [] v h = cc
 in_values words k (row ∷ rows) v h = by (is_kind row.wish.kind k) h (in_values words k rows v)
   where
     by : (b : Bool) → has_symbol (cond b (with_symbol words (values_of words k rows) row.wish.value) (values_of words k rows)) v ≡ true
-      → (has_symbol (values_of words k rows) v ≡ true → has_kind rows k v ≡ true)
-      → ((b && symbol_eq row.wish.value v) || has_kind rows k v) ≡ true
+        → (has_symbol (values_of words k rows) v ≡ true → has_kind rows k v ≡ true)
+        → ((b && symbol_eq row.wish.value v) || has_kind rows k v) ≡ true
     by true e rest =
         elim (in_with words (values_of words k rows) row.wish.value v e)
         [ inl q ↦ ap (λ b. b || has_kind rows k v) (turned v row.wish.value q) | inr q ↦ second (symbol_eq row.wish.value v) (has_kind rows k v) (rest q) ]

@@ -1,19 +1,16 @@
 -- What is left stands in each list that it was taken from.
-use Rattle.std.proofs.Common.{◌≡◌, ◌⊎◌, inl, inr, ℕ, ◌==◌, Bool, true, false, cond, not, ◌&&◌, ◌||◌, List, [], ◌∷◌, map, filter, ℤ, refl, sym, ◌∙◌, ap, subst, arith}
+use Rattle.std.proofs.Common.{◌≡◌, ◌⊎◌, inl, inr, ℕ, ◌==◌, Bool, true, false, cond, not, ◌&&◌, ◌||◌, List, [], ◌∷◌, filter, ℤ, refl, sym, ◌∙◌, ap, arith}
 use Rattle.std.specs.List.{list_any}
-use Rattle.std.specs.Ordering.{int_eq, is_lt}
+use Rattle.std.specs.Ordering.{int_eq}
 use Rattle.std.proofs.lemmas.Map.Views.{any-filter_same}
 use Rattle.soar_sym.specs.Equality.{symbol_eq}
-use Rattle.soar_sym.specs.Order.{symbol_cmp}
-use Rattle.soar_sym.specs.Words.{Texts}
 use Rattle.soar_sym.specs.declared.symbol.Sym.{Sym}
 use Rattle.soar_sym.specs.declared.symbol.Sym.TheVariants.{Ident, Word, Int}
 use Rattle.defs_soar.specs.declared.preference.PrefKind.TheVariants as kind
 use Rattle.defs_soar.specs.declared.preference.Preference.{Preference}
 use Rattle.defs_soar.specs.declared.choice.Scored.{Scored}
-use Rattle.defs_soar.specs.declared.choice.Choice.{Choice}
 use Rattle.defs_soar.specs.declared.choice.Choice.TheVariants as choice
-use Rattle.defs_soar.specs.Choice.{all_scored, scored, among, among_unbeaten, among_candidates, all_indifferent, best_of, without_worst, if_some, has_kind, unbeaten, is_beaten, beats, candidates, choice_of, with_required, values_of}
+use Rattle.defs_soar.specs.Choice.{all_scored, among, among_unbeaten, among_candidates, all_indifferent, best_of, without_worst, if_some, has_kind, unbeaten, is_beaten, beats, candidates, with_required}
 use Rattle.defs_soar.specs.Sorted.{has_symbol}
 use Rattle.soar_choose.specs.Laws.{values_left, NoneLeftIsBeaten}
 
@@ -94,7 +91,7 @@ any_has p (x ∷ xs) a h k = by (symbol_eq a x) refl h (any_has p xs a)
 pub none_left_is_beaten : NoneLeftIsBeaten
 none_left_is_beaten words rows left a b e none ha hb =
     by (beats rows a b) refl (in_filter (λ v. not (is_beaten rows (candidates words rows) v)) (candidates words rows) b
-      (left_candidates rows (candidates words rows) left b (ap (with_required words rows) (sym none) ∙ e) hb)).0
+    (left_candidates rows (candidates words rows) left b (ap (with_required words rows) (sym none) ∙ e) hb)).0
   where
     by : (t : Bool) → beats rows a b ≡ t → not (is_beaten rows (candidates words rows) b) ≡ true → t ≡ false
     by false f h = refl
