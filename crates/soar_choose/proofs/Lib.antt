@@ -1,0 +1,4 @@
+mod AcceptLemmas
+mod DrawLemmas
+mod LawLemmas
+mod RowLemmas

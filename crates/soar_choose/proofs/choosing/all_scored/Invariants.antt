@@ -1,0 +1,6 @@
+use Rattle.std.proofs.Common.{◌≡◌, map, take}
+use Rattle.defs_soar.specs.Choice.{scored}
+use Rattle.soar_choose.proofs.choosing.all_scored.Given as goal
+
+abbrev pub invariant-values : goal.invariant-values
+invariant-values l = l.all ≡ map (scored l.rows) (take l.value-index l.values)

@@ -1,0 +1,9 @@
+use Rattle.soar_choose.proofs.AcceptLemmas.{left_is_acceptable}
+use Rattle.soar_choose.proofs.LawLemmas.{none_left_is_beaten}
+use Rattle.soar_choose.proofs.laws.choice_laws.Goals as goal
+
+pub returns-clause-acceptable : goal.returns-clause-acceptable
+returns-clause-acceptable c = left_is_acceptable
+
+pub returns-clause-unbeaten : goal.returns-clause-unbeaten
+returns-clause-unbeaten c = none_left_is_beaten

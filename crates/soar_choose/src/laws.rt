@@ -1,0 +1,9 @@
+ghost use Rattle.soar_choose.specs.Laws.{LeftIsSome, LeftIsAcceptable, NoneLeftIsBeaten, OneIsChosen};
+
+/// What the choice means, in the words of the subject.
+pub fn choice_laws()
+    ensures some { LeftIsSome }
+    ensures acceptable { LeftIsAcceptable }
+    ensures unbeaten { NoneLeftIsBeaten }
+    ensures one { OneIsChosen }
+{}
