@@ -31,7 +31,7 @@ abbrev pub AreInRange : List Preference → Type 0
 AreInRange [] = Unit {0}
 AreInRange (row ∷ rows) = IsNumberInRange row.wish.kind row.wish.referent × AreInRange rows
 
--- each sum is at most 10^15 in size, and there are at most 1,000,000
+-- each sum is at most 10^15 in size
 abbrev pub AreSumsWithin : List Scored → Type 0
 AreSumsWithin [] = Unit {0}
 AreSumsWithin (s ∷ left) = IsWithin 1000000000000000 s.sum × AreSumsWithin left
