@@ -67,7 +67,7 @@ new_identifier variable letter naming =
     let number = last_of naming.letters letter + 1 in
     record { value = Ok (Ident letter number); naming = with_new variable letter number naming }
 
--- a variable that the conditions don't bind becomes a new identifier where it is first met
+-- the first use of an unbound variable makes a new identifier, and later uses mean the same one
 abbrev pub variable_value : ℕ → Naming → Option Sym → Evaluated Sym
 variable_value variable naming (Some s) = record { value = Ok s; naming = naming }
 variable_value variable naming None = new_identifier variable (letter_from (text_of_name naming.words (name_at naming.vars variable))) naming

@@ -105,7 +105,7 @@ retract_event l = retracts l.number l.name l.instance
 abbrev pub counted : Counts → ℕ → ℕ → Counts
 counted counts firings retractions = record counts { waves = suc counts.waves; firings = firings; retractions = counts.retractions + retractions }
 
--- it retracts in order of firing number and fires in order of the conflict set
+-- retractions come first, the oldest firing before the others; then firings, by rule and by tags
 abbrev pub wave_of : Agent → Work → Step
 wave_of a w =
     let fired = with_firings a.holding.goals (record { names = a.names; last_firing = a.counts.firings; rows = []; live = []; events = []; halted = false }) w.fired in
