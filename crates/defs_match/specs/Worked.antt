@@ -8,7 +8,7 @@ use Rattle.soar_rule.specs.declared.cond.Test.{Test}
 use Rattle.soar_rule.specs.declared.cond.Test.TheVariants.{Plain, Rel}
 use Rattle.soar_rule.specs.declared.cond.Pattern.{Pattern}
 use Rattle.soar_wm.specs.declared.element.Element.{Element}
-use Rattle.defs_match.specs.Conditions.{Condition, positive, negated, conjunctive, all_of}
+use Rattle.soar_rule.specs.Conditions.{Condition, positive, negated, conjunctive, all_of}
 use Rattle.defs_match.specs.Rows.{rows}
 
 abbrev pub pattern_of : Bool → ℕ → ℕ → List Test → Pattern

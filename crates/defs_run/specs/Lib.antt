@@ -1,6 +1,5 @@
 pub mod Commands
 pub mod Forms
-pub mod Limits
 pub mod Loading
 pub mod Said
 pub mod Session

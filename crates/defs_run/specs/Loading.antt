@@ -10,8 +10,9 @@ use Rattle.soar_rule.specs.declared.cond.Field.{Field}
 use Rattle.soar_rule.specs.declared.cond.Pattern.{Pattern}
 use Rattle.soar_rule.specs.declared.production.Kind.TheVariants.{User}
 use Rattle.soar_rule.specs.declared.production.Support.TheVariants.{Unset}
-use Rattle.defs_match.specs.Conditions.{Condition, positive, all_of}
-use Rattle.defs_match.specs.Productions.{atom_value, accepts, ActionOf, makes, ProductionOf, RuleOf}
+use Rattle.soar_rule.specs.Conditions.{Condition, positive, all_of}
+use Rattle.soar_rule.specs.Productions.{atom_value, accepts, ActionOf, makes, ProductionOf}
+use Rattle.defs_match.specs.Rules.{RuleOf}
 use Rattle.defs_run.specs.declared.form.Operand.{Operand}
 use Rattle.defs_run.specs.declared.form.Operand.TheVariants.{Variable, Constant}
 use Rattle.defs_run.specs.declared.form.Group.{Group}

@@ -10,7 +10,8 @@ use Rattle.defs_text.specs.Lexing.{Lexed, lexed}
 use Rattle.defs_text.specs.Numbered.{numbered, words_after}
 use Rattle.defs_text.specs.Symbols.{instance_text}
 use Rattle.defs_text.specs.declared.token.Token.{Token}
-use Rattle.defs_match.specs.Productions.{ProductionOf, RuleOf}
+use Rattle.soar_rule.specs.Productions.{ProductionOf}
+use Rattle.defs_match.specs.Rules.{RuleOf}
 use Rattle.defs_match.specs.Conflict.{conflict}
 use Rattle.defs_match.specs.declared.instance.Instance.{Instance}
 use Rattle.defs_run.specs.Commands.{CommandOf, first_run}
@@ -19,7 +20,7 @@ use Rattle.defs_run.specs.declared.form.Outline.{Outline}
 use Rattle.defs_run.specs.declared.form.Addition.{Addition}
 use Rattle.defs_run.specs.declared.form.Order.{Order}
 use Rattle.defs_run.specs.declared.form.Order.TheVariants.{Load, Add, Matches}
-use Rattle.defs_run.specs.Limits.{Drawn, words_to, elements_to, tags_to, counts_to}
+use Rattle.defs_soar.specs.Limits.{Drawn, words_to, elements_to, tags_to, counts_to}
 use Rattle.defs_run.specs.Loading.{production_of, with_rule}
 use Rattle.defs_run.specs.Said.{Line, always, Refusal, unknown_command, not_built, already_there, refusal_text}
 use Rattle.defs_run.specs.Stage.{is_sp, is_add_wme, is_command}

@@ -3,9 +3,9 @@ use Rattle.std.specs.Prelude.{ℕ, ◌^◌, ◌||◌, nat_lt, Bool, true, false,
 use Rattle.soar_edge.specs.declared.status.Status.{Status}
 use Rattle.soar_edge.specs.declared.status.Status.TheVariants as status
 use Rattle.soar_edge.specs.declared.filed.Filed.{Filed}
-use Rattle.defs_run.specs.declared.limit.Which.{Which}
+use Rattle.defs_soar.specs.declared.limit.Which.{Which}
 use Rattle.defs_run.specs.Commands.{CommandOf, commands_of, whole_part}
-use Rattle.defs_run.specs.Limits.{first_passed, limit_text}
+use Rattle.defs_soar.specs.Limits.{first_passed, limit_text}
 use Rattle.defs_run.specs.Said.{always, rendered}
 use Rattle.defs_run.specs.Session.{State, Reply, obeyed, first_state}
 

@@ -1,13 +1,11 @@
-//! What a run of the program means: commands, the state of a session, limits, and the transcript.
+//! What a run of the program means: commands, the state of a session, and the transcript.
 #![tactic(auto)]
 
 ghost use Rattle.defs_run.specs.Worked as worked;
 
 mod form;
-mod limit;
 
 pub use form::{Addition, Group, Operand, Order, Outline};
-pub use limit::Which;
 
 /// Whole inputs with what is written for them and the status, as they were worked out by hand.
 pub fn worked_inputs()

@@ -9,7 +9,7 @@ use Rattle.soar_rule.specs.declared.cond.Atom.TheVariants.{Const, Var}
 use Rattle.defs_text.specs.Bytes.{is_capital, is_small}
 use Rattle.defs_text.specs.Numbered.{word_in}
 use Rattle.defs_match.specs.Testing.{Bindings, symbol_of}
-use Rattle.defs_match.specs.Productions.{ValueOf, atom_value, call_value, ValuesOf, no_values, value_and, PreferenceOf, accepts, rejects, requires_it, prohibits, is_best, is_worst, is_indifferent, is_better_than, is_worse_than, is_indifferent_to, ActionOf, makes, writes, halts}
+use Rattle.soar_rule.specs.Productions.{ValueOf, atom_value, call_value, ValuesOf, no_values, value_and, PreferenceOf, accepts, rejects, requires_it, prohibits, is_best, is_worst, is_indifferent, is_better_than, is_worse_than, is_indifferent_to, ActionOf, makes, writes, halts}
 use Rattle.defs_soar.specs.declared.preference.PrefKind.{PrefKind}
 use Rattle.defs_soar.specs.declared.preference.PrefKind.TheVariants as kind
 use Rattle.defs_soar.specs.declared.preference.Wish.{Wish}
@@ -19,19 +19,16 @@ use Rattle.defs_soar.specs.declared.firing.Dropped.{Dropped}
 use Rattle.defs_soar.specs.declared.goal.Goal.{Goal}
 use Rattle.defs_soar.specs.Functions.{Computed, gives, spells, fails, computed, plain_text}
 use Rattle.defs_soar.specs.Goals.{is_operator_slot}
+use Rattle.defs_soar.specs.Limits.{Drawn, identifiers_to, words_to}
 use Rattle.defs_soar.specs.Values.{is_identifier, is_kind}
 
--- what a firing needed on the way: a new identifier of a letter, under a number, or so many words
-pub data Needed : Type 0 where
-  identifier_to words_to : ℕ → Needed
-
--- what the variables stand for, the table of words, the letters, the names of variables, and what was needed so far
+-- what the variables stand for, the table of words, the letters, the names of variables, and what was drawn so far
 pub record Naming : Type 0 where
   pub bindings : Bindings
   pub words : Texts
   pub letters : List ℕ
   pub vars : List Sym
-  pub needed : List Needed
+  pub drawn : List Drawn
 
 -- a value, or why there is none, and the naming after it
 pub record Evaluated (A : Type 0) : Type 0 where
@@ -59,7 +56,7 @@ with_new variable letter number naming =
     record naming {
       bindings = naming.bindings ++ (variable, Ident letter number) ∷ [];
       letters = with_last naming.letters letter number;
-      needed = naming.needed ++ identifier_to number ∷ [];
+      drawn = naming.drawn ++ identifiers_to number ∷ [];
     }
 
 abbrev pub new_identifier : ℕ → ℕ → Naming → Evaluated Sym
@@ -80,7 +77,7 @@ atom_of_action (Var variable) naming = variable_value variable naming (symbol_of
 
 abbrev pub with_word : List ℕ → Naming → Naming
 with_word text naming =
-    record naming { words = with_text naming.words text; needed = naming.needed ++ words_to (length (with_text naming.words text)) ∷ [] }
+    record naming { words = with_text naming.words text; drawn = naming.drawn ++ words_to (length (with_text naming.words text)) ∷ [] }
 
 abbrev pub as_evaluated : Naming → Computed → Evaluated Sym
 as_evaluated naming (gives s) = record { value = Ok s; naming = naming }

@@ -5,7 +5,7 @@ use Rattle.soar_sym.specs.declared.symbol.Sym.{Sym}
 use Rattle.soar_sym.specs.declared.symbol.Triple.{Triple}
 use Rattle.defs_soar.specs.declared.goal.Goal.{Goal}
 use Rattle.defs_soar.specs.Goals.{goal_ids}
-use Rattle.defs_soar.specs.Repeat.{until_same}
+use Rattle.soar_rule.specs.Repeat.{until_same}
 use Rattle.defs_soar.specs.Sorted.{has_symbol}
 use Rattle.defs_soar.specs.Values.{is_identifier}
 

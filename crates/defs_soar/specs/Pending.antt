@@ -5,7 +5,7 @@ use Rattle.soar_rule.specs.declared.production.Kind.{Kind}
 use Rattle.soar_rule.specs.declared.production.Kind.TheVariants as kind
 use Rattle.soar_wm.specs.declared.element.Element.{Element}
 use Rattle.defs_match.specs.Conflict.{instance_of, conflict}
-use Rattle.defs_match.specs.Productions.{RuleOf}
+use Rattle.defs_match.specs.Rules.{RuleOf}
 use Rattle.defs_match.specs.Rows.{Row, rows}
 use Rattle.defs_match.specs.Testing.{Bindings}
 use Rattle.defs_match.specs.declared.instance.Instance.{Instance}

@@ -10,7 +10,7 @@ use Rattle.defs_soar.specs.declared.goal.Goal.{Goal}
 use Rattle.defs_soar.specs.Goals.{is_goal}
 use Rattle.defs_soar.specs.Held.{held}
 use Rattle.defs_soar.specs.Levels.{reaches, level_in, is_level_one}
-use Rattle.defs_soar.specs.Repeat.{until_same}
+use Rattle.soar_rule.specs.Repeat.{until_same}
 use Rattle.defs_soar.specs.Sorted.{in_order}
 use Rattle.defs_soar.specs.Values.{has_triple_among}
 

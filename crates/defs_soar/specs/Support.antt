@@ -12,8 +12,8 @@ use Rattle.soar_rule.specs.declared.cond.Test.{Test}
 use Rattle.soar_rule.specs.declared.cond.Test.TheVariants.{Plain}
 use Rattle.soar_rule.specs.declared.cond.Field.{Field}
 use Rattle.soar_rule.specs.declared.cond.Pattern.{Pattern}
-use Rattle.defs_match.specs.Conditions.{positive, negated, conjunctive, Conditions, no_more, condition_and}
-use Rattle.defs_match.specs.Productions.{ValueOf, atom_value, call_value, ActionOf, makes, writes, halts, ProductionOf}
+use Rattle.soar_rule.specs.Conditions.{positive, negated, conjunctive, Conditions, no_more, condition_and}
+use Rattle.soar_rule.specs.Productions.{ValueOf, atom_value, call_value, ActionOf, makes, writes, halts, ProductionOf}
 use Rattle.defs_match.specs.Testing.{Bindings, symbol_of}
 use Rattle.defs_soar.specs.declared.preference.Wish.{Wish}
 use Rattle.defs_soar.specs.declared.preference.Preference.{Preference}

@@ -12,7 +12,7 @@ use Rattle.defs_soar.specs.Events.{Event, retracts, fires, makes_row, drops, wri
 use Rattle.defs_soar.specs.Firing.{MadeSoFar, made_by}
 use Rattle.defs_soar.specs.Pending.{Firable, Work, pending, is_none, depth_of, is_of_operator_kind}
 use Rattle.defs_soar.specs.Preferences.{rows_after}
-use Rattle.defs_soar.specs.Repeat.{Turn, ends, goes_on, turns}
+use Rattle.soar_rule.specs.Repeat.{Turn, ends, goes_on, turns}
 use Rattle.defs_soar.specs.Settling.{settled, kept_triples, elements_after}
 use Rattle.defs_soar.specs.Support.{goal_at_depth, row_of}
 
@@ -59,7 +59,7 @@ firing_events number f rows made =
 abbrev pub with_firing : List Goal → Fired → Firable → Fired
 with_firing goals so_far f =
     let number = suc so_far.last_firing in
-    let made = made_by goals f.rule.production.actions (record { bindings = f.bindings; words = so_far.names.words; letters = so_far.names.letters; vars = f.rule.production.vars; needed = [] }) in
+    let made = made_by goals f.rule.production.actions (record { bindings = f.bindings; words = so_far.names.words; letters = so_far.names.letters; vars = f.rule.production.vars; drawn = [] }) in
     let rows = map (row_of goals number (is_of_operator_kind goals f)) made.wishes in
     record {
       names = record so_far.names { words = made.naming.words; letters = made.naming.letters };

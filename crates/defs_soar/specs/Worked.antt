@@ -11,8 +11,9 @@ use Rattle.soar_rule.specs.declared.production.Support.TheVariants as support
 use Rattle.soar_wm.specs.declared.element.Element.{Element}
 use Rattle.soar_rule.specs.declared.cond.Test.TheVariants.{Plain}
 use Rattle.soar_wm.specs.WorkingMemory.{triple_of}
-use Rattle.defs_match.specs.Conditions.{positive, no_more, condition_and}
-use Rattle.defs_match.specs.Productions.{ValueOf, atom_value, call_value, values_of, accepts, is_better_than, is_indifferent_to, makes, ActionOf, ProductionOf, RuleOf}
+use Rattle.soar_rule.specs.Conditions.{positive, no_more, condition_and}
+use Rattle.soar_rule.specs.Productions.{ValueOf, atom_value, call_value, values_of, accepts, is_better_than, is_indifferent_to, makes, ActionOf, ProductionOf}
+use Rattle.defs_match.specs.Rules.{RuleOf}
 use Rattle.defs_soar.specs.declared.preference.PrefKind.{PrefKind}
 use Rattle.defs_soar.specs.declared.preference.PrefKind.TheVariants as kind
 use Rattle.defs_soar.specs.declared.preference.Preference.{Preference}
@@ -165,7 +166,7 @@ abbrev pub Fires : Type 0
 Fires =
     let made = made_by (top_goal ∷ [])
     (makes (Var 0) (const 26) (var 1) accepts ∷ makes (Var 1) (const 26) (call_value func.Plus (values_of (atom_value (Const (Int (pos 1))) ∷ atom_value (Const (Int (pos 2))) ∷ []))) accepts ∷ [])
-    (record { bindings = (0, s1) ∷ []; words = words_at_firing; letters = letters_at_start; vars = Word 24 ∷ Word 25 ∷ []; needed = [] }) in
+    (record { bindings = (0, s1) ∷ []; words = words_at_firing; letters = letters_at_start; vars = Word 24 ∷ Word 25 ∷ []; drawn = [] }) in
     (map (λ w. w.id) made.wishes ≡ s1 ∷ Ident 79 1 ∷ []) × (map (λ w. w.value) made.wishes ≡ Ident 79 1 ∷ Int (pos 3) ∷ []) × (made.dropped ≡ [])
 
 -- division by zero, a constant identifier, a preference that only operators have, and a number beyond the range
@@ -177,7 +178,7 @@ Drops =
     ∷ makes (Var 0) (const 26) (var 1) (is_better_than (var 0))
     ∷ makes (Var 0) (const 7) (var 1) (is_indifferent_to (atom_value (Const (Int (pos 1000000001)))))
     ∷ makes (Var 0) (const 26) (var 1) accepts ∷ [])
-    (record { bindings = (0, s1) ∷ []; words = words_at_firing; letters = letters_at_start; vars = Word 24 ∷ Word 25 ∷ []; needed = [] }) in
+    (record { bindings = (0, s1) ∷ []; words = words_at_firing; letters = letters_at_start; vars = Word 24 ∷ Word 25 ∷ []; drawn = [] }) in
     (map (λ d. d.action) made.dropped ≡ 1 ∷ 2 ∷ 3 ∷ 4 ∷ []) × (map (λ d. d.cause) made.dropped ≡ cause.ZeroDivisor ∷ cause.NotAnIdentifier ∷ cause.NotAnOperator ∷ cause.OutOfRange ∷ [])
     × (map (λ w. w.value) made.wishes ≡ Ident 79 1 ∷ [])
 

@@ -1,6 +1,6 @@
 ghost use Rattle.std.specs.Prelude.{◌≡◌, ◌++◌, map, IfOk, OnOk};
 ghost use Rattle.defs_match.specs.Conflict as meaning;
-ghost use Rattle.defs_match.specs.Productions.{rule_seen};
+ghost use Rattle.defs_match.specs.Rules.{rule_seen};
 
 use crate::extension::rows;
 use crate::row::Row;

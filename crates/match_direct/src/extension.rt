@@ -1,6 +1,6 @@
 // The rows that conditions make of rows.
 ghost use Rattle.std.specs.Prelude.{◌≡◌, [], ◌∷◌, ◌++◌, if◌then◌else◌, flat_map, length, IfOk, OnOk};
-ghost use Rattle.defs_match.specs.Conditions.{condition, conditions};
+ghost use Rattle.soar_rule.specs.Conditions.{condition, conditions};
 ghost use Rattle.defs_match.specs.Rows.{by_element, extend, only_without, rows, rows_after, rows_from};
 
 use crate::row::Row;

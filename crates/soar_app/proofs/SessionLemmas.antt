@@ -3,11 +3,12 @@ use Rattle.std.proofs.Common.{◌≡◌, ℕ, zero, suc, drop, ◌+◌, ◌-◌,
 use Rattle.std.proofs.lemmas.Bool.Decides.{nat_tests}
 use Rattle.soar_sym.specs.Words.{Texts, IsKnown}
 use Rattle.soar_sym.specs.declared.symbol.Sym.{Sym}
-use Rattle.defs_match.specs.Productions.{ProductionOf, RuleOf}
-use Rattle.defs_run.specs.Limits.{Drawn, words_to, tags_to, limit_of, passes, or_else, first_passed}
+use Rattle.soar_rule.specs.Productions.{ProductionOf}
+use Rattle.defs_match.specs.Rules.{RuleOf}
+use Rattle.defs_soar.specs.Limits.{Drawn, words_to, tags_to, limit_of, passes, or_else, first_passed}
 use Rattle.defs_run.specs.Loading.{is_named, without_name, with_rule}
-use Rattle.defs_run.specs.declared.limit.Which.{Which}
-use Rattle.defs_run.specs.declared.limit.Which.TheVariants as which
+use Rattle.defs_soar.specs.declared.limit.Which.{Which}
+use Rattle.defs_soar.specs.declared.limit.Which.TheVariants as which
 use Rattle.std.specs.Prelude.{Result, Ok, Err}
 use Rattle.std.proofs.lemmas.List.{append-nil, length-map}
 use Rattle.soar_sym.specs.declared.symbol.Triple.{Triple}

@@ -7,10 +7,10 @@ use Rattle.soar_edge.specs.declared.filed.Filed.{Filed}
 use Rattle.soar_edge.specs.declared.status.Status.{Status}
 use Rattle.soar_edge.specs.declared.status.Status.TheVariants as status
 use Rattle.defs_run.specs.Commands.{CommandOf, commands_of, whole_part}
-use Rattle.defs_run.specs.Limits.{first_passed}
+use Rattle.defs_soar.specs.Limits.{first_passed}
 use Rattle.defs_run.specs.Session.{State, obeyed, first_state}
 use Rattle.defs_run.specs.Transcript.{run_from, input_run, transcript, usage_text}
-use Rattle.defs_run.specs.declared.limit.Which.{Which}
+use Rattle.defs_soar.specs.declared.limit.Which.{Which}
 use Rattle.soar_app.specs.Answers.{IsComplete}
 use Rattle.soar_app.proofs.RunLemmas.{one_command, last_command}
 

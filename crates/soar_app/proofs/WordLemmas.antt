@@ -10,7 +10,7 @@ use Rattle.soar_sym.specs.declared.symbol.Sym.TheVariants.{Ident, Word, Int}
 use Rattle.defs_text.specs.Lexing.{Saying, mark, arrow, open_set, close_set, sign, variable_named, integer, word_of, documentation, Spelled}
 use Rattle.defs_text.specs.Numbered.{word_in, kind_in, numbered, texts_before, token_texts, words_after}
 use Rattle.defs_text.specs.declared.token.Token.{Token}
-use Rattle.defs_match.specs.Productions.{RuleOf}
+use Rattle.defs_match.specs.Rules.{RuleOf}
 use Rattle.defs_run.specs.Session.{rule_name}
 use Rattle.soar_app.specs.Known.{IsKindKnown, AreTokensKnown, AreNamesKnown}
 

@@ -4,7 +4,7 @@ use Rattle.soar_sym.specs.Words.{Texts, IsKnown}
 use Rattle.defs_text.specs.declared.token.TokenKind.{TokenKind}
 use Rattle.defs_text.specs.declared.token.TokenKind.TheVariants as kind
 use Rattle.defs_text.specs.declared.token.Token.{Token}
-use Rattle.defs_match.specs.Productions.{RuleOf}
+use Rattle.defs_match.specs.Rules.{RuleOf}
 use Rattle.defs_run.specs.declared.form.Order.{Order}
 use Rattle.defs_run.specs.declared.form.Order.TheVariants.{Load, Add, Matches}
 

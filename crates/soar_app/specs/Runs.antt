@@ -2,11 +2,11 @@
 use Rattle.std.specs.Prelude.{◌≡◌, ℕ, Bool, List, Option, Some, None, Result, Ok, Err}
 use Rattle.soar_edge.specs.declared.status.Status.{Status}
 use Rattle.soar_edge.specs.declared.status.Status.TheVariants as status
-use Rattle.defs_run.specs.Limits.{first_passed}
+use Rattle.defs_soar.specs.Limits.{first_passed}
 use Rattle.defs_run.specs.Said.{rendered}
 use Rattle.defs_run.specs.Session.{State, Reply}
 use Rattle.defs_run.specs.Transcript.{ended, stopped, watch}
-use Rattle.defs_run.specs.declared.limit.Which.{Which}
+use Rattle.defs_soar.specs.declared.limit.Which.{Which}
 use Rattle.soar_app.specs.Steps.{IsKept}
 use Rattle.soar_app.specs.declared.step.Answered.{Answered}
 use Rattle.soar_app.specs.declared.step.Answered.TheVariants as answered

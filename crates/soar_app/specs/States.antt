@@ -1,6 +1,6 @@
 -- The state that a session is in.
 use Rattle.std.specs.Prelude.{map}
-use Rattle.defs_match.specs.Productions.{rule_seen}
+use Rattle.defs_match.specs.Rules.{rule_seen}
 use Rattle.defs_run.specs.Session.{State}
 use Rattle.soar_app.specs.declared.state.Session.{Session}
 

@@ -1,7 +1,7 @@
 -- What the answers of the session's calls say.
 use Rattle.std.specs.Prelude.{◌≡◌, ℕ, Bool, List, ◌++◌, Option, Some, None, Result, Ok, Err}
-use Rattle.defs_run.specs.Limits.{first_passed, limit_of}
-use Rattle.defs_run.specs.declared.limit.Which.TheVariants as which
+use Rattle.defs_soar.specs.Limits.{first_passed, limit_of}
+use Rattle.defs_soar.specs.declared.limit.Which.TheVariants as which
 use Rattle.defs_run.specs.Said.{rendered}
 use Rattle.defs_run.specs.Session.{State, Reply}
 use Rattle.defs_run.specs.Transcript.{watch}

@@ -1,8 +1,8 @@
 // The production of an outline.
 ghost use Rattle.std.specs.Prelude.{◌≡◌, ◌+◌, ◌<◌, ◌≤◌, ◌^◌, true, length, map, IfOk, OnOk};
 ghost use Rattle.soar_rule.specs.Below.{actions_below, action_below, atom_below, cond_below, conds_below, pattern_below};
-ghost use Rattle.defs_match.specs.Conditions.{all_of, condition, conditions};
-ghost use Rattle.defs_match.specs.Productions.{action_seen, production_seen};
+ghost use Rattle.soar_rule.specs.Conditions.{all_of, condition, conditions};
+ghost use Rattle.soar_rule.specs.Productions.{action_seen, production_seen};
 ghost use Rattle.defs_run.specs.Loading.{action_in, atom_in, condition_in, has_name, names_after, names_of, number_in, pattern_in, plain_field, production_of, with_name, with_operand};
 ghost use Rattle.soar_app.specs.Naming.{are_named, is_group_named, is_operand_named};
 

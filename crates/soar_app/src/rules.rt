@@ -1,6 +1,7 @@
 // The list of loaded rules.
 ghost use Rattle.std.specs.Prelude.{◌≡◌, map, filter, not, OnOk, OnErr};
-ghost use Rattle.defs_match.specs.Productions.{production_seen, rule_seen};
+ghost use Rattle.soar_rule.specs.Productions.{production_seen};
+ghost use Rattle.defs_match.specs.Rules.{rule_seen};
 ghost use Rattle.defs_run.specs.Loading.{is_named, with_rule, without_name};
 ghost use Rattle.defs_run.specs.Session.{rule_name};
 ghost use Rattle.soar_app.specs.Known.{AreNamesKnown};

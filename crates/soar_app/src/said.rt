@@ -1,8 +1,8 @@
 // What a session says.
 ghost use Rattle.std.specs.Prelude.{◌≡◌, ◌++◌, ◌∷◌, [], Some, None, map, string_bytes, OnOk, IfOk};
 ghost use Rattle.soar_sym.specs.Words.{Texts};
-ghost use Rattle.defs_match.specs.Productions.{rule_seen};
-ghost use Rattle.defs_run.specs.Limits.{limit_of, limit_text, name_of};
+ghost use Rattle.defs_match.specs.Rules.{rule_seen};
+ghost use Rattle.defs_soar.specs.Limits.{limit_of, limit_text, name_of};
 ghost use Rattle.defs_run.specs.Said.{already_there, always, line_at, not_built, refusal_text, rendered, unknown_command};
 ghost use Rattle.defs_run.specs.Session.{State, conflict_lines, instance_line, refused_by};
 ghost use Rattle.defs_run.specs.Transcript.{stopped, watch};
@@ -12,7 +12,7 @@ ghost use Rattle.soar_app.specs.Steps.{IsKept, Obeys};
 use crate::rules::rule_name;
 use crate::stop::Stop;
 use defs_match::{Instance, Rule};
-use defs_run::Which;
+use defs_soar::Which;
 use soar_show::show_instance;
 use soar_sym::{NoMemory, SymTable, Text};
 use std::alloc::{AllocError, Global};

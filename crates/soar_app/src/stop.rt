@@ -1,7 +1,7 @@
 ghost use Rattle.std.specs.Prelude.{◌≡◌};
 ghost use Rattle.soar_app.specs.declared.stop.Stop.TheVariants as stops;
 
-use defs_run::Which;
+use defs_soar::Which;
 use soar_sym::NoMemory;
 use std::alloc::AllocError;
 

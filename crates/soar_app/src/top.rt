@@ -2,7 +2,7 @@ ghost use Rattle.std.specs.Prelude.{◌≡◌, ◌≢◌, ◌-◌, ◌^◌, ◌<
 ghost use Rattle.soar_edge.specs.Outside.{Appends, AppendsSome, Rose, HasPutCause};
 ghost use Rattle.soar_edge.specs.declared.filed.Filed.{Filed};
 ghost use Rattle.defs_run.specs.Transcript.{ended, transcript, usage_text};
-ghost use Rattle.defs_run.specs.declared.limit.Which.{Which as Limit};
+ghost use Rattle.defs_soar.specs.declared.limit.Which.{Which as Limit};
 ghost use Rattle.soar_app.specs.Answers.{Answers, IsComplete, IsTranscript, fault_status};
 ghost use Rattle.soar_app.specs.Runs.{end_status};
 

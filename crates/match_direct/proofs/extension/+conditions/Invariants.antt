@@ -1,5 +1,5 @@
 use Rattle.std.proofs.Common.{◌≡◌, drop, flat_map}
-use Rattle.defs_match.specs.Conditions.{condition, conditions}
+use Rattle.soar_rule.specs.Conditions.{condition, conditions}
 use Rattle.defs_match.specs.Rows.{rows_after, rows_from}
 use Rattle.match_direct.proofs.extension.+conditions.Given as goal
 

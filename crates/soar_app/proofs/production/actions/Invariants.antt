@@ -1,6 +1,6 @@
 use Rattle.std.proofs.Common.{◌≡◌, true, map, take, drop, length}
 use Rattle.soar_rule.specs.Below.{actions_below}
-use Rattle.defs_match.specs.Productions.{action_seen}
+use Rattle.soar_rule.specs.Productions.{action_seen}
 use Rattle.defs_run.specs.Loading.{action_in}
 use Rattle.soar_app.specs.Naming.{are_named}
 use Rattle.soar_app.proofs.production.actions.Given as goal

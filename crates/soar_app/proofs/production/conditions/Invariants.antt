@@ -1,6 +1,6 @@
 use Rattle.std.proofs.Common.{◌≡◌, true, map, take, drop, length}
 use Rattle.soar_rule.specs.Below.{conds_below}
-use Rattle.defs_match.specs.Conditions.{condition}
+use Rattle.soar_rule.specs.Conditions.{condition}
 use Rattle.defs_run.specs.Loading.{condition_in}
 use Rattle.soar_app.specs.Naming.{are_named}
 use Rattle.soar_app.proofs.production.conditions.Given as goal

@@ -1,5 +1,5 @@
 use Rattle.std.proofs.Common.{◌≡◌, ◌++◌, ◌-◌, ◌≤◌, map, take, drop, length}
-use Rattle.defs_match.specs.Productions.{rule_seen}
+use Rattle.defs_match.specs.Rules.{rule_seen}
 use Rattle.defs_run.specs.Loading.{without_name}
 use Rattle.soar_app.proofs.rules.drop_named.Given as goal
 

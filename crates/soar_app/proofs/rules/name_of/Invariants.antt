@@ -1,5 +1,5 @@
 use Rattle.std.proofs.Common.{◌≡◌, map, drop}
-use Rattle.defs_match.specs.Productions.{rule_seen}
+use Rattle.defs_match.specs.Rules.{rule_seen}
 use Rattle.defs_run.specs.Session.{rule_name}
 use Rattle.soar_app.proofs.rules.name_of.Given as goal
 

@@ -1,5 +1,5 @@
 use Rattle.std.proofs.Common.{◌≡◌, ◌++◌, map, drop}
-use Rattle.defs_match.specs.Productions.{rule_seen}
+use Rattle.defs_match.specs.Rules.{rule_seen}
 use Rattle.defs_run.specs.Said.{rendered}
 use Rattle.defs_run.specs.Session.{instance_line}
 use Rattle.defs_run.specs.Transcript.{watch}

@@ -1,5 +1,5 @@
 use Rattle.std.proofs.Common.{◌∙◌, ◌+◌, ap, map}
-use Rattle.defs_match.specs.Productions.{rule_seen}
+use Rattle.defs_match.specs.Rules.{rule_seen}
 use Rattle.defs_run.specs.Loading.{production_of, with_rule}
 use Rattle.soar_app.specs.States.{state_of}
 use Rattle.soar_app.proofs.SessionLemmas.{loads}

@@ -12,8 +12,7 @@ use Rattle.soar_rule.specs.declared.action.Action.TheVariants as action
 use Rattle.soar_rule.specs.declared.production.Kind.{Kind}
 use Rattle.soar_rule.specs.declared.production.Support.{Support}
 use Rattle.soar_rule.specs.declared.production.Production.{Production}
-use Rattle.defs_match.specs.Conditions.{Conditions, conditions}
-use Rattle.defs_match.specs.declared.rule.Rule.{Rule}
+use Rattle.soar_rule.specs.Conditions.{Conditions, conditions}
 
 mutual
   -- a constant, a variable, or a call
@@ -47,11 +46,6 @@ pub record ProductionOf : Type 0 where
   pub vars : List Sym
   pub conditions : Conditions
   pub actions : List ActionOf
-
--- a loaded production, with its conditions in match order
-pub record RuleOf : Type 0 where
-  pub number : ℕ
-  pub production : ProductionOf
 
 -- ---- the code's types as plain data
 
@@ -90,6 +84,3 @@ production_seen p = record {
   conditions = conditions p.conds;
   actions = map action_seen p.actions;
 }
-
-abbrev pub rule_seen : Rule → RuleOf
-rule_seen r = record { number = r.number; production = production_seen r.production }

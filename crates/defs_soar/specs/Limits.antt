@@ -1,12 +1,12 @@
 -- Limits: a step draws numbers, and the first that is beyond its limit ends the program.
 use Rattle.std.specs.Prelude.{ℕ, nat_lt, List, [], ◌∷◌, ◌++◌, Option, Some, None, if◌then◌else◌, codes}
 use Rattle.std.specs.Fmt.{decimal}
-use Rattle.defs_run.specs.declared.limit.Which.{Which}
-use Rattle.defs_run.specs.declared.limit.Which.TheVariants as which
+use Rattle.defs_soar.specs.declared.limit.Which.{Which}
+use Rattle.defs_soar.specs.declared.limit.Which.TheVariants as which
 
 -- what a step draws, with the number that it comes to by that
 pub data Drawn : Type 0 where
-  words_to elements_to tags_to counts_to : ℕ → Drawn
+  identifiers_to words_to preferences_to elements_to tags_to counts_to : ℕ → Drawn
 
 abbrev pub limit_of : Which → ℕ
 limit_of which.Identifiers = 4294967295
@@ -20,7 +20,9 @@ abbrev pub passes : ℕ → Which → Option Which
 passes number limit = if nat_lt (limit_of limit) number then Some limit else None
 
 abbrev pub passed_by : Drawn → Option Which
+passed_by (identifiers_to n) = passes n which.Identifiers
 passed_by (words_to n) = passes n which.Words
+passed_by (preferences_to n) = passes n which.Preferences
 passed_by (elements_to n) = passes n which.Elements
 passed_by (tags_to n) = passes n which.Tags
 passed_by (counts_to n) = passes n which.Counts

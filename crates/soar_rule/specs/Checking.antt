@@ -1,0 +1,208 @@
+-- What is wrong with a production, and else its conditions in match order (the faults and their order are this engine's).
+use Rattle.std.specs.Prelude.{ℕ, suc, ◌+◌, Bool, true, false, ◌&&◌, ◌||◌, nat_lt, not, max, List, [], ◌∷◌, ◌++◌, length, flat_map, Option, Some, None, Result, Ok, Err, if◌then◌else◌, option_map}
+use Rattle.std.specs.List.{list_any}
+use Rattle.soar_sym.specs.Equality.{symbol_eq}
+use Rattle.soar_sym.specs.declared.symbol.Sym.TheVariants.{Word}
+use Rattle.soar_rule.specs.declared.cond.Atom.TheVariants.{Const, Var}
+use Rattle.soar_rule.specs.Conditions.{Condition, positive, negated, conjunctive, Conditions, no_more, condition_and, all_of}
+use Rattle.soar_rule.specs.Productions.{ValueOf, atom_value, call_value, ValuesOf, no_values, value_and, PreferenceOf, accepts, rejects, ActionOf, makes, writes, halts, ProductionOf}
+use Rattle.soar_rule.specs.MatchOrder.{or_else, first_unknown, missing_in, is_linked, Taken, first_lack, taken_in_order}
+use Rattle.soar_rule.specs.Repeat.{repeated}
+use Rattle.soar_rule.specs.Variables.{bound_by, is_among, variables_of_atom, variables_of_value, variables_of_values, referent_value, of_referent, plain_outside}
+
+pub data Fault : Type 0 where
+  no_state : Fault
+  unbound : ℕ → Fault  -- a variable
+  unconnected : ℕ → Fault  -- the place of a condition, from 1
+  too_many : ℕ → Fault
+  too_deep : Fault
+  bad_preference : Fault
+
+-- ---- conditions
+
+-- whether a positive condition outside negations is marked `state`
+abbrev pub has_state : Conditions → Bool
+has_state no_more = false
+has_state (condition_and (positive p) cs) = p.state || has_state cs
+has_state (condition_and (negated p) cs) = has_state cs
+has_state (condition_and (conjunctive inside) cs) = has_state cs
+
+-- what the first positive condition lacks that was left although it is linked
+abbrev pub lack_of_linked : Conditions → ℕ → Taken → Option ℕ
+lack_of_linked no_more place taken = None
+lack_of_linked (condition_and (positive p) cs) place taken =
+    or_else (if not (is_among taken.places place) && is_linked taken.bound p then missing_in taken.bound p else None) (lack_of_linked cs (suc place) taken)
+lack_of_linked (condition_and (negated p) cs) place taken = lack_of_linked cs (suc place) taken
+lack_of_linked (condition_and (conjunctive inside) cs) place taken = lack_of_linked cs (suc place) taken
+
+-- the place, from 1, of the first positive condition that was left; negations count too
+abbrev pub place_left : Conditions → ℕ → Taken → Option ℕ
+place_left no_more place taken = None
+place_left (condition_and (positive p) cs) place taken = if is_among taken.places place then place_left cs (suc place) taken else Some (suc place)
+place_left (condition_and (negated p) cs) place taken = place_left cs (suc place) taken
+place_left (condition_and (conjunctive inside) cs) place taken = place_left cs (suc place) taken
+
+-- why the order stops before the end
+abbrev pub stop_of : Conditions → Taken → Option Fault
+stop_of cs taken =
+    or_else (option_map unbound (lack_of_linked cs 0 taken))
+    (or_else (option_map unconnected (place_left cs 0 taken)) (option_map unbound (first_lack cs false false (plain_outside cs) 0 taken)))
+
+-- ---- actions
+
+-- a value that is one variable may be new; inside a call none may
+abbrev pub called_variables : ValueOf → List ℕ
+called_variables (atom_value a) = []
+called_variables (call_value f values) = variables_of_values values
+
+abbrev pub lone_variable : ValueOf → List ℕ
+lone_variable (atom_value a) = variables_of_atom a
+lone_variable (call_value f arguments) = []
+
+-- what an action links: the value and referent of an identifier that is linked
+abbrev pub linked_by : List ℕ → ActionOf → List ℕ
+linked_by known (makes (Var v) attr value preference) =
+    if is_among known v then known ++ (lone_variable value ++ of_referent lone_variable (referent_value preference)) else known
+linked_by known (makes (Const s) attr value preference) = known
+linked_by known (writes values) = known
+linked_by known halts = known
+
+abbrev pub linked_by_all : List ActionOf → List ℕ → List ℕ
+linked_by_all [] known = known
+linked_by_all (a ∷ actions) known = linked_by_all actions (linked_by known a)
+
+-- step by step, as often as there are actions
+abbrev pub linked_variables : List ℕ → List ActionOf → List ℕ
+linked_variables bound actions = repeated (length actions) (linked_by_all actions) bound
+
+-- the first variable of an action that has to be bound, or linked where it is the identifier
+abbrev pub unbound_in : List ℕ → List ℕ → ActionOf → Option ℕ
+unbound_in bound linked (makes id attr value preference) =
+    or_else (first_unknown linked (variables_of_atom id))
+    (first_unknown bound (variables_of_value attr ++ (called_variables value ++ of_referent called_variables (referent_value preference))))
+unbound_in bound linked (writes values) = first_unknown bound (flat_map variables_of_value values)
+unbound_in bound linked halts = None
+
+abbrev pub first_unbound : List ℕ → List ℕ → List ActionOf → Option ℕ
+first_unbound bound linked [] = None
+first_unbound bound linked (a ∷ actions) = or_else (unbound_in bound linked a) (first_unbound bound linked actions)
+
+abbrev pub fault_of_actions : List ℕ → List ActionOf → Option Fault
+fault_of_actions bound actions = option_map unbound (first_unbound bound (linked_variables bound actions) actions)
+
+-- ---- sizes
+
+-- each negation and each condition inside one counts
+abbrev mutual
+  pub size_of : Condition → ℕ
+  size_of (positive p) = 1
+  size_of (negated p) = 1
+  size_of (conjunctive inside) = suc (size_of_all inside)
+
+  pub size_of_all : Conditions → ℕ
+  size_of_all no_more = 0
+  size_of_all (condition_and c cs) = size_of c + size_of_all cs
+
+abbrev mutual
+  pub depth_of : Condition → ℕ
+  depth_of (positive p) = 0
+  depth_of (negated p) = 1
+  depth_of (conjunctive inside) = suc (depth_of_all inside)
+
+  pub depth_of_all : Conditions → ℕ
+  depth_of_all no_more = 0
+  depth_of_all (condition_and c cs) = max (depth_of c) (depth_of_all cs)
+
+abbrev mutual
+  pub calls_in : ValueOf → ℕ
+  calls_in (atom_value a) = 0
+  calls_in (call_value f values) = suc (calls_in_all values)
+
+  pub calls_in_all : ValuesOf → ℕ
+  calls_in_all no_values = 0
+  calls_in_all (value_and v values) = max (calls_in v) (calls_in_all values)
+
+abbrev pub deepest_of : List ValueOf → ℕ
+deepest_of [] = 0
+deepest_of (v ∷ values) = max (calls_in v) (deepest_of values)
+
+abbrev pub calls_of_referent : Option ValueOf → ℕ
+calls_of_referent None = 0
+calls_of_referent (Some v) = calls_in v
+
+abbrev pub calls_of : ActionOf → ℕ
+calls_of (makes id attr value preference) = max (calls_in attr) (max (calls_in value) (calls_of_referent (referent_value preference)))
+calls_of (writes values) = deepest_of values
+calls_of halts = 0
+
+-- at most 1,000 conditions and 2,000 variables
+abbrev pub fault_of_number : ℕ → ℕ → Option Fault
+fault_of_number conditions variables =
+    if nat_lt 1000 conditions then Some (too_many conditions) else if nat_lt 2000 variables then Some (too_many variables) else None
+
+-- negations and calls at most 8 deep
+abbrev pub is_too_deep : ProductionOf → Bool
+is_too_deep p = nat_lt 8 (depth_of_all p.conditions) || list_any (λ a. nat_lt 8 (calls_of a)) p.actions
+
+-- ---- preferences
+
+abbrev pub is_ordinary_preference : PreferenceOf → Bool
+is_ordinary_preference accepts = true
+is_ordinary_preference rejects = true
+is_ordinary_preference other = false
+
+-- a constant other than `operator`, which is the eighth of the architecture's words
+abbrev pub is_ordinary_attribute : ValueOf → Bool
+is_ordinary_attribute (atom_value (Const s)) = not (symbol_eq s (Word 7))
+is_ordinary_attribute (atom_value (Var v)) = false
+is_ordinary_attribute (call_value f arguments) = false
+
+-- a preference that operators alone have, for an ordinary attribute
+abbrev pub is_bad : ActionOf → Bool
+is_bad (makes id attr value preference) = is_ordinary_attribute attr && not (is_ordinary_preference preference)
+is_bad (writes values) = false
+is_bad halts = false
+
+-- ---- the whole
+
+abbrev pub fault_if : Bool → Fault → Option Fault
+fault_if true fault = Some fault
+fault_if false fault = None
+
+-- the first fault of a production, in the order in which faults are told
+abbrev pub fault_of : ProductionOf → Taken → Option Fault
+fault_of p taken =
+    or_else (fault_if (not (has_state p.conditions)) no_state)
+    (or_else (stop_of p.conditions taken)
+    (or_else (fault_of_actions taken.bound p.actions)
+    (or_else (fault_of_number (size_of_all p.conditions) (length p.vars))
+    (or_else (fault_if (is_too_deep p) too_deep) (fault_if (list_any is_bad p.actions) bad_preference)))))
+
+abbrev pub unless_fault : Option Fault → ProductionOf → Result ProductionOf Fault
+unless_fault None p = Ok p
+unless_fault (Some fault) p = Err fault
+
+-- the production with its conditions in match order, or its first fault
+unfoldable pub ordered : ProductionOf → Result ProductionOf Fault
+ordered p = let taken = taken_in_order p.conditions in unless_fault (fault_of p taken) (record p { conditions = all_of taken.order })
+
+-- ---- conditions as they stand
+
+abbrev pub is_nothing : Option ℕ → Bool
+is_nothing None = true
+is_nothing (Some v) = false
+
+-- each variable of a relation is bound where it stands: before it, or plain in the same field or an earlier one
+abbrev mutual
+  pub is_bound_where_it_stands : List ℕ → Condition → Bool
+  is_bound_where_it_stands bound (positive p) = is_nothing (missing_in bound p)
+  is_bound_where_it_stands bound (negated p) = is_nothing (missing_in bound p)
+  is_bound_where_it_stands bound (conjunctive inside) = are_bound_where_they_stand bound inside
+
+  pub are_bound_where_they_stand : List ℕ → Conditions → Bool
+  are_bound_where_they_stand bound no_more = true
+  are_bound_where_they_stand bound (condition_and c cs) = is_bound_where_it_stands bound c && are_bound_where_they_stand (bound ++ bound_by c) cs
+
+-- what can be matched: relations on bound variables, and negations at most 8 deep
+abbrev pub can_be_matched : ProductionOf → Bool
+can_be_matched p = are_bound_where_they_stand [] p.conditions && not (nat_lt 8 (depth_of_all p.conditions))
