@@ -3,6 +3,8 @@ use Rattle.std.specs.Prelude.{◌≡◌, ◌≢◌, ℕ, List, [], ◌∷◌, �
 use Rattle.std.specs.Bool.{⊤}
 use Rattle.soar_wm.specs.declared.element.Element.{Element}
 use Rattle.soar_rule.specs.Conditions.{Condition, positive, negated, conjunctive, Conditions, no_more, condition_and}
+use Rattle.soar_rule.specs.Productions.{ProductionOf}
+use Rattle.defs_match.specs.Conflict.{instance_of, bindings_of}
 use Rattle.defs_match.specs.Rows.{Row, rows}
 
 -- the list holds it
@@ -50,3 +52,7 @@ NegationKeeps = (cs : Conditions) (c : Condition) (w : List Element) (r : Row) �
 -- Rows with the same tags are one row, and it stands there once.
 abbrev pub RowsDiffer : Type 0
 RowsDiffer = (cs : Conditions) (w : List Element) → ElementsDiffer w → TagsDiffer (rows cs w)
+
+-- An instance tells the bindings of its row.
+abbrev pub InstancesTellBindings : Type 0
+InstancesTellBindings = (p : ProductionOf) (number : ℕ) (w : List Element) (r : Row) → IsIn r (rows p.conditions w) → bindings_of p (instance_of number r) ≡ r.bindings

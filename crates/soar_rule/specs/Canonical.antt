@@ -11,7 +11,7 @@ use Rattle.soar_rule.specs.declared.cond.Pattern.{Pattern}
 use Rattle.soar_rule.specs.declared.production.Kind.TheVariants.{User}
 use Rattle.soar_rule.specs.Conditions.{Condition, positive, negated, conjunctive, Conditions, no_more, condition_and}
 use Rattle.soar_rule.specs.Productions.{ValueOf, atom_value, call_value, ValuesOf, no_values, value_and, PreferenceOf, accepts, rejects, requires_it, prohibits, is_best, is_worst, is_indifferent, is_better_than, is_worse_than, is_indifferent_to, ActionOf, makes, writes, halts, ProductionOf}
-use Rattle.soar_rule.specs.Variables.{is_among, variables_of_conditions, variables_of_action}
+use Rattle.soar_rule.specs.Variables.{with_each, variables_of_conditions, variables_of_action}
 
 -- ---- a production with other numbers for its variables
 
@@ -68,13 +68,9 @@ action_with f halts = halts
 
 -- ---- numbers by first occurrence
 
-abbrev pub with_new : List ℕ → List ℕ → List ℕ
-with_new seen [] = seen
-with_new seen (v ∷ vs) = with_new (if is_among seen v then seen else seen ++ v ∷ []) vs
-
 -- the variables in order of their first occurrence, conditions before actions
 abbrev pub in_order_of_occurrence : Conditions → List ActionOf → List ℕ
-in_order_of_occurrence conditions actions = with_new [] (variables_of_conditions conditions ++ flat_map variables_of_action actions)
+in_order_of_occurrence conditions actions = with_each [] (variables_of_conditions conditions ++ flat_map variables_of_action actions)
 
 abbrev pub place_among : List ℕ → ℕ → ℕ
 place_among [] v = 0

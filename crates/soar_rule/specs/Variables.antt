@@ -1,5 +1,5 @@
 -- The variables of conditions and actions, by their numbers, in the order of the text.
-use Rattle.std.specs.Prelude.{ℕ, Bool, false, ◌||◌, ◌==◌, List, [], ◌∷◌, ◌++◌, flat_map, Option, Some, None}
+use Rattle.std.specs.Prelude.{ℕ, Bool, false, ◌||◌, ◌==◌, List, [], ◌∷◌, ◌++◌, flat_map, Option, Some, None, if◌then◌else◌}
 use Rattle.soar_rule.specs.declared.cond.Atom.{Atom}
 use Rattle.soar_rule.specs.declared.cond.Atom.TheVariants.{Const, Var}
 use Rattle.soar_rule.specs.declared.cond.Test.{Test}
@@ -69,6 +69,15 @@ bound_by (conjunctive inside) = []
 abbrev pub plain_outside : Conditions → List ℕ
 plain_outside no_more = []
 plain_outside (condition_and c cs) = bound_by c ++ plain_outside cs
+
+-- these variables, each where it stands first
+abbrev pub with_each : List ℕ → List ℕ → List ℕ
+with_each seen [] = seen
+with_each seen (v ∷ vs) = with_each (if is_among seen v then seen else seen ++ v ∷ []) vs
+
+-- the variables that the conditions bind, in the order in which a match binds them
+abbrev pub bound_variables : Conditions → List ℕ
+bound_variables cs = with_each [] (plain_outside cs)
 
 -- ---- actions
 

@@ -1,0 +1,32 @@
+ghost use Rattle.std.specs.Prelude.{◌≡◌, ◌≤◌, length, IfOk};
+ghost use Rattle.soar_rule.specs.Variables.{bound_variables};
+ghost use Rattle.defs_match.specs.Rules.{rule_seen};
+ghost use Rattle.soar_fire.specs.Fires.{made_of, Fires, IsFirable, AreWishesKnown};
+
+use crate::fault::FireFault;
+use defs_match::{Instance, Rule};
+use defs_soar::{Goal, Made};
+use soar_sym::{Letters, List, SymTable};
+use std::alloc::Global;
+
+/// Takes the actions of a rule for an instance of it, in their order, in each the identifier, attribute,
+/// value and referent (Soar manual, right-hand sides). `goals` are those before the wave.
+///
+/// New words join the table and new identifiers take the next numbers of their letters; of a firing
+/// that is refused some may have.
+pub fn fire(
+    alloc: Global,
+    table: &mut SymTable,
+    letters: &mut Letters,
+    goals: &List<Goal>,
+    rule: &Rule,
+    instance: &Instance,
+) -> Result<Made, FireFault>
+    requires known { IsFirable table.old (rule_seen rule.now) instance.now }
+    requires binds { length instance.now.binds ≡ length (bound_variables (rule_seen rule.now).production.conditions) }
+    ensures answer { Fires table.new letters.new (made_of table.old letters.old goals.now (rule_seen rule.now) instance.now) result }
+    ensures known { IfOk result (λ made. AreWishesKnown table.new made.wishes) }
+    ensures grown { length table.old ≤ length table.new }
+{
+    todo
+}
