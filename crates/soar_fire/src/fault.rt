@@ -1,16 +1,14 @@
-use soar_sym::{IdsSpent, InternFault, NoMemory};
-use std::alloc::AllocError;
 use thiserror::Error;
 
 /// Why a rule could not fire.
 #[derive(Clone, Copy, Debug, PartialEq, Eq, Error)]
 pub enum FireFault {
     /// A letter has no number left for a new identifier.
-    #[error("identifiers are spent")]
+    #[error("no identifier is left")]
     IdsSpent,
     /// The table has no room for a new word.
-    #[error("words are spent")]
+    #[error("no word is left")]
     WordsSpent,
-    #[error(transparent)]
-    NoMemory(#[from] NoMemory),
+    #[error("out of memory")]
+    NoMemory,
 }
