@@ -17,6 +17,9 @@ type_word = Word 6
 abbrev pub operator_word : Sym
 operator_word = Word 7
 
+abbrev pub name_word : Sym
+name_word = Word 8
+
 abbrev pub impasse_word : Sym
 impasse_word = Word 9
 

@@ -64,10 +64,10 @@ pub record Work : Type 0 where
 -- the firings whose instance is not in the conflict set, and the instances that are not live
 abbrev pub all_work : Bool → Agent → Work
 all_work proposing a =
-    let now = conflict a.rules a.holding.elements in
+    let now = conflict a.program.rules a.holding.elements in
     record {
       retracted = filter (λ l. not (is_listed now l.instance)) a.holding.live;
-      fired = filter (may_fire proposing a) (flat_map (firables_of a.holding.elements) a.rules);
+      fired = filter (may_fire proposing a) (flat_map (firables_of a.holding.elements) a.program.rules);
     }
 
 abbrev pub depth_of : List Goal → Firable → ℕ
@@ -83,7 +83,7 @@ abbrev pub active_level : List Goal → Work → ℕ
 active_level goals w = least (map (λ l. l.depth) w.retracted ++ map (depth_of goals) w.fired)
 
 -- the work of the active level
-abbrev pub pending : Bool → Agent → Work
+unfoldable pub pending : Bool → Agent → Work
 pending proposing a =
     let all = all_work proposing a in
     let active = active_level a.holding.goals all in

@@ -1,7 +1,8 @@
 -- Small cases, worked out by hand. A, B and C are identifiers in this order.
-use Rattle.std.specs.Prelude.{◌≡◌, ℕ, Bool, true, false, ℤ, pos, negsuc, List, [], ◌∷◌, ◌++◌, map, Option, Some, None, codes, nat_lt, filter}
+use Rattle.std.specs.Prelude.{◌≡◌, ℕ, Bool, true, false, ℤ, pos, negsuc, List, [], ◌∷◌, ◌++◌, map, length, Option, Some, None, codes, nat_lt, filter}
 use Rattle.soar_sym.specs.Words.{Texts, architecture}
 use Rattle.soar_sym.specs.declared.symbol.Sym.{Sym}
+use Rattle.soar_sym.specs.declared.symbol.Triple.{Triple}
 use Rattle.soar_sym.specs.declared.symbol.Sym.TheVariants.{Ident, Word, Int}
 use Rattle.soar_rule.specs.declared.cond.Atom.TheVariants.{Const, Var}
 use Rattle.soar_rule.specs.declared.action.Func.TheVariants as func
@@ -32,7 +33,9 @@ use Rattle.defs_soar.specs.Levels.{level}
 use Rattle.defs_soar.specs.Preferences.{rows_after}
 use Rattle.defs_soar.specs.Agents.{Agent}
 use Rattle.defs_soar.specs.Support.{operator_kind}
-use Rattle.defs_soar.specs.Waves.{phase, resettled, cut}
+use Rattle.defs_soar.specs.Cycle.{held_with}
+use Rattle.defs_soar.specs.Start.{first_agent}
+use Rattle.defs_soar.specs.Waves.{resettled, phase}
 use Rattle.defs_soar.specs.Settling.{settled}
 
 abbrev pub s1 : Sym
@@ -240,20 +243,28 @@ copying number from to =
 -- an agent with these rules, elements beyond those of the start, and inputs
 abbrev pub agent_with : List RuleOf → List Element → ℕ → Agent
 agent_with rules more last =
-    record {
+    let a = first_agent 1 in
+    record a {
       names = record { words = words_at_firing; letters = letters_at_start; last_tag = last };
-      holding = record { elements = start_elements ++ more; goals = top_goal ∷ []; rows = []; inputs = map triple_of more; live = [] };
-      rules = rules;
-      counts = record { cycles = 0; waves = 0; firings = 0; retractions = 0 };
-      halted = false;
+      holding = record a.holding { elements = start_elements ++ more; goals = top_goal ∷ []; inputs = map triple_of more };
+      program = record a.program { rules = rules; last_rule = length rules };
     }
+
+abbrev pub at_most : ℕ → Agent → Agent
+at_most n a = record a { settings = record a.settings { max_elaborations = n } }
+
+abbrev pub proposed : Agent → Agent
+proposed a = (phase true a).course.agent
 
 -- one rule copies what another made, in a wave of its own; without the input both fall, in one wave each
 abbrev pub two_copies : Agent
-two_copies = (phase true 100 (agent_with (copying 1 24 25 ∷ copying 2 25 26 ∷ []) (of_s1 6 24 (pos 1) ∷ []) 6)).step.agent
+two_copies = proposed (agent_with (copying 1 24 25 ∷ copying 2 25 26 ∷ []) (of_s1 6 24 (pos 1) ∷ []) 6)
+
+abbrev pub with_inputs : List Triple → Agent → Agent
+with_inputs inputs a = (resettled a (held_with a inputs)).agent
 
 abbrev pub without_input : Agent → Agent
-without_input a = (resettled (record a { holding = record a.holding { inputs = [] } }) a.names a.holding.rows a.holding.live).agent
+without_input a = with_inputs [] a
 
 abbrev pub last_tags : Agent → List ℕ
 last_tags a = map (λ e. e.tag) (filter (λ e. nat_lt 5 e.tag) a.holding.elements)
@@ -261,14 +272,14 @@ last_tags a = map (λ e. e.tag) (filter (λ e. nat_lt 5 e.tag) a.holding.element
 abbrev pub Copies : Type 0
 Copies =
     (last_tags two_copies ≡ 6 ∷ 7 ∷ 8 ∷ []) × (two_copies.counts.waves ≡ 2) × (two_copies.counts.firings ≡ 2)
-    × (last_tags (phase true 100 (without_input two_copies)).step.agent ≡ []) × ((phase true 100 (without_input two_copies)).step.agent.counts.retractions ≡ 2)
+    × (last_tags (proposed (without_input two_copies)) ≡ []) × ((proposed (without_input two_copies)).counts.retractions ≡ 2)
 
 -- support passes from one instance to another in one wave: the element keeps its tag
 abbrev pub PassesOn : Type 0
 PassesOn =
-    let first = (phase true 100 (agent_with (copying 1 24 26 ∷ copying 2 25 26 ∷ []) (of_s1 6 24 (pos 1) ∷ []) 6)).step.agent in
-    let swapped = (resettled (record first { holding = record first.holding { inputs = triple_of (of_s1 0 25 (pos 1)) ∷ [] } }) first.names first.holding.rows first.holding.live).agent in
-    (last_tags first ≡ 6 ∷ 7 ∷ []) × (last_tags (phase true 100 swapped).step.agent ≡ 7 ∷ 8 ∷ [])
+    let first = proposed (agent_with (copying 1 24 26 ∷ copying 2 25 26 ∷ []) (of_s1 6 24 (pos 1) ∷ []) 6) in
+    let swapped = with_inputs (triple_of (of_s1 0 25 (pos 1)) ∷ []) first in
+    (last_tags first ≡ 6 ∷ 7 ∷ []) × (last_tags (proposed swapped) ≡ 7 ∷ 8 ∷ [])
 
 -- a rule that feeds itself with a new value each time is cut after as many waves as are allowed
 abbrev pub counting : RuleOf
@@ -279,4 +290,4 @@ counting = record (copying 1 24 24) {
 }
 
 abbrev pub IsCut : Type 0
-IsCut = let p = phase true 3 (agent_with (counting ∷ []) (of_s1 6 24 (pos 0) ∷ []) 6) in (p.ended ≡ cut) × (p.step.agent.counts.waves ≡ 3)
+IsCut = let p = phase true (at_most 3 (agent_with (counting ∷ []) (of_s1 6 24 (pos 0) ∷ []) 6)) in (p.is_cut ≡ true) × (p.course.agent.counts.waves ≡ 3)

@@ -1,0 +1,154 @@
+-- The negations of a chain that a learned rule takes over: those about higher goals (Soar manual, chunking; the reading is this engine's).
+use Rattle.std.specs.Prelude.{ℕ, ◌+◌, Bool, true, false, ◌&&◌, ◌||◌, ◌==◌, not, List, [], ◌∷◌, ◌++◌, map, flat_map, filter, length, Some, None, if◌then◌else◌}
+use Rattle.std.specs.List.{list_any, list_all}
+use Rattle.soar_sym.specs.Equality.{symbol_eq}
+use Rattle.soar_sym.specs.declared.symbol.Sym.{Sym}
+use Rattle.soar_rule.specs.declared.cond.Atom.{Atom}
+use Rattle.soar_rule.specs.declared.cond.Atom.TheVariants.{Const, Var}
+use Rattle.soar_rule.specs.declared.cond.Pattern.{Pattern}
+use Rattle.soar_rule.specs.declared.cond.Test.{Test}
+use Rattle.soar_rule.specs.declared.cond.Test.TheVariants.{Plain, Rel, OneOf}
+use Rattle.soar_rule.specs.Canonical.{place_among}
+use Rattle.soar_rule.specs.Conditions.{Condition, positive, negated, conjunctive, Conditions, no_more, condition_and}
+use Rattle.soar_rule.specs.Equality.{condition_eq}
+use Rattle.soar_rule.specs.Renaming.{condition_with}
+use Rattle.soar_rule.specs.Variables.{with_each, variables_of_condition, plain_in}
+use Rattle.defs_match.specs.Conflict.{bindings_of}
+use Rattle.defs_match.specs.Testing.{Bindings, symbol_of}
+use Rattle.defs_soar.specs.declared.firing.How.{How}
+use Rattle.defs_soar.specs.declared.firing.How.TheVariants as how
+use Rattle.defs_soar.specs.declared.firing.Used.{Used}
+use Rattle.soar_wm.specs.declared.element.Element.{Element}
+use Rattle.defs_soar.specs.Architecture.{superstate_word}
+use Rattle.defs_soar.specs.Dependencies.{is_new_in}
+use Rattle.defs_soar.specs.History.{FiringOf, StepOf, architecture_step, item_step, select_step, fire_step, ChainOf}
+use Rattle.defs_soar.specs.Values.{is_identifier}
+
+-- ---- what a chain tells of its identifiers
+
+abbrev pub firing_in : StepOf → List FiringOf
+firing_in (fire_step f) = f ∷ []
+firing_in (architecture_step e) = []
+firing_in (item_step e tag) = []
+firing_in (select_step e tag) = []
+
+abbrev pub firings_of : ChainOf → List FiringOf
+firings_of c = flat_map firing_in c.steps
+
+abbrev pub occurs_in : Sym → Element → Bool
+occurs_in s e = symbol_eq e.id s || (symbol_eq e.attr s || symbol_eq e.value s)
+
+abbrev pub is_in_ground : ChainOf → Sym → Bool
+is_in_ground c s = list_any (occurs_in s) c.grounds
+
+abbrev pub names_superstate : Sym → StepOf → Bool
+names_superstate s (architecture_step e) = symbol_eq e.attr superstate_word && symbol_eq e.value s
+names_superstate s (item_step e tag) = false
+names_superstate s (select_step e tag) = false
+names_superstate s (fire_step f) = false
+
+abbrev pub is_upper : How → Bool
+is_upper how.Upper = true
+is_upper other = false
+
+abbrev pub is_state_use : Sym → Used → Bool
+is_state_use s u = not (is_upper u.how) && (u.element.of_state && symbol_eq u.element.id s)
+
+-- a state that a firing of this depth used otherwise than as a higher one
+abbrev pub is_goal_of_depth : ChainOf → ℕ → Sym → Bool
+is_goal_of_depth c depth s = list_any (λ f. (f.depth == depth) && list_any (is_state_use s) f.used) (firings_of c)
+
+-- an identifier of a higher level than the depth of the chain's last firing
+abbrev pub is_higher : ChainOf → ℕ → Sym → Bool
+is_higher c depth s = is_identifier s && ((is_in_ground c s || list_any (names_superstate s) c.steps) && not (is_goal_of_depth c depth s))
+
+-- an identifier that is new in a firing of the chain, and stands in no ground
+abbrev pub is_made_by : ChainOf → Sym → Bool
+is_made_by c s = list_any (λ f. is_new_in f s) (firings_of c) && not (is_in_ground c s)
+
+-- ---- negations about higher goals
+
+-- a plain test of an identifier: of a higher one, or of a variable that is a value earlier inside
+abbrev pub is_higher_test : ChainOf → ℕ → Bindings → List ℕ → Test → Bool
+is_higher_test c depth bindings values (Plain (Const s)) = is_higher c depth s
+is_higher_test c depth bindings values (Plain (Var v)) =
+    elim (symbol_of v bindings) [ Some s ↦ is_higher c depth s | None ↦ list_any (λ w. w == v) values ]
+is_higher_test c depth bindings values (Rel r a) = false
+is_higher_test c depth bindings values (OneOf symbols) = false
+
+abbrev pub is_higher_pattern : ChainOf → ℕ → Bindings → List ℕ → Pattern → Bool
+is_higher_pattern c depth bindings values p = list_any (is_higher_test c depth bindings values) p.id.tests
+
+-- the variables that a condition has as values
+abbrev pub values_bound : Condition → List ℕ
+values_bound (positive p) = plain_in p.value
+values_bound (negated p) = []
+values_bound (conjunctive inside) = []
+
+abbrev mutual
+  -- each identifier field is of a higher goal
+  pub is_about_higher : ChainOf → ℕ → Bindings → List ℕ → Condition → Bool
+  is_about_higher c depth bindings values (positive p) = is_higher_pattern c depth bindings values p
+  is_about_higher c depth bindings values (negated p) = is_higher_pattern c depth bindings values p
+  is_about_higher c depth bindings values (conjunctive inside) = are_about_higher c depth bindings values inside
+
+  pub are_about_higher : ChainOf → ℕ → Bindings → List ℕ → Conditions → Bool
+  are_about_higher c depth bindings values no_more = true
+  are_about_higher c depth bindings values (condition_and d inside) =
+      is_about_higher c depth bindings values d && are_about_higher c depth bindings (values ++ values_bound d) inside
+
+abbrev pub negations_in : Conditions → List Condition
+negations_in no_more = []
+negations_in (condition_and (positive p) cs) = negations_in cs
+negations_in (condition_and (negated p) cs) = negated p ∷ negations_in cs
+negations_in (condition_and (conjunctive inside) cs) = conjunctive inside ∷ negations_in cs
+
+abbrev pub negations_of : FiringOf → List Condition
+negations_of f = negations_in f.rule.production.conditions
+
+abbrev pub bindings_in : FiringOf → Bindings
+bindings_in f = bindings_of f.rule.production f.instance
+
+abbrev pub is_superstate_negation : ChainOf → ℕ → FiringOf → Condition → Bool
+is_superstate_negation c depth f d = is_about_higher c depth (bindings_in f) [] d
+
+-- the firing has a negation that is not about higher goals alone
+abbrev pub has_local_negation : ChainOf → ℕ → FiringOf → Bool
+has_local_negation c depth f = not (list_all (is_superstate_negation c depth f) (negations_of f))
+
+-- ---- as conditions of a learned rule
+
+-- a bound variable gives way to its symbol
+abbrev pub bound_atom : Bindings → Atom → Atom
+bound_atom bindings (Const s) = Const s
+bound_atom bindings (Var v) = elim (symbol_of v bindings) [ Some s ↦ Const s | None ↦ Var v ]
+
+abbrev pub renumbered_from : ℕ → List ℕ → Atom → Atom
+renumbered_from first order (Const s) = Const s
+renumbered_from first order (Var v) = Var (first + place_among order v)
+
+-- with its own variables numbered from a number, by first occurrence
+abbrev pub with_own_from : ℕ → Condition → Condition
+with_own_from first d = condition_with (renumbered_from first (with_each [] (variables_of_condition d))) d
+
+abbrev pub own_count : Condition → ℕ
+own_count d = length (with_each [] (variables_of_condition d))
+
+-- the negations of a firing about higher goals, with symbols in the places of bound variables
+abbrev pub superstate_negations : ChainOf → ℕ → FiringOf → List Condition
+superstate_negations c depth f =
+    map (λ d. with_own_from 0 (condition_with (bound_atom (bindings_in f)) d)) (filter (is_superstate_negation c depth f) (negations_of f))
+
+-- negations that differ in the names of their own variables alone are one
+abbrev pub without_repeats : List Condition → List Condition → List Condition
+without_repeats seen [] = seen
+without_repeats seen (d ∷ negations) = without_repeats (if list_any (condition_eq d) seen then seen else seen ++ d ∷ []) negations
+
+-- each with variables of its own
+abbrev pub with_own_variables : ℕ → List Condition → List Condition
+with_own_variables first [] = []
+with_own_variables first (d ∷ negations) = with_own_from first d ∷ with_own_variables (first + own_count d) negations
+
+-- in order of firing and condition, without repeats
+unfoldable pub negations_taken_over : ChainOf → ℕ → List Condition
+negations_taken_over c depth = with_own_variables 0 (without_repeats [] (flat_map (superstate_negations c depth) (firings_of c)))
