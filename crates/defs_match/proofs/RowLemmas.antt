@@ -22,7 +22,7 @@ in_right x [] ys h = h
 in_right x (y ∷ xs) ys h = inr (in_right x xs ys h)
 
 -- what a flat_map holds came from one of the elements
-in_flat_map : {A B : Type 0} (f : A → List B) (y : B) (xs : List A) → IsIn y (flat_map f xs) → (x : A) × IsIn x xs × IsIn y (f x)
+pub in_flat_map : {A B : Type 0} (f : A → List B) (y : B) (xs : List A) → IsIn y (flat_map f xs) → (x : A) × IsIn x xs × IsIn y (f x)
 in_flat_map f y [] h = absurd h
 in_flat_map f y (x ∷ xs) h =
     elim (in_append y (f x) (flat_map f xs) h) [
@@ -51,7 +51,7 @@ positives_in (conjunctive d) = 0
 abbrev pub Extends : ℕ → Row → Row → Type 0
 Extends n r x = (more : List ℕ) × (x.tags ≡ r.tags ++ more) × (length more ≡ n)
 
-from_only : (r x : Row) (rs : List Row) → IsIn x (only_without r rs) → (x ≡ r) × (rs ≡ [])
+pub from_only : (r x : Row) (rs : List Row) → IsIn x (only_without r rs) → (x ≡ r) × (rs ≡ [])
 from_only r x [] (inl e) = (sym e, refl)
 from_only r x [] (inr h) = absurd h
 from_only r x (s ∷ rs) h = absurd h
@@ -68,7 +68,7 @@ from_element r x e None h = absurd h
 from_element r x e (Some bs) (inl q) = ap (λ s. s.tags) (sym q)
 from_element r x e (Some bs) (inr h) = absurd h
 
-if_in : {A : Type 0} (b : Bool) (x : A) (xs : List A) → IsIn x (cond b xs []) → IsIn x xs
+pub if_in : {A : Type 0} (b : Bool) (x : A) (xs : List A) → IsIn x (cond b xs []) → IsIn x xs
 if_in true x xs h = h
 if_in false x xs h = absurd h
 
