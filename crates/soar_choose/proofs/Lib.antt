@@ -1,4 +1,6 @@
 mod AcceptLemmas
 mod DrawLemmas
 mod LawLemmas
+mod OwnNameLemmas
 mod RowLemmas
+mod SameChoiceLemmas
