@@ -1,4 +1,4 @@
-ghost use Rattle.soar_choose.specs.Laws.{LeftIsSome, LeftIsAcceptable, NoneLeftIsBeaten, OneIsChosen, OwnNamesCountForNothing};
+ghost use Rattle.soar_choose.specs.Laws.{LeftIsSome, LeftIsAcceptable, NoneLeftIsBeaten, OneIsChosen, OwnNamesCountForNothing, OrderCountsForNothing};
 
 /// What the choice means, in the words of the subject.
 pub fn choice_laws()
@@ -7,4 +7,5 @@ pub fn choice_laws()
     ensures unbeaten { NoneLeftIsBeaten }
     ensures own_names { OwnNamesCountForNothing }
     ensures one { OneIsChosen }
+    ensures order { OrderCountsForNothing }
 {}
