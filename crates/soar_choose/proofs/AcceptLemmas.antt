@@ -16,7 +16,7 @@ use Rattle.defs_soar.specs.Values.{is_kind}
 use Rattle.soar_choose.specs.Laws.{values_left, LeftIsAcceptable}
 use Rattle.soar_choose.proofs.LawLemmas.{symbol_same, in_filter, left_candidates, values_scored}
 
-either : (a b : Bool) → (a || b) ≡ true → (a ≡ true) ⊎ (b ≡ true)
+pub either : (a b : Bool) → (a || b) ≡ true → (a ≡ true) ⊎ (b ≡ true)
 either true b h = inl refl
 either false b h = inr h
 
@@ -29,7 +29,7 @@ neither true b h = cc
 neither false true h = cc
 neither false false h = (refl, refl)
 
-turned : (a b : Sym) → symbol_eq a b ≡ true → symbol_eq b a ≡ true
+pub turned : (a b : Sym) → symbol_eq a b ≡ true → symbol_eq b a ≡ true
 turned a b h = let q : a ≡ b = symbol_same a b h in ap (symbol_eq b) q ∙ ap (λ w. symbol_eq w b) (sym q) ∙ h
 
 in_with : (words : Texts) (xs : List Sym) (s v : Sym) → has_symbol (with_symbol words xs s) v ≡ true → (symbol_eq v s ≡ true) ⊎ (has_symbol xs v ≡ true)

@@ -1,4 +1,9 @@
 mod AcceptLemmas
 mod DrawLemmas
 mod LawLemmas
+mod OwnNameLemmas
+mod RisingLemmas
 mod RowLemmas
+mod SameChoiceLemmas
+mod ShuffleLemmas
+mod SymbolOrderLemmas

@@ -50,7 +50,7 @@ known_with words (t ∷ symbols) s k h = by (symbol_eq s t) (is_lt (symbol_cmp w
     by false true rest = (h, k)
     by false false rest = (k.0, rest)
 
-known_values : (words : Texts) (k : PrefKind) (rows : List Preference) → AreKnown words rows → AreSymbolsKnown words (values_of words k rows)
+pub known_values : (words : Texts) (k : PrefKind) (rows : List Preference) → AreKnown words rows → AreSymbolsKnown words (values_of words k rows)
 known_values words k [] h = tt
 known_values words k (row ∷ rows) h = by (is_kind row.wish.kind k) (known_values words k rows h.2)
   where
