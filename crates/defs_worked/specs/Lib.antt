@@ -1,0 +1,7 @@
+pub mod Goals
+pub mod Learning
+pub mod Matching
+pub mod Operators
+pub mod Refusals
+pub mod Support
+pub mod Writes
