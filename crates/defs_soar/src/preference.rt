@@ -1,3 +1,6 @@
+ghost use Rattle.std.specs.Prelude.{◌≡◌};
+ghost use Rattle.defs_soar.specs.Values.{is_kind, kind_place};
+
 use soar_sym::Sym;
 
 /// What a preference says of its value, in the order in which kinds are listed (Soar manual, preference semantics).
@@ -25,6 +28,34 @@ pub enum PrefKind {
     Numeric,
     /// `=` with an identifier
     IndifferentTo,
+}
+
+impl PrefKind {
+    /// Whether two kinds are one.
+    pub fn is(self, other: PrefKind) -> bool
+        ensures { result ≡ is_kind self other }
+    {
+        self.place() == other.place()
+    }
+
+    /// The place of a kind in their order.
+    fn place(self) -> u8
+        ensures { result ≡ kind_place self }
+    {
+        match self {
+            PrefKind::Accept => 0,
+            PrefKind::Require => 1,
+            PrefKind::Reject => 2,
+            PrefKind::Prohibit => 3,
+            PrefKind::Better => 4,
+            PrefKind::Worse => 5,
+            PrefKind::Best => 6,
+            PrefKind::Worst => 7,
+            PrefKind::Indifferent => 8,
+            PrefKind::Numeric => 9,
+            PrefKind::IndifferentTo => 10,
+        }
+    }
 }
 
 /// A preference as an action asks for it.

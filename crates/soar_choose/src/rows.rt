@@ -1,43 +1,16 @@
 ghost use Rattle.std.specs.Prelude.{◌≡◌, ◌≤◌, length};
 ghost use Rattle.defs_soar.specs.Choice.{has_kind as has_kind_of, number_in_row as number_of_row, says_of as says_of_rows, sum_of as sum_of_rows, scored as scored_of};
-ghost use Rattle.defs_soar.specs.Values.{kind_place as place_of_kind, is_kind as is_kind_of};
 ghost use Rattle.soar_choose.specs.Parts.{is_of as is_of_row, is_referent as is_referent_of, says as says_row};
 ghost use Rattle.soar_choose.specs.Rows.{AreInRange, IsNumberInRange, IsWithin};
 
 use defs_soar::{PrefKind, Preference, Scored};
 use soar_sym::{Sym, is_symbol};
 
-/// The place of a kind in their order.
-fn kind_place(kind: PrefKind) -> u8
-    ensures { result ≡ place_of_kind kind }
-{
-    match kind {
-        PrefKind::Accept => 0,
-        PrefKind::Require => 1,
-        PrefKind::Reject => 2,
-        PrefKind::Prohibit => 3,
-        PrefKind::Better => 4,
-        PrefKind::Worse => 5,
-        PrefKind::Best => 6,
-        PrefKind::Worst => 7,
-        PrefKind::Indifferent => 8,
-        PrefKind::Numeric => 9,
-        PrefKind::IndifferentTo => 10,
-    }
-}
-
-/// Whether two kinds are one.
-pub(crate) fn is_kind(a: PrefKind, b: PrefKind) -> bool
-    ensures { result ≡ is_kind_of a b }
-{
-    kind_place(a) == kind_place(b)
-}
-
 /// Whether a row is of a kind and of a value.
 fn is_of(row: &Preference, kind: PrefKind, value: Sym) -> bool
     ensures { result ≡ is_of_row kind value row.now }
 {
-    is_kind(row.wish.kind, kind) && is_symbol(row.wish.value, value)
+    row.wish.kind.is(kind) && is_symbol(row.wish.value, value)
 }
 
 /// Whether some row of a kind names a value.

@@ -6,7 +6,6 @@ ghost use Rattle.soar_sym.specs.Words.{IsKnown};
 ghost use Rattle.soar_choose.specs.Parts.{AreSymbolsKnown};
 ghost use Rattle.soar_choose.specs.Rows.{AreKnown};
 
-use crate::rows::is_kind;
 use defs_soar::{PrefKind, Preference};
 use soar_sym::{NoMemory, Sym, SymTable, is_symbol};
 use std::alloc::Global;
@@ -24,7 +23,7 @@ pub(crate) fn values_of(
     let mut values = Vec::new(alloc);
     'rows: for at in (0..rows.len()).rev() {
         let wish = rows[at].wish;
-        if is_kind(wish.kind, kind) {
+        if wish.kind.is(kind) {
             add_symbol(table, &mut values, wish.value)?;
         }
     }
