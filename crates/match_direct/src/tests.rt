@@ -1,4 +1,5 @@
 mod build;
+mod direct;
 
 use crate::conflict;
 use build::{add_rule, found, have_tags, have_these, lacks, pattern, takes, top, variable};

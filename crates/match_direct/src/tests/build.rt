@@ -1,6 +1,10 @@
 // Rules and elements for tests.
-ghost use Rattle.std.specs.Prelude.{◌≡◌};
+ghost use Rattle.std.specs.Prelude.{◌≡◌, false, [], ◌∷◌, IfOk, IfSome};
 ghost use Rattle.soar_rule.specs.Below.{test_below, field_below, pattern_below, cond_below, conds_below};
+ghost use Rattle.soar_rule.specs.Conditions.{condition, positive, negated};
+ghost use Rattle.soar_rule.specs.declared.cond.Atom.TheVariants.{Const as ConstOf, Var as VarOf};
+ghost use Rattle.soar_rule.specs.declared.cond.Test.TheVariants.{Plain as PlainOf};
+ghost use Rattle.defs_match.specs.Worked.{of_top, pattern_of};
 
 use crate::conflict;
 use defs_match::{Instance, Rule};
@@ -10,7 +14,9 @@ use soar_wm::Element;
 use std::alloc::Global;
 
 /// An element of the top state.
-pub fn top(tag: u32, attr: u32, value: Sym) -> Element {
+pub fn top(tag: u32, attr: u32, value: Sym) -> Element
+    ensures { result ≡ of_top tag attr value }
+{
     Element {
         tag,
         id: Sym::Ident {
@@ -24,16 +30,22 @@ pub fn top(tag: u32, attr: u32, value: Sym) -> Element {
     }
 }
 
-pub fn variable(number: u32) -> Test {
+pub fn variable(number: u32) -> Test
+    ensures { result ≡ PlainOf (VarOf number) }
+{
     Test::Plain(Atom::Var(number))
 }
 
-pub fn constant(symbol: Sym) -> Test {
+pub fn constant(symbol: Sym) -> Test
+    ensures { result ≡ PlainOf (ConstOf symbol) }
+{
     Test::Plain(Atom::Const(symbol))
 }
 
 /// A pattern with variable 0 as its identifier.
-pub fn pattern(alloc: Global, attr: u32, value: Vec<Test>) -> Result<Pattern, NoMemory> {
+pub fn pattern(alloc: Global, attr: u32, value: Vec<Test>) -> Result<Pattern, NoMemory>
+    ensures { IfOk result (λ p. p ≡ pattern_of false 0 attr value.items) }
+{
     Ok(Pattern {
         state: false,
         id: field(vec![in alloc; variable(0)]?),
@@ -43,22 +55,50 @@ pub fn pattern(alloc: Global, attr: u32, value: Vec<Test>) -> Result<Pattern, No
     })
 }
 
-fn field(tests: Vec<Test>) -> Field {
+fn field(tests: Vec<Test>) -> Field
+    ensures { result ≡ record { tests = tests.items } }
+{
     Field {
         tests: List::from_vec(tests),
     }
 }
 
 /// Variable 0, an attribute and a variable.
-pub fn takes(alloc: Global, attr: u32, value: u32) -> Result<Cond, NoMemory> {
+pub fn takes(alloc: Global, attr: u32, value: u32) -> Result<Cond, NoMemory>
+    ensures { IfOk result (λ c. condition c ≡ positive (pattern_of false 0 attr (PlainOf (VarOf value) ∷ []))) }
+{
     let value = vec![in alloc; variable(value)]?;
     Ok(Cond::Pos(pattern(alloc, attr, value)?))
 }
 
 /// The negation of variable 0, an attribute and a variable.
-pub fn lacks(alloc: Global, attr: u32, value: u32) -> Result<Cond, NoMemory> {
+pub fn lacks(alloc: Global, attr: u32, value: u32) -> Result<Cond, NoMemory>
+    ensures { IfOk result (λ c. condition c ≡ negated (pattern_of false 0 attr (PlainOf (VarOf value) ∷ []))) }
+{
     let value = vec![in alloc; variable(value)]?;
     Ok(Cond::Neg(pattern(alloc, attr, value)?))
+}
+
+/// The rule of some conditions, where their variables are below nine.
+pub fn rule_of(alloc: Global, number: u64, conds: Vec<Cond>) -> Result<Option<Rule>, NoMemory>
+    ensures number { IfOk result (λ found. IfSome found (λ rule. rule.number ≡ number)) }
+    ensures conds { IfOk result (λ found. IfSome found (λ rule. rule.production.conds ≡ conds.items)) }
+{
+    let vars = List::from_slice(alloc, &[Sym::Word(1); 9])?;
+    let conds = List::from_vec(conds);
+    if !conds_are_below(vars.len(), conds.as_slice()) {
+        return Ok(None);
+    }
+    let production = Production {
+        name: Sym::Word(0),
+        doc: None,
+        kind: Kind::User,
+        support: Support::Unset,
+        vars,
+        conds,
+        actions: List::new(alloc),
+    };
+    Ok(Some(Rule { number, production }))
 }
 
 /// Adds the rule of some conditions, where their variables are below nine.
@@ -68,19 +108,8 @@ pub fn add_rule(
     number: u64,
     conds: Vec<Cond>,
 ) -> Result<(), NoMemory> {
-    let vars = List::from_slice(alloc, &[Sym::Word(1); 9])?;
-    let conds = List::from_vec(conds);
-    if conds_are_below(vars.len(), conds.as_slice()) {
-        let production = Production {
-            name: Sym::Word(0),
-            doc: None,
-            kind: Kind::User,
-            support: Support::Unset,
-            vars,
-            conds,
-            actions: List::new(alloc),
-        };
-        rules.push(Rule { number, production })?;
+    if let Some(rule) = rule_of(alloc, number, conds)? {
+        rules.push(rule)?;
     }
     Ok(())
 }
