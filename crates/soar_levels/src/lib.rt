@@ -2,7 +2,10 @@
 #![tactic(auto)]
 
 mod levels;
-mod support;
+mod telling;
+mod walk;
 
 pub use levels::Levels;
-pub use support::operator_kind;
+
+#[cfg(test)]
+mod tests;
