@@ -1,1 +1,5 @@
+pub mod Before
+pub mod Constants
+pub mod Taken
+pub mod Telling
 pub mod Told

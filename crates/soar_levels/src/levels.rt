@@ -1,6 +1,8 @@
 ghost use Rattle.std.specs.Prelude.{◌≡◌, [], IfOk, OnOk, OnErr};
 ghost use Rattle.soar_levels.specs.Told.{level_told, TellsLevels};
 
+use crate::telling::{level_told, tell_goals, tell_reached};
+use crate::walk::ids_of;
 use defs_soar::Goal;
 use soar_sym::{List, NoMemory, Sym, Triple};
 use std::alloc::Global;
@@ -10,7 +12,8 @@ use std::marker::Model;
 /// from which walks lead to it (Soar manual, substates and levels).
 #[derive(Drop)]
 pub struct Levels {
-    todo
+    told: List<(Sym, u32)>,
+    alloc: Global,
 }
 
 impl Model for Levels {
@@ -19,7 +22,7 @@ impl Model for Levels {
 
     ghost Value = { ListOf (SymOf × ℕ) };
 
-    ghost view = { todo };
+    ghost view = { λ levels. levels.told };
 }
 
 impl Levels {
@@ -27,7 +30,10 @@ impl Levels {
     pub fn new(alloc: Global) -> Result<Levels, NoMemory>
         ensures { IfOk result (λ levels. levels ≡ []) }
     {
-        todo
+        Ok(Levels {
+            told: List::new(alloc),
+            alloc,
+        })
     }
 
     /// Finds the levels anew, over the triples that are held and the goals from the top.
@@ -35,13 +41,18 @@ impl Levels {
         ensures ok { OnOk result (TellsLevels self.new goals.now held.now) }
         ensures err { OnErr result (self.new ≡ self.old) }
     {
-        todo
+        let ids = ids_of(self.alloc, goals.as_slice())?;
+        let mut told = List::new(self.alloc);
+        tell_goals(&mut told, ids.as_slice())?;
+        tell_reached(self.alloc, &mut told, ids.as_slice(), held.as_slice())?;
+        self.told = told;
+        Ok(())
     }
 
     /// The level of an identifier, from 1 for what the top goal reaches, and none where no goal reaches it.
     pub fn level_of(&self, id: Sym) -> Option<u32>
         ensures { result ≡ level_told self.now id }
     {
-        todo
+        level_told(self.told.as_slice(), id)
     }
 }

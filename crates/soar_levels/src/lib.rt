@@ -1,8 +1,17 @@
 //! Which identifiers the goals reach, how deep, and whether a firing has operator support.
 #![tactic(auto)]
 
+mod binding;
+mod changes;
+mod constants;
 mod levels;
 mod support;
+mod taken;
+mod telling;
+mod walk;
 
 pub use levels::Levels;
 pub use support::operator_kind;
+
+#[cfg(test)]
+mod tests;
