@@ -1,5 +1,5 @@
 -- From the tree of a text to one triple for each condition and action (Soar manual, production syntax; names of new variables are this engine's).
-use Rattle.std.specs.Prelude.{ℕ, zero, suc, Bool, true, false, ◌||◌, ◌==◌, List, [], ◌∷◌, ◌++◌, map, flat_map, length, Option, Some, None, if◌then◌else◌, codes}
+use Rattle.std.specs.Prelude.{ℕ, zero, suc, Bool, true, false, ◌==◌, List, [], ◌∷◌, ◌++◌, map, flat_map, length, Option, Some, None, if◌then◌else◌}
 use Rattle.std.specs.Fmt.{decimal}
 use Rattle.std.specs.List.{list_any}
 use Rattle.std.specs.Str.{bytes_eq}
@@ -8,7 +8,6 @@ use Rattle.soar_sym.specs.declared.symbol.Sym.{Sym}
 use Rattle.soar_sym.specs.declared.symbol.Sym.TheVariants.{Word, Int}
 use Rattle.soar_rule.specs.declared.cond.Atom.{Atom}
 use Rattle.soar_rule.specs.declared.cond.Atom.TheVariants.{Const, Var}
-use Rattle.soar_rule.specs.declared.cond.Relation.{Relation}
 use Rattle.soar_rule.specs.declared.cond.Relation.TheVariants.{Differ, Less, Greater, AtMost, AtLeast, SameKind}
 use Rattle.soar_rule.specs.declared.cond.Test.{Test}
 use Rattle.soar_rule.specs.declared.cond.Test.TheVariants.{Plain, Rel, OneOf}
@@ -21,7 +20,7 @@ use Rattle.soar_rule.specs.Conditions.{Condition, positive, negated, conjunctive
 use Rattle.soar_rule.specs.Productions.{ValueOf, atom_value, call_value, ValuesOf, no_values, value_and, PreferenceOf, accepts, rejects, requires_it, prohibits, is_best, is_worst, is_indifferent, is_better_than, is_worse_than, is_indifferent_to, ActionOf, makes, writes, halts, ProductionOf}
 use Rattle.defs_text.specs.Lexing.{Saying, variable_named}
 use Rattle.defs_text.specs.Numbered.{word_in}
-use Rattle.defs_read.specs.Grammar.{Constant, named, number, Single, a_variable, a_constant, Alternatives, Tested, Simple, one_of, tested, Braced, FieldTree, braced, single, ValueTest, AttributeTest, Group, Part, grouped, joined, Parts, no_parts, part_and, Term, simple, called, Terms, no_terms, term_and, Compared, WishTree, accepting, rejecting, requiring, prohibiting, comparing, ItemTree, AttributeMake, MakeTree, ActionTree, making, writing, halting, Flag, operator_support, instance_support, is_default, is_chunk, Tree, Tokens}
+use Rattle.defs_read.specs.Grammar.{Constant, named, number, Single, a_variable, a_constant, Simple, one_of, tested, FieldTree, braced, single, ValueTest, AttributeTest, Group, Part, grouped, joined, Parts, no_parts, part_and, Term, simple, called, Terms, no_terms, term_and, WishTree, accepting, rejecting, requiring, prohibiting, comparing, ItemTree, AttributeMake, ActionTree, making, writing, halting, Flag, operator_support, instance_support, is_default, is_chunk, Tree, Tokens}
 
 -- ---- a production whose variables are still names
 

@@ -1,9 +1,9 @@
 -- A production as text, which is read back to it (the form is this engine's).
-use Rattle.std.specs.Prelude.{ℕ, zero, suc, Bool, true, false, List, [], ◌∷◌, ◌++◌, map, Option, Some, None, if◌then◌else◌, codes}
+use Rattle.std.specs.Prelude.{ℕ, zero, suc, Bool, false, List, [], ◌∷◌, ◌++◌, map, Option, Some, None, if◌then◌else◌, codes}
 use Rattle.soar_sym.specs.Equality.{symbol_eq}
 use Rattle.soar_sym.specs.Words.{Texts, text_of}
 use Rattle.soar_sym.specs.declared.symbol.Sym.{Sym}
-use Rattle.soar_sym.specs.declared.symbol.Sym.TheVariants.{Ident, Word, Int}
+use Rattle.soar_sym.specs.declared.symbol.Sym.TheVariants.{Word}
 use Rattle.soar_rule.specs.declared.action.Func.{Func}
 use Rattle.soar_rule.specs.declared.action.Func.TheVariants as func
 use Rattle.soar_rule.specs.declared.cond.Atom.{Atom}

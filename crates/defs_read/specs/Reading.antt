@@ -1,7 +1,7 @@
 -- The tree that tokens spell, or the first token with which no production goes on: names, fields and conditions.
-use Rattle.std.specs.Prelude.{ℕ, zero, suc, Bool, true, false, ◌&&◌, ◌||◌, ◌==◌, not, nat_lt, List, [], ◌∷◌, Option, Some, None, Ok, Err, if◌then◌else◌, length, codes}
+use Rattle.std.specs.Prelude.{ℕ, zero, suc, Bool, true, false, ◌||◌, ◌==◌, not, nat_lt, List, [], ◌∷◌, Option, Some, None, Ok, Err, if◌then◌else◌, length, codes}
 use Rattle.std.specs.Str.{bytes_eq}
-use Rattle.defs_text.specs.Lexing.{Saying, mark, arrow, open_set, close_set, sign, variable_named, integer, word_of, documentation}
+use Rattle.defs_text.specs.Lexing.{Saying, mark, arrow, open_set, close_set, sign, variable_named, integer, word_of}
 use Rattle.defs_read.specs.Grammar.{Constant, named, number, Single, a_variable, a_constant, Alternatives, Tested, Simple, one_of, tested, Braced, FieldTree, braced, single, ValueTest, AttributeTest, Group, Part, grouped, joined, Parts, no_parts, part_and, Flag, operator_support, instance_support, is_default, is_chunk, Tokens, flag_text}
 use Rattle.defs_read.specs.Readers.{deep, unexpected, Read, then_read, begins, token, taken, several, many, flag, optional}
 

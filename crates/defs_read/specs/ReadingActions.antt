@@ -1,13 +1,13 @@
 -- The tree that tokens spell: actions, and the whole production.
-use Rattle.std.specs.Prelude.{ℕ, zero, suc, Bool, true, false, ◌&&◌, ◌||◌, ◌==◌, not, nat_lt, nat_le, List, [], ◌∷◌, Option, Some, None, Result, Ok, Err, if◌then◌else◌, length, codes}
+use Rattle.std.specs.Prelude.{ℕ, zero, suc, Bool, true, false, ◌&&◌, ◌||◌, ◌==◌, nat_lt, List, [], ◌∷◌, Option, Some, None, Result, Ok, Err, if◌then◌else◌, length, codes}
 use Rattle.std.specs.Str.{bytes_eq}
 use Rattle.soar_rule.specs.declared.action.Func.{Func}
 use Rattle.soar_rule.specs.declared.action.Func.TheVariants as func
-use Rattle.defs_text.specs.Lexing.{Saying, mark, arrow, open_set, close_set, sign, variable_named, integer, word_of, documentation}
-use Rattle.defs_read.specs.Grammar.{Single, Term, simple, called, Terms, no_terms, term_and, Compared, WishTree, accepting, rejecting, requiring, prohibiting, comparing, ItemTree, AttributeMake, MakeTree, ActionTree, making, writing, halting, Flag, Part, Tree, Tokens}
+use Rattle.defs_text.specs.Lexing.{Saying, mark, sign, variable_named, integer, word_of, documentation}
+use Rattle.defs_read.specs.Grammar.{Term, simple, called, Terms, no_terms, term_and, Compared, WishTree, accepting, rejecting, requiring, prohibiting, comparing, ItemTree, AttributeMake, ActionTree, making, writing, halting, Tree, Tokens}
 use Rattle.defs_read.specs.Printing.{function_text}
-use Rattle.defs_read.specs.Readers.{Stop, deep, unexpected, Read, then_read, begins, token, taken, several, many, optional, at_end}
-use Rattle.defs_read.specs.Reading.{ReadOf, is_mark, is_sign, is_arrow, is_bare, is_constant, as_single, opened, begins_part, part_at, parts_of, flags_at}
+use Rattle.defs_read.specs.Readers.{Stop, deep, then_read, begins, token, taken, several, many, optional, at_end}
+use Rattle.defs_read.specs.Reading.{ReadOf, is_mark, is_sign, is_arrow, is_bare, as_single, begins_part, part_at, parts_of, flags_at}
 
 -- ---- values
 

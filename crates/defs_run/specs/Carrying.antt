@@ -1,18 +1,15 @@
 -- What each order does.
-use Rattle.std.specs.Prelude.{ℕ, suc, ◌+◌, Bool, true, false, ◌&&◌, ◌||◌, ◌==◌, not, List, [], ◌∷◌, ◌++◌, map, flat_map, filter, length, Option, Some, None, is_some, if◌then◌else◌, codes}
-use Rattle.std.specs.Fmt.{decimal}
+use Rattle.std.specs.Prelude.{ℕ, suc, Bool, true, false, ◌&&◌, ◌==◌, not, List, [], ◌∷◌, ◌++◌, map, filter, Option, Some, None, is_some, if◌then◌else◌}
 use Rattle.std.specs.List.{list_any}
 use Rattle.soar_sym.specs.Equality.{symbol_eq}
 use Rattle.soar_sym.specs.declared.symbol.Sym.{Sym}
-use Rattle.soar_sym.specs.declared.symbol.Sym.TheVariants.{Ident, Word, Int}
 use Rattle.soar_sym.specs.declared.symbol.Triple.{Triple}
 use Rattle.soar_rule.specs.Productions.{ProductionOf}
 use Rattle.soar_wm.specs.declared.element.Element.{Element}
 use Rattle.soar_wm.specs.WorkingMemory.{triple_of, tag_of, element_of, elements_of}
 use Rattle.defs_text.specs.Symbols.{symbol_text}
-use Rattle.defs_match.specs.Conflict.{conflict}
 use Rattle.defs_match.specs.Rules.{RuleOf}
-use Rattle.defs_soar.specs.Agents.{Agent, Queues, Queued, Program, Settings, Learnt}
+use Rattle.defs_soar.specs.Agents.{Agent, Program, Settings, Learnt}
 use Rattle.defs_soar.specs.Cycle.{held_with}
 use Rattle.defs_soar.specs.Goals.{is_operator_slot, plain_triple}
 use Rattle.defs_soar.specs.History.{ChainOf}
@@ -25,7 +22,7 @@ use Rattle.defs_soar.specs.Values.{triple_eq, has_triple_among}
 use Rattle.defs_soar.specs.Waves.{Step, Said, Course, resettled}
 use Rattle.defs_run.specs.Listing.{conflict_lines, conflict_lines_of, preference_lines, element_lines, production_lines, rule_lines, chunk_lines, stats_line}
 use Rattle.defs_run.specs.Orders.{Operand, is_symbol, is_label, Order, load, excise, source, add_wme, remove_wme, queue, random, run_cycles, watch, matches, matches_of, preferences, print_id, print_name, print_memory, print_rules, print_chunks, chunk, local_negations, select_by, max_elaborations, explain, stats, init_soar, quit, Refusal, unknown_identifier, not_of_the_top_state, reserved_attribute, already_there, no_production, not_a_learned_rule, no_element, not_an_input, halted}
-use Rattle.defs_run.specs.Sessions.{Session, Told, sources, quits, Reply, replied, quiet, with_agent, says, draws, label_in, Resolved, resolved, unknown_in, bracketed}
+use Rattle.defs_run.specs.Sessions.{Session, Told, sources, quits, Reply, replied, quiet, with_agent, says, draws, label_in, resolved, unknown_in, bracketed}
 
 -- what an order does, or why it is refused
 pub data Carried : Type 0 where

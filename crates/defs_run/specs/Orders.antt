@@ -1,9 +1,8 @@
 -- What a command asks for, and how it may be refused (Soar manual, the user interface; the texts are this engine's).
-use Rattle.std.specs.Prelude.{ℕ, Bool, List, [], ◌∷◌, ◌++◌, codes}
+use Rattle.std.specs.Prelude.{ℕ, Bool, List, ◌∷◌, ◌++◌, codes}
 use Rattle.std.specs.Fmt.{decimal}
-use Rattle.soar_sym.specs.Words.{Texts, text_of}
+use Rattle.soar_sym.specs.Words.{Texts}
 use Rattle.soar_sym.specs.declared.symbol.Sym.{Sym}
-use Rattle.soar_sym.specs.declared.symbol.Sym.TheVariants.{Ident, Word, Int}
 use Rattle.soar_rule.specs.Productions.{ProductionOf}
 use Rattle.defs_text.specs.Symbols.{symbol_text}
 use Rattle.defs_soar.specs.declared.choice.Mode.{Mode}

@@ -1,5 +1,5 @@
 -- A stage of the program: how it cuts its input, which commands it reads, and how a cycle goes. The last stage is the whole.
-use Rattle.std.specs.Prelude.{ℕ, Bool, List, Option, Result}
+use Rattle.std.specs.Prelude.{ℕ, Bool, List, Result}
 use Rattle.soar_sym.specs.Words.{Texts}
 use Rattle.soar_edge.specs.Cutting.{Cut}
 use Rattle.defs_soar.specs.Agents.{Agent}

@@ -1,10 +1,10 @@
 -- How commands are read once all are built (the forms are this engine's).
-use Rattle.std.specs.Prelude.{ℕ, zero, suc, ◌+◌, ◌-◌, ◌^◌, Bool, true, false, ◌&&◌, ◌||◌, ◌==◌, not, nat_le, nat_lt, ℤ, pos, negsuc, List, [], ◌∷◌, ◌++◌, map, take, drop, length, Option, Some, None, option_and_then, option_map, Result, Ok, Err, if◌then◌else◌, codes}
+use Rattle.std.specs.Prelude.{ℕ, zero, suc, ◌+◌, ◌-◌, ◌^◌, Bool, true, false, ◌&&◌, ◌==◌, nat_le, nat_lt, ℤ, pos, negsuc, List, [], ◌∷◌, ◌++◌, map, drop, length, Option, Some, None, option_and_then, option_map, Result, Ok, Err, if◌then◌else◌, codes}
 use Rattle.std.specs.Fmt.{decimal}
-use Rattle.std.specs.List.{list_any, prefix_len}
+use Rattle.std.specs.List.{prefix_len}
 use Rattle.std.specs.Str.{bytes_eq}
 use Rattle.std.specs.Str.Lossy.{utf8_valid_len}
-use Rattle.soar_sym.specs.Words.{Texts, text_of}
+use Rattle.soar_sym.specs.Words.{Texts}
 use Rattle.soar_sym.specs.declared.symbol.Sym.{Sym}
 use Rattle.soar_edge.specs.Cutting.{Inside, comment, open_text, after_byte}
 use Rattle.soar_rule.specs.Checking.{Fault, no_state, unbound, unconnected, too_many, too_deep, bad_preference, ordered}
@@ -14,14 +14,14 @@ use Rattle.defs_text.specs.Lexing.{Saying, integer, Spelled, Piece, token, nothi
 use Rattle.defs_text.specs.Lexing as lexing
 use Rattle.defs_text.specs.Numbered.{words_after}
 use Rattle.defs_text.specs.Runs.{RunKind, a_number, run_kind, begins_digit, fits_integer, is_empty}
-use Rattle.defs_read.specs.Expansion.{ProductionRead, production_of}
+use Rattle.defs_read.specs.Expansion.{production_of}
 use Rattle.defs_read.specs.Grammar.{Tree}
-use Rattle.defs_read.specs.Printing.{Naming, atom_text}
+use Rattle.defs_read.specs.Printing.{atom_text}
 use Rattle.soar_rule.specs.declared.cond.Atom.TheVariants.{Var}
 use Rattle.defs_read.specs.Readers.{Stop, unexpected, deep}
 use Rattle.defs_read.specs.ReadingActions.{tree_of}
 use Rattle.defs_soar.specs.declared.choice.Mode.TheVariants as mode
-use Rattle.defs_run.specs.Arguments.{Argument, bare, barred, label, number, signed, caret, no_argument, argument_in, operand_of, attribute_of, id_of, name_of}
+use Rattle.defs_run.specs.Arguments.{Argument, bare, label, number, caret, argument_in, operand_of, attribute_of, id_of, name_of}
 use Rattle.defs_run.specs.Commands.{first_run}
 use Rattle.defs_run.specs.Orders.{Operand, Order, load, excise, source, add_wme, remove_wme, queue, random, run_cycles, watch, matches, matches_of, preferences, print_id, print_name, print_memory, print_rules, print_chunks, chunk, local_negations, select_by, max_elaborations, explain, stats, init_soar, quit, Refusal, refusal, at_byte, unknown_command, wrong_words}
 use Rattle.defs_run.specs.Stages.{Reading}

@@ -4,7 +4,6 @@ use Rattle.std.specs.Fmt.{decimal}
 use Rattle.soar_sym.specs.Words.{Texts}
 use Rattle.soar_sym.specs.declared.symbol.Sym.{Sym}
 use Rattle.defs_text.specs.Symbols.{symbol_text, instance_text, tags_text}
-use Rattle.defs_match.specs.declared.instance.Instance.{Instance}
 use Rattle.defs_soar.specs.declared.firing.DropCause.{DropCause}
 use Rattle.defs_soar.specs.declared.firing.DropCause.TheVariants as drop_cause
 use Rattle.defs_soar.specs.declared.goal.Impasse.{Impasse}

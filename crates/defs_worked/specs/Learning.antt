@@ -1,7 +1,7 @@
 -- Learning: whole runs that were worked out by hand.
-use Rattle.std.specs.Prelude.{◌≡◌, ℕ, List, [], ◌∷◌, codes}
+use Rattle.std.specs.Prelude.{codes}
 use Rattle.soar_edge.specs.declared.status.Status.TheVariants as status
-use Rattle.defs_worked.specs.Writes.{Writes, WritesWith}
+use Rattle.defs_worked.specs.Writes.{Writes}
 
 -- a chunk from a tie, which spares the impasse the next time, and its explanation
 abbrev pub LearnFromTie : Type 0

@@ -1,5 +1,5 @@
 -- A stream of bytes cut into commands (the form is this engine's).
-use Rattle.std.specs.Prelude.{ℕ, zero, suc, ◌+◌, ◌-◌, ◌^◌, Bool, true, false, ◌||◌, ◌==◌, not, nat_lt, List, [], ◌∷◌, take, length, if◌then◌else◌}
+use Rattle.std.specs.Prelude.{ℕ, zero, suc, ◌-◌, ◌^◌, Bool, true, false, ◌||◌, ◌==◌, not, nat_lt, List, [], ◌∷◌, take, if◌then◌else◌}
 use Rattle.std.specs.List.{prefix_len}
 
 -- ---- where a command ends
