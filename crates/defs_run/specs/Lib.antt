@@ -6,6 +6,7 @@ pub mod Forms
 pub mod Listing
 pub mod Loading
 pub mod Orders
+pub mod Present
 pub mod Runs
 pub mod Said
 pub mod Session

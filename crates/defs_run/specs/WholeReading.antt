@@ -6,7 +6,7 @@ use Rattle.std.specs.Str.{bytes_eq}
 use Rattle.std.specs.Str.Lossy.{utf8_valid_len}
 use Rattle.soar_sym.specs.Words.{Texts}
 use Rattle.soar_sym.specs.declared.symbol.Sym.{Sym}
-use Rattle.soar_edge.specs.Cutting.{Inside, comment, open_text, after_byte}
+use Rattle.soar_edge.specs.Cutting.{Inside, open_text, after_byte, is_comment, uncommented}
 use Rattle.soar_rule.specs.Checking.{Fault, no_state, unbound, unconnected, too_many, too_deep, bad_preference, ordered}
 use Rattle.soar_rule.specs.Productions.{ProductionOf}
 use Rattle.defs_text.specs.Bytes.{is_blank}
@@ -69,13 +69,9 @@ abbrev pub unless_faulty : Texts → Lexed → (Texts → List Spelled → Readi
 unless_faulty words l f = let read = words_after words l.tokens in elim (l.fault) [ Some e ↦ record { words = read; order = Err (of_lexing e) } | None ↦ f read l.tokens ]
 
 abbrev pub read_sp : Texts → List ℕ → Reading
-read_sp words text = unless_faulty words (lexed text) (λ read tokens. read_tree read tokens (tree_of (map (λ t. t.says) tokens)))
+read_sp words text = unless_faulty words (lexed (uncommented text)) (λ read tokens. read_tree read tokens (tree_of (map (λ t. t.says) tokens)))
 
 -- ---- files
-
-abbrev pub is_comment : Inside → Bool
-is_comment comment = true
-is_comment other = false
 
 -- the bytes before a comment
 abbrev pub before_comment : Inside → List ℕ → List ℕ
@@ -272,7 +268,7 @@ read_arguments words text l order =
 
 abbrev pub by_form : Texts → List ℕ → Option Form → Reading
 by_form words text None = record { words = words; order = Err unknown_command }
-by_form words text (Some f) = read_arguments words text (lexed text) f.order
+by_form words text (Some f) = read_arguments words text (lexed (uncommented text)) f.order
 
 -- the order of a command, or its refusal, and the table with its words
 unfoldable pub read_whole : Texts → List ℕ → Reading
@@ -280,5 +276,5 @@ read_whole words text =
     let word = first_run text in
     if bytes_eq word (codes "sp") then read_sp words text
     else if bytes_eq word (codes "source") then read_source words text
-    else if bytes_eq word (codes "random") then read_arguments words text (random_lexed 0 0 text) (λ read. random_order)
+    else if bytes_eq word (codes "random") then read_arguments words text (random_lexed 0 0 (uncommented text)) (λ read. random_order)
     else by_form words text (form_in forms word)

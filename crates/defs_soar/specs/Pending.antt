@@ -4,9 +4,8 @@ use Rattle.std.specs.List.{list_any}
 use Rattle.soar_rule.specs.declared.production.Kind.{Kind}
 use Rattle.soar_rule.specs.declared.production.Kind.TheVariants as kind
 use Rattle.soar_wm.specs.declared.element.Element.{Element}
-use Rattle.defs_match.specs.Conflict.{instance_of, conflict}
+use Rattle.defs_match.specs.Conflict.{bindings_of, instances_of, conflict}
 use Rattle.defs_match.specs.Rules.{RuleOf}
-use Rattle.defs_match.specs.Rows.{Row, rows}
 use Rattle.defs_match.specs.Testing.{Bindings}
 use Rattle.defs_match.specs.declared.instance.Instance.{Instance}
 use Rattle.defs_soar.specs.declared.goal.Goal.{Goal}
@@ -37,12 +36,12 @@ is_listed instances i = list_any (instance_eq i) instances
 abbrev pub elements_of_tags : List Element → List ℕ → List Element
 elements_of_tags elements tags = filter (λ e. list_any (λ tag. tag == e.tag) tags) elements
 
-abbrev pub firable_of : List Element → RuleOf → Row → Firable
-firable_of elements rule row =
-    record { rule = rule; instance = instance_of rule.number row; bindings = row.bindings; elements = elements_of_tags elements row.tags }
+abbrev pub firable_of : List Element → RuleOf → Instance → Firable
+firable_of elements rule i =
+    record { rule = rule; instance = i; bindings = bindings_of rule.production i; elements = elements_of_tags elements i.tags }
 
 abbrev pub firables_of : List Element → RuleOf → List Firable
-firables_of elements rule = map (firable_of elements rule) (rows rule.production.conditions elements)
+firables_of elements rule = map (firable_of elements rule) (instances_of elements rule)
 
 abbrev pub is_justification : Kind → Bool
 is_justification kind.Justification = true
@@ -52,22 +51,22 @@ abbrev pub is_of_operator_kind : List Goal → Firable → Bool
 is_of_operator_kind goals f = operator_kind goals f.elements f.bindings f.rule.production
 
 -- justifications never fire again, and in the proposal phase no operator is applied
-abbrev pub may_fire : Bool → Agent → Firable → Bool
-may_fire proposing a f =
-    not (is_listed (map (λ l. l.instance) a.holding.live) f.instance)
-    && (not (is_justification f.rule.production.kind) && not (proposing && is_of_operator_kind a.holding.goals f))
+abbrev pub may_fire : Bool → List Goal → List LiveFiring → Firable → Bool
+may_fire proposing goals live f =
+    not (is_listed (map (λ l. l.instance) live) f.instance)
+    && (not (is_justification f.rule.production.kind) && not (proposing && is_of_operator_kind goals f))
 
 pub record Work : Type 0 where
   pub retracted : List LiveFiring
   pub fired : List Firable
 
 -- the firings whose instance is not in the conflict set, and the instances that are not live
-abbrev pub all_work : Bool → Agent → Work
-all_work proposing a =
-    let now = conflict a.program.rules a.holding.elements in
+abbrev pub all_work : Bool → List RuleOf → List Element → List Goal → List LiveFiring → Work
+all_work proposing rules elements goals live =
+    let now = conflict rules elements in
     record {
-      retracted = filter (λ l. not (is_listed now l.instance)) a.holding.live;
-      fired = filter (may_fire proposing a) (flat_map (firables_of a.holding.elements) a.program.rules);
+      retracted = filter (λ l. not (is_listed now l.instance)) live;
+      fired = filter (may_fire proposing goals live) (flat_map (firables_of elements) rules);
     }
 
 abbrev pub depth_of : List Goal → Firable → ℕ
@@ -82,12 +81,17 @@ least (n ∷ m ∷ ns) = min n (least (m ∷ ns))
 abbrev pub active_level : List Goal → Work → ℕ
 active_level goals w = least (map (λ l. l.depth) w.retracted ++ map (depth_of goals) w.fired)
 
+-- the work of a level
+abbrev pub of_level : List Goal → ℕ → Work → Work
+of_level goals level w = record { retracted = filter (λ l. l.depth == level) w.retracted; fired = filter (λ f. depth_of goals f == level) w.fired }
+
 -- the work of the active level
-unfoldable pub pending : Bool → Agent → Work
-pending proposing a =
-    let all = all_work proposing a in
-    let active = active_level a.holding.goals all in
-    record { retracted = filter (λ l. l.depth == active) all.retracted; fired = filter (λ f. depth_of a.holding.goals f == active) all.fired }
+unfoldable pub pending_in : Bool → List RuleOf → List Element → List Goal → List LiveFiring → Work
+pending_in proposing rules elements goals live =
+    let all = all_work proposing rules elements goals live in of_level goals (active_level goals all) all
+
+abbrev pub pending : Bool → Agent → Work
+pending proposing a = pending_in proposing a.program.rules a.holding.elements a.holding.goals a.holding.live
 
 abbrev pub is_none : Work → Bool
 is_none w = nothing w.retracted w.fired

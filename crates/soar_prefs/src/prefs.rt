@@ -73,6 +73,13 @@ impl Prefs {
         rows::drop_id(&mut self.rows, id);
     }
 
+    /// All rows, in order of adding.
+    pub fn rows(&self) -> &[Preference]
+        ensures { result.now ≡ self.now.rows }
+    {
+        self.rows.as_slice()
+    }
+
     /// The rows of a slot, in order of adding.
     pub fn slot(&self, alloc: Global, id: Sym, attr: Sym) -> Result<List<Preference>, NoMemory>
         ensures { IfOk result (λ rows. rows ≡ slot_of self.now.rows id attr) }
