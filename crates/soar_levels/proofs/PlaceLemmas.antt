@@ -230,3 +230,13 @@ symbol_at_place n v ws symbols below h =
     ∙ ap (λ b. with_each (cond b seen (seen ++ v ∷ [])) parts.0) new
     ∙ more.1 ∙ append_assoc seen (v ∷ []) more.0 in
     ap (λ l. symbol_of v (paired l symbols)) whole ∙ here v seen more.0 symbols new ∙ ap (slice_get symbols) (sym (place_is n v ws below))
+
+front_all : (v : ℕ) (ws : List ℕ) → is_among ws v ≡ false → front v ws ≡ ws
+front_all v [] h = refl
+front_all v (w ∷ ws) h =
+    let k = neither (v == w) (is_among ws v) h in
+    ap (λ b. cond b [] (w ∷ front v ws)) (turned w v ∙ k.0) ∙ ap (λ l. w ∷ l) (front_all v ws k.1)
+
+-- all come before a variable that is not there
+pub all_before : (n v : ℕ) (ws : List ℕ) → AreBelow n ws → is_bound v ws ≡ false → count_before n v ws ≡ length (with_each [] ws)
+all_before n v ws below h = place_is n v ws below ∙ ap (λ l. length (with_each [] l)) (front_all v ws (sym (bound_is v ws) ∙ h))

@@ -1,5 +1,5 @@
 -- The elements of several tags, by those of one tag and of the others, where tags rise along the list.
-use Rattle.std.proofs.Common.{◌≡◌, ℕ, zero, suc, ◌+◌, ◌<◌, ◌==◌, nat_lt, Bool, true, false, cond, ◌||◌, List, [], ◌∷◌, filter, Option, Some, None, is_some, option_map, refl, sym, ◌∙◌, ap, arith}
+use Rattle.std.proofs.Common.{◌≡◌, ◌⊎◌, inl, inr, ℕ, zero, suc, ◌+◌, ◌<◌, ◌≤◌, ◌==◌, nat_lt, max, Bool, true, false, cond, ◌||◌, List, [], ◌∷◌, filter, slice_get, Option, Some, None, option_map, refl, sym, ◌∙◌, ap, ap₂, arith}
 use Rattle.std.specs.List.{list_any}
 use Rattle.soar_sym.specs.declared.symbol.Sym.{Sym}
 use Rattle.soar_wm.specs.declared.element.Element.{Element}
@@ -8,7 +8,8 @@ use Rattle.defs_soar.specs.Pending.{elements_of_tags}
 use Rattle.defs_soar.specs.declared.goal.Goal.{Goal}
 use Rattle.defs_soar.specs.Goals.{goal_ids}
 use Rattle.defs_soar.specs.Support.{depth_from, match_depth, goal_at_depth, operator_selected}
-use Rattle.soar_levels.specs.Taken.{is_of, is_selected, deepest, first_passing, found_by, kept_by, earlier, TellsAny, TellsFirst}
+use Rattle.soar_sym.specs.Equality.{symbol_eq}
+use Rattle.soar_levels.specs.Taken.{is_selected, first_passing, kept_by, earlier, TellsFirst, last_depth, depth_of, TellsDepth}
 
 turned : (m n : ℕ) → (m == n) ≡ (n == m)
 turned m n = grind arith
@@ -74,19 +75,6 @@ any_two p a b (e ∷ elements) = by (a e) (b e) (any_two p a b elements)
     by true false h = ap (λ x. p e || x) h ∙ sym (or_assoc (p e) (list_any p (filter a elements)) (list_any p (filter b elements)))
     by false true h = ap (λ x. p e || x) h ∙ or_swap (p e) (list_any p (filter a elements)) (list_any p (filter b elements))
     by false false h = h
-
-any_as_list : (p : Element → Bool) (x : Option Element) → list_any p (as_list x) ≡ found_by p x
-any_as_list p None = refl
-any_as_list p (Some e) = or_false (p e)
-  where
-    or_false : (b : Bool) → (b || false) ≡ b
-    or_false true = refl
-    or_false false = refl
-
-pub tells_any : (p : Element → Bool) (elements : List Element) (tag : ℕ) (found : Bool) → IsRising elements → found ≡ found_by p (element_of tag elements) → TellsAny p elements tag found
-tells_any p elements tag found rising is tags =
-    any_two p (λ e. tag == e.tag) (is_any_tag tags) elements
-    ∙ ap (λ b. b || list_any p (elements_of_tags elements tags)) (ap (list_any p) (one_of_tag tag elements rising) ∙ any_as_list p (element_of tag elements) ∙ sym is)
 
 -- ---- the first that passes
 
@@ -211,76 +199,136 @@ operator_first goal (e ∷ elements) = by (is_selected goal e) (operator_first g
     by true h = refl
     by false h = h
 
--- ---- the match goal
+-- ---- the match depth
 
--- the depth of the deepest goal of the list, counted from its first
-abbrev depth_in : List Element → List Goal → ℕ
-depth_in elements [] = 0
-depth_in elements (goal ∷ goals) = elim (depth_in elements goals) [ zero ↦ cond (list_any (is_of goal.id) elements) 1 0 | suc n ↦ suc (suc n) ]
+-- the depth below, and this one where there is none below
+abbrev deeper : ℕ → Bool → ℕ → ℕ
+deeper n b zero = cond b n 0
+deeper n b (suc d) = suc d
 
-abbrev from_depth : ℕ → ℕ → ℕ
-from_depth n zero = 0
-from_depth n (suc m) = n + suc m
+deeper_is : (n : ℕ) (b : Bool) (d : ℕ) → cond (d == 0) (cond b n 0) d ≡ deeper n b d
+deeper_is n b zero = refl
+deeper_is n b (suc d) = ap (λ c. cond c (cond b n 0) (suc d)) (positive d)
+  where
+    positive : (m : ℕ) → (suc m == 0) ≡ false
+    positive m = grind arith
 
-depth_from_is : (n : ℕ) (goals : List Goal) (elements : List Element) → depth_from (suc n) (goal_ids goals) elements ≡ from_depth n (depth_in elements goals)
+-- the depth of the last symbol that passes, where the first has this depth
+abbrev depth_by : ℕ → List Sym → (Sym → Bool) → ℕ
+depth_by n [] t = 0
+depth_by n (s ∷ ids) t = deeper n (t s) (depth_by (suc n) ids t)
+
+depth_from_is : (n : ℕ) (ids : List Sym) (elements : List Element) → depth_from n ids elements ≡ depth_by n ids (λ s. list_any (λ e. symbol_eq e.id s) elements)
 depth_from_is n [] elements = refl
-depth_from_is n (goal ∷ goals) elements =
-    ap (λ d. cond (d == 0) (cond (list_any (is_of goal.id) elements) (suc n) 0) d) (depth_from_is (suc n) goals elements)
-    ∙ by (depth_in elements goals) (list_any (is_of goal.id) elements)
-  where
-    by : (d : ℕ) (b : Bool) → cond (from_depth (suc n) d == 0) (cond b (suc n) 0) (from_depth (suc n) d)
-        ≡ from_depth n (elim d [ zero ↦ cond b 1 0 | suc m ↦ suc (suc m) ])
-    by zero true = omega arith
-    by zero false = refl
-    by (suc m) b = grind arith
+depth_from_is n (s ∷ ids) elements =
+    let here : Bool = list_any (λ e. symbol_eq e.id s) elements in
+    ap (λ d. cond (d == 0) (cond here n 0) d) (depth_from_is (suc n) ids elements)
+    ∙ deeper_is n here (depth_by (suc n) ids (λ r. list_any (λ e. symbol_eq e.id r) elements))
 
-abbrev or_found : Option Sym → Option Sym → Option Sym
-or_found None found = found
-or_found (Some s) found = Some s
+depth_by_same : (n : ℕ) (ids : List Sym) (t u : Sym → Bool) → ((s : Sym) → t s ≡ u s) → depth_by n ids t ≡ depth_by n ids u
+depth_by_same n [] t u h = refl
+depth_by_same n (s ∷ ids) t u h = ap₂ (deeper n) (h s) (depth_by_same (suc n) ids t u h)
 
-at_zero : (goals : List Goal) → goal_at_depth zero goals ≡ None
-at_zero [] = refl
-at_zero (goal ∷ goals) = refl
+abbrev IsDepth : ℕ → ℕ → Type 0
+IsDepth n d = (d ≡ 0) ⊎ (n ≤ d)
 
-abbrev is_deep : ℕ → Bool
-is_deep zero = false
-is_deep (suc n) = true
+is_deeper : (n : ℕ) (b : Bool) (d : ℕ) → IsDepth (suc n) d → IsDepth n (deeper n b d)
+is_deeper n true zero h = inr (omega arith)
+is_deeper n false zero h = inl refl
+is_deeper n b (suc d) (inl e) = absurd (omega (arith, e))
+is_deeper n b (suc d) (inr less) = inr (omega (arith, less))
 
--- there is a goal at the depth, where it is not 0
-is_there : (elements : List Element) (goals : List Goal) → is_some (goal_at_depth (depth_in elements goals) goals) ≡ is_deep (depth_in elements goals)
-is_there elements [] = refl
-is_there elements (goal ∷ goals) = by (depth_in elements goals) (list_any (is_of goal.id) elements) (is_there elements goals)
-  where
-    by : (d : ℕ) (b : Bool) → is_some (goal_at_depth d goals) ≡ is_deep d
-        → is_some (goal_at_depth (elim d [ zero ↦ cond b 1 0 | suc n ↦ suc (suc n) ]) (goal ∷ goals)) ≡ is_deep (elim d [ zero ↦ cond b 1 0 | suc n ↦ suc (suc n) ])
-    by zero true h = refl
-    by zero false h = refl
-    by (suc n) b h = h
+is_depth : (n : ℕ) (ids : List Sym) (t : Sym → Bool) → IsDepth n (depth_by n ids t)
+is_depth n [] t = inl refl
+is_depth n (s ∷ ids) t = is_deeper n (t s) (depth_by (suc n) ids t) (is_depth (suc n) ids t)
 
-deepest_at : (elements : List Element) (goals : List Goal) (found : Option Sym) → deepest elements goals found ≡ or_found (goal_at_depth (depth_in elements goals) goals) found
-deepest_at elements [] found = refl
-deepest_at elements (goal ∷ goals) found = by (depth_in elements goals) (list_any (is_of goal.id) elements) (is_there elements goals) (deepest_at elements goals)
-  where
-    ignores : (x a b : Option Sym) → is_some x ≡ true → or_found x a ≡ or_found x b
-    ignores None a b h = cc
-    ignores (Some s) a b h = refl
+-- one or the other at this depth, below which there may be deeper ones
+here_or : (n : ℕ) (a b : Bool) → cond (a || b) n 0 ≡ max (cond a n 0) (cond b n 0)
+here_or n true true = omega arith
+here_or n true false = omega arith
+here_or n false true = omega arith
+here_or n false false = refl
 
-    by : (d : ℕ) (b : Bool) → is_some (goal_at_depth d goals) ≡ is_deep d → ((f : Option Sym) → deepest elements goals f ≡ or_found (goal_at_depth d goals) f)
-        → deepest elements goals (cond b (Some goal.id) found) ≡ or_found (goal_at_depth (elim d [ zero ↦ cond b 1 0 | suc n ↦ suc (suc n) ]) (goal ∷ goals)) found
-    by zero true h rest = rest (Some goal.id) ∙ ap (λ o. or_found o (Some goal.id)) (at_zero goals)
-    by zero false h rest = rest found ∙ ap (λ o. or_found o found) (at_zero goals)
-    by (suc n) b h rest = rest (cond b (Some goal.id) found) ∙ ignores (goal_at_depth (suc n) goals) (cond b (Some goal.id) found) found h
+at_most : (n : ℕ) (b : Bool) → cond b n 0 ≤ n
+at_most n true = omega arith
+at_most n false = omega arith
 
-pub deepest_is : (elements : List Element) (goals : List Goal) → deepest elements goals None ≡ goal_at_depth (match_depth goals elements) goals
-deepest_is elements goals =
-    deepest_at elements goals None
-    ∙ or_none (goal_at_depth (depth_in elements goals) goals)
-    ∙ sym (ap (λ d. goal_at_depth d goals) (depth_from_is 0 goals elements ∙ from_zero (depth_in elements goals)))
-  where
-    or_none : (x : Option Sym) → or_found x None ≡ x
-    or_none None = refl
-    or_none (Some s) = refl
+or_greater : (n d e : ℕ) (a b : Bool) → IsDepth (suc n) d → IsDepth (suc n) e → deeper n (a || b) (max d e) ≡ max (deeper n a d) (deeper n b e)
+or_greater n zero zero a b h k = here_or n a b
+or_greater n zero (suc e) a b h (inl k) = absurd (omega (arith, k))
+or_greater n zero (suc e) a b h (inr k) =
+    let m : max zero (suc e) ≡ suc e = omega arith in
+    ap (deeper n (a || b)) m ∙ omega (arith, k, at_most n a)
+or_greater n (suc d) e a b (inl h) k = absurd (omega (arith, h))
+or_greater n (suc d) zero a b (inr h) k =
+    let m : max (suc d) zero ≡ suc d = omega arith in
+    ap (deeper n (a || b)) m ∙ omega (arith, h, at_most n b)
+or_greater n (suc d) (suc e) a b (inr h) k =
+    let m : max (suc d) (suc e) ≡ suc (max d e) = omega arith in
+    ap (deeper n (a || b)) m ∙ omega arith
 
-    from_zero : (d : ℕ) → from_depth 0 d ≡ d
-    from_zero zero = refl
-    from_zero (suc n) = omega arith
+depth_or : (n : ℕ) (ids : List Sym) (t u : Sym → Bool) → depth_by n ids (λ s. t s || u s) ≡ max (depth_by n ids t) (depth_by n ids u)
+depth_or n [] t u = refl
+depth_or n (s ∷ ids) t u =
+    ap (deeper n (t s || u s)) (depth_or (suc n) ids t u)
+    ∙ or_greater n (depth_by (suc n) ids t) (depth_by (suc n) ids u) (t s) (u s) (is_depth (suc n) ids t) (is_depth (suc n) ids u)
+
+depth_none : (n : ℕ) (ids : List Sym) → depth_by n ids (λ s. false) ≡ 0
+depth_none n [] = refl
+depth_none n (s ∷ ids) = ap (deeper n false) (depth_none (suc n) ids)
+
+abbrev or_found : ℕ → ℕ → ℕ
+or_found found zero = found
+or_found found (suc d) = suc d
+
+last_step : (n d found : ℕ) (b : Bool) → or_found (cond b (suc n) found) d ≡ or_found found (deeper (suc n) b d)
+last_step n zero found true = refl
+last_step n zero found false = refl
+last_step n (suc d) found b = refl
+
+last_or : (n : ℕ) (goals : List Goal) (id : Sym) (found : ℕ) → last_depth (suc n) goals id found ≡ or_found found (depth_by (suc n) (goal_ids goals) (symbol_eq id))
+last_or n [] id found = refl
+last_or n (goal ∷ goals) id found =
+    let next : suc n + 1 ≡ suc (suc n) = omega arith in
+    ap (λ m. last_depth m goals id (cond (symbol_eq id goal.id) (suc n) found)) next
+    ∙ last_or (suc n) goals id (cond (symbol_eq id goal.id) (suc n) found)
+    ∙ last_step n (depth_by (suc (suc n)) (goal_ids goals) (symbol_eq id)) found (symbol_eq id goal.id)
+
+zero_or : (d : ℕ) → or_found 0 d ≡ d
+zero_or zero = refl
+zero_or (suc d) = refl
+
+or_false : (b : Bool) → (b || false) ≡ b
+or_false true = refl
+or_false false = refl
+
+depth_as_list : (goals : List Goal) (x : Option Element) → depth_by 1 (goal_ids goals) (λ s. list_any (λ e. symbol_eq e.id s) (as_list x)) ≡ depth_of goals x
+depth_as_list goals None = depth_none 1 (goal_ids goals)
+depth_as_list goals (Some e) =
+    depth_by_same 1 (goal_ids goals) (λ s. symbol_eq e.id s || false) (symbol_eq e.id) (λ s. or_false (symbol_eq e.id s))
+    ∙ sym (last_or 0 goals e.id 0 ∙ zero_or (depth_by 1 (goal_ids goals) (symbol_eq e.id)))
+
+pub tells_depth : (goals : List Goal) (elements : List Element) (tag : ℕ) (found : ℕ) → IsRising elements → found ≡ depth_of goals (element_of tag elements) → TellsDepth goals elements tag found
+tells_depth goals elements tag found rising is tags =
+    let ids : List Sym = goal_ids goals in
+    let others : List Element = elements_of_tags elements tags in
+    let about : List Element → Sym → Bool = λ es s. list_any (λ e. symbol_eq e.id s) es in
+    depth_from_is 1 ids (elements_of_tags elements (tag ∷ tags))
+    ∙ depth_by_same 1 ids (about (elements_of_tags elements (tag ∷ tags))) (λ s. about (of_tag tag elements) s || about others s)
+    (λ s. any_two (λ e. symbol_eq e.id s) (λ e. tag == e.tag) (is_any_tag tags) elements)
+    ∙ depth_or 1 ids (about (of_tag tag elements)) (about others)
+    ∙ ap (λ d. max d (depth_by 1 ids (about others))) (ap (λ es. depth_by 1 ids (about es)) (one_of_tag tag elements rising) ∙ depth_as_list goals (element_of tag elements) ∙ sym is)
+    ∙ ap (max found) (sym (depth_from_is 1 ids others))
+
+pub depth_of_none : (goals : List Goal) → match_depth goals [] ≡ 0
+depth_of_none goals = depth_from_is 1 (goal_ids goals) [] ∙ depth_none 1 (goal_ids goals)
+
+-- the goal at a depth
+pub goal_at_zero : (goals : List Goal) → goal_at_depth zero goals ≡ None
+goal_at_zero [] = refl
+goal_at_zero (goal ∷ goals) = refl
+
+pub goal_at : (goals : List Goal) (place : ℕ) → goal_at_depth (suc place) goals ≡ option_map (λ goal. goal.id) (slice_get goals place)
+goal_at [] place = refl
+goal_at (goal ∷ goals) zero = refl
+goal_at (goal ∷ goals) (suc place) = goal_at goals place

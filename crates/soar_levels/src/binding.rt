@@ -25,7 +25,7 @@ pub fn symbol_of(production: &Production, instance: &Instance, variable: u32) ->
 }
 
 /// How many variables of the first so many numbers come before the variable.
-fn count_before(conds: &[Cond], variable: u32, numbers: usize) -> usize
+pub fn count_before(conds: &[Cond], variable: u32, numbers: usize) -> usize
     ensures { result ≡ before.count_before numbers variable (plain_outside (conditions conds.now)) }
 {
     let mut count = 0;
@@ -46,7 +46,7 @@ fn comes_before(conds: &[Cond], other: usize, variable: u32) -> bool
     }
 }
 
-fn is_bound(conds: &[Cond], variable: u32) -> bool
+pub fn is_bound(conds: &[Cond], variable: u32) -> bool
     ensures { result ≡ before.is_bound variable (plain_outside (conditions conds.now)) }
 {
     other_first(conds, variable as usize, variable).is_some()

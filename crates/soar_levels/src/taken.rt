@@ -1,9 +1,8 @@
 // The match goal of an instance and the operator that is selected there, from the elements of its tags.
-ghost use Rattle.std.specs.Prelude.{◌≡◌, option_map};
-ghost use Rattle.std.specs.List.{list_any};
+ghost use Rattle.std.specs.Prelude.{◌≡◌, option_map, slice_get};
 ghost use Rattle.defs_soar.specs.Pending.{elements_of_tags};
 ghost use Rattle.defs_soar.specs.Support.{goal_at_depth, match_depth, operator_selected};
-ghost use Rattle.soar_levels.specs.Taken.{TellsAny, TellsFirst, earlier, first_passing, found_by, is_of, is_selected, kept_by};
+ghost use Rattle.soar_levels.specs.Taken.{TellsDepth, TellsFirst, depth_of, earlier, first_passing, is_selected, kept_by, last_depth};
 
 use defs_soar::Goal;
 use soar_sym::{Sym, is_symbol};
@@ -16,13 +15,64 @@ pub const OPERATOR: Sym = Sym::Word(7);
 pub fn match_goal(goals: &[Goal], memory: &Memory, tags: &[u32]) -> Option<Sym>
     ensures { result ≡ goal_at_depth (match_depth goals.now (elements_of_tags memory.now.elements tags.now)) goals.now }
 {
-    let mut found = None;
-    'goals: for goal in goals {
-        if is_any_of(memory, tags, goal.id) {
-            found = Some(goal.id);
+    goal_at_depth(goals, match_depth(goals, memory, tags))
+}
+
+fn goal_at_depth(goals: &[Goal], depth: usize) -> Option<Sym>
+    ensures { result ≡ goal_at_depth depth goals.now }
+{
+    if depth == 0 {
+        return None;
+    }
+    id_at(goals, depth - 1)
+}
+
+fn id_at(goals: &[Goal], place: usize) -> Option<Sym>
+    ensures { result ≡ option_map (λ goal. goal.id) (slice_get goals.now place) }
+{
+    if place >= goals.len() {
+        return None;
+    }
+    Some(goals[place].id)
+}
+
+fn match_depth(goals: &[Goal], memory: &Memory, tags: &[u32]) -> usize
+    ensures { result ≡ match_depth goals.now (elements_of_tags memory.now.elements tags.now) }
+{
+    let mut depth = 0;
+    'tags: for tag in tags {
+        depth = depth.max(depth_of_tag(goals, memory, *tag));
+    }
+    depth
+}
+
+/// The depth of the goal that the element of the tag is about.
+fn depth_of_tag(goals: &[Goal], memory: &Memory, tag: u32) -> usize
+    ensures { TellsDepth goals.now memory.now.elements tag result }
+{
+    depth_of(goals, memory.get(tag))
+}
+
+fn depth_of(goals: &[Goal], element: Option<Element>) -> usize
+    ensures { result ≡ depth_of goals.now element }
+{
+    match element {
+        Some(element) => last_depth(goals, element.id),
+        None => 0,
+    }
+}
+
+/// The depth of the last goal with the identifier, and 0 without one.
+fn last_depth(goals: &[Goal], id: Sym) -> usize
+    ensures { result ≡ last_depth 1 goals.now id 0 }
+{
+    let mut depth = 0;
+    'goals: for (place, goal) in goals.iter().enumerate() {
+        if is_symbol(id, goal.id) {
+            depth = place + 1;
         }
     }
-    found
+    depth
 }
 
 /// The operator of the first element among them that tells the selected operator of the goal.
@@ -38,33 +88,6 @@ fn value_of(element: Option<Element>) -> Option<Sym>
     match element {
         Some(element) => Some(element.value),
         None => None,
-    }
-}
-
-/// Whether one of the elements is about the identifier.
-fn is_any_of(memory: &Memory, tags: &[u32], id: Sym) -> bool
-    ensures { result ≡ list_any (is_of id) (elements_of_tags memory.now.elements tags.now) }
-{
-    'tags: for tag in tags {
-        if is_of(memory, *tag, id) {
-            return true;
-        }
-    }
-    false
-}
-
-fn is_of(memory: &Memory, tag: u32, id: Sym) -> bool
-    ensures { TellsAny (is_of id) memory.now.elements tag result }
-{
-    is_found(memory.get(tag), id)
-}
-
-fn is_found(element: Option<Element>, id: Sym) -> bool
-    ensures { result ≡ found_by (is_of id) element }
-{
-    match element {
-        Some(element) => is_symbol(element.id, id),
-        None => false,
     }
 }
 
