@@ -1,0 +1,3 @@
+pub mod Firables
+pub mod FiresAll
+pub mod Settles
