@@ -1,8 +1,9 @@
 //! What a rule makes when it fires: its actions, one after the other, and the functions that they call.
 #![tactic(auto)]
 
+mod arithmetic;
 mod fault;
-mod fire;
+mod firing;
 
 pub use fault::FireFault;
-pub use fire::fire;
+pub use firing::fire;

