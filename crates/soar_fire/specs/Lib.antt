@@ -1,2 +1,3 @@
 pub mod Fires
+pub mod Known
 pub mod Steps

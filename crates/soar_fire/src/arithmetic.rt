@@ -44,7 +44,7 @@ fn applied(operation: Operation, z: i64, y: i64) -> Result<i64, DropCause>
 }
 
 /// The next number, from a symbol.
-fn step_with(
+pub fn step_with(
     operation: Operation,
     number: Result<i64, DropCause>,
     symbol: Sym,

@@ -4,6 +4,8 @@
 mod arithmetic;
 mod fault;
 mod firing;
+mod functions;
+mod plain;
 
 pub use fault::FireFault;
 pub use firing::fire;
