@@ -1,1 +1,2 @@
+mod KnownLemmas
 mod NumberLemmas

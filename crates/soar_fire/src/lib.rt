@@ -6,6 +6,7 @@ mod fault;
 mod firing;
 mod functions;
 mod plain;
+mod value;
 
 pub use fault::FireFault;
 pub use firing::fire;
