@@ -1,9 +1,11 @@
 -- Symbols whose words are in the table.
 use Rattle.std.specs.Prelude.{List, map}
-use Rattle.soar_sym.specs.Words.{Texts}
+use Rattle.soar_sym.specs.Words.{Texts, IsKnown}
 use Rattle.soar_sym.specs.declared.symbol.Sym.{Sym}
 use Rattle.soar_rule.specs.Symbols.{AreKnown}
 use Rattle.defs_match.specs.Testing.{Bindings}
+use Rattle.soar_fire.specs.declared.functions.Computed.{Computed}
+use Rattle.soar_fire.specs.declared.functions.Computed.TheVariants as code
 
 -- `AreKnown` as a record, which lemmas take
 pub record Knows (words : Texts) (symbols : List Sym) : Type 0 where
@@ -11,3 +13,9 @@ pub record Knows (words : Texts) (symbols : List Sym) : Type 0 where
 
 abbrev pub bound_symbols : Bindings → List Sym
 bound_symbols bindings = map (λ b. b.1) bindings
+
+-- the symbol that a function gives
+abbrev pub GivesKnown : Texts → Computed → Type 0
+GivesKnown words (code.Gives s) = IsKnown words s
+GivesKnown words (code.Spells text) = Unit {0}
+GivesKnown words (code.Fails why) = Unit {0}

@@ -1,7 +1,8 @@
 // The functions of actions, over symbols.
 ghost use Rattle.std.specs.Prelude.{◌≡◌, IfOk};
+ghost use Rattle.soar_sym.specs.Words.{Texts};
 ghost use Rattle.defs_soar.specs.Functions as meaning;
-ghost use Rattle.soar_fire.specs.Known.{Knows};
+ghost use Rattle.soar_fire.specs.Known.{Knows, GivesKnown};
 ghost use Rattle.soar_fire.specs.Steps.{computed_seen, step_of};
 
 use crate::arithmetic::{Operation, fold_with, quotient, remainder, step_with};
@@ -29,7 +30,8 @@ pub fn compute(
     symbols: &[Sym],
 ) -> Result<Computed, AllocError>
     requires { Knows table.now symbols.now }
-    ensures { IfOk result (λ c. computed_seen c ≡ meaning.computed table.now func symbols.now) }
+    ensures value { IfOk result (λ c. computed_seen c ≡ meaning.computed table.now func symbols.now) }
+    ensures known { IfOk result (λ c. GivesKnown table.now c) }
 {
     Ok(match func {
         Func::Plus => as_number(fold_with(Operation::Sum, Ok(0), symbols)),
@@ -41,7 +43,7 @@ pub fn compute(
         Func::Min => as_number(over_first(Operation::Least, symbols)),
         Func::Max => as_number(over_first(Operation::Greatest, symbols)),
         Func::Concat => as_word(joined(alloc, table, symbols)?),
-        Func::IfEq => third_or_fourth(symbols),
+        Func::IfEq => third_or_fourth(table, symbols),
         Func::StrLen => length_of_first(table, symbols),
         Func::Crlf => Computed::Spells(Text::from_str(alloc, "\n")?),
     })
@@ -57,7 +59,8 @@ fn number_of(symbol: Sym) -> Result<i64, DropCause>
 }
 
 fn as_number(number: Result<i64, DropCause>) -> Computed
-    ensures { computed_seen result ≡ meaning.as_number number }
+    ensures value { computed_seen result ≡ meaning.as_number number }
+    ensures known { (words : Texts) → GivesKnown words result }
 {
     match number {
         Ok(value) => Computed::Gives(Sym::Int(value)),
@@ -114,7 +117,8 @@ fn left_over(symbols: &[Sym]) -> Result<i64, DropCause>
 }
 
 fn as_word(text: Text) -> Computed
-    ensures { computed_seen result ≡ meaning.as_word text }
+    ensures value { computed_seen result ≡ meaning.as_word text }
+    ensures known { (words : Texts) → GivesKnown words result }
 {
     if text.len() > MOST_BYTES {
         Computed::Fails(DropCause::TooLong)
@@ -123,8 +127,10 @@ fn as_word(text: Text) -> Computed
     }
 }
 
-fn third_or_fourth(symbols: &[Sym]) -> Computed
-    ensures { computed_seen result ≡ meaning.third_or_fourth symbols.now }
+fn third_or_fourth(table: &SymTable, symbols: &[Sym]) -> Computed
+    requires { Knows table.now symbols.now }
+    ensures value { computed_seen result ≡ meaning.third_or_fourth symbols.now }
+    ensures known { GivesKnown table.now result }
 {
     match symbols {
         [first, second, third, fourth] => {
@@ -135,7 +141,8 @@ fn third_or_fourth(symbols: &[Sym]) -> Computed
 }
 
 fn length_of_first(table: &SymTable, symbols: &[Sym]) -> Computed
-    ensures { computed_seen result ≡ meaning.length_of_first table.now symbols.now }
+    ensures value { computed_seen result ≡ meaning.length_of_first table.now symbols.now }
+    ensures known { (words : Texts) → GivesKnown words result }
 {
     match symbols {
         [one] => Computed::Gives(Sym::Int(plain_length(table, *one) as i64)),
