@@ -1,2 +1,4 @@
 mod KnownLemmas
 mod NumberLemmas
+mod OutcomeLemmas
+mod ValueLemmas

@@ -1,17 +1,20 @@
 // What atoms and values of actions stand for.
-ghost use Rattle.std.specs.Prelude.{◌≡◌, ◌≤◌, ◌+◌, length, IfOk, OnOk, Ok};
+ghost use Rattle.std.specs.Prelude.{◌≡◌, ◌≤◌, length, map, IfOk, OnOk};
 ghost use Rattle.soar_rule.specs.Productions.{value_seen, values_of};
 ghost use Rattle.soar_rule.specs.Symbols.{constants_of_atom, constants_of_value, constants_of_values};
 ghost use Rattle.soar_sym.specs.Words.{IsKnown};
 ghost use Rattle.defs_match.specs.Testing.{symbol_of};
 ghost use Rattle.defs_soar.specs.Firing.{letter_from, name_at, text_of_name};
 ghost use Rattle.soar_fire.specs.Known.{Knows, bound_symbols};
-ghost use Rattle.soar_fire.specs.Outcomes.{atom_outcome, new_identifier, standing, value_outcome, values_outcome, word_of_text, Answers, Finds};
+ghost use Rattle.soar_fire.specs.Outcomes.{atom_outcome, call_outcome, new_identifier, standing, value_outcome, values_outcome, word_of_text, Answers, Finds};
 
 use crate::fault::FireFault;
+use crate::functions::{Computed, compute};
 use crate::plain::text_of;
-use soar_rule::Atom;
+use defs_soar::DropCause;
+use soar_rule::{Atom, Func, Value};
 use soar_sym::{InternFault, Letters, List, Sym, SymTable};
+use std::alloc::Global;
 
 /// The letter of a new identifier for a variable of this name: the first of the name as a capital, or I.
 fn letter_of(table: &SymTable, name: Sym) -> u8
@@ -123,4 +126,93 @@ pub fn word_of_text(
         Err(InternFault::WordsSpent) => Err(FireFault::WordsSpent),
         Err(InternFault::NoMemory) => Err(FireFault::NoMemory),
     }
+}
+
+/// What a function gives for symbols; a text that it spells becomes a word.
+pub fn called(
+    alloc: Global,
+    func: Func,
+    symbols: &[Sym],
+    bindings: &[(u32, Sym)],
+    table: &mut SymTable,
+    letters: &Letters,
+) -> Result<Result<Sym, DropCause>, FireFault>
+    requires { Knows table.old symbols.now }
+    ensures answer { Answers (call_outcome func symbols.now (standing bindings.now table.old letters.now)) (standing bindings.now table.new letters.now) result }
+    ensures known { IfOk result (λ r. IfOk r (λ s. IsKnown table.new s)) }
+    ensures grown { length table.old ≤ length table.new }
+{
+    match compute(alloc, table, func, symbols)? {
+        Computed::Gives(symbol) => Ok(Ok(symbol)),
+        Computed::Spells(text) => {
+            let symbol = word_of_text(text.as_str(), bindings, table, letters)?;
+            Ok(Ok(symbol))
+        }
+        Computed::Fails(cause) => Ok(Err(cause)),
+    }
+}
+
+/// What a value stands for.
+#[cycle(values)]
+pub fn evaluated(
+    alloc: Global,
+    value: &Value,
+    vars: &[Sym],
+    bindings: &mut Vec<(u32, Sym)>,
+    table: &mut SymTable,
+    letters: &mut Letters,
+) -> Result<Result<Sym, DropCause>, FireFault>
+    requires bound { Knows table.old (bound_symbols bindings.old.items) }
+    requires constants { Knows table.old (constants_of_value (value_seen value.now)) }
+    ensures answer { Answers (value_outcome vars.now (value_seen value.now) (standing bindings.old.items table.old letters.old)) (standing bindings.new.items table.new letters.new) result }
+    ensures known { IfOk result (λ r. IfOk r (λ s. IsKnown table.new s)) }
+    ensures bound { OnOk result (Knows table.new (bound_symbols bindings.new.items)) }
+    ensures grown { length table.old ≤ length table.new }
+{
+    match value {
+        Value::Atom(atom) => {
+            let symbol = atom_of_action(*atom, vars, bindings, table, letters)?;
+            Ok(Ok(symbol))
+        }
+        Value::Call(func, values) => {
+            match evaluated_all(alloc, values.as_slice(), vars, bindings, table, letters)? {
+                Ok(symbols) => called(
+                    alloc,
+                    *func,
+                    symbols.as_slice(),
+                    bindings.as_slice(),
+                    table,
+                    letters,
+                ),
+                Err(cause) => Ok(Err(cause)),
+            }
+        }
+    }
+}
+
+/// What values stand for, from left to right, up to the first that stands for nothing.
+#[cycle(values)]
+pub fn evaluated_all(
+    alloc: Global,
+    values: &[Value],
+    vars: &[Sym],
+    bindings: &mut Vec<(u32, Sym)>,
+    table: &mut SymTable,
+    letters: &mut Letters,
+) -> Result<Result<List<Sym>, DropCause>, FireFault>
+    requires bound { Knows table.old (bound_symbols bindings.old.items) }
+    requires constants { Knows table.old (constants_of_values (values_of (map value_seen values.now))) }
+    ensures answer { Answers (values_outcome vars.now (values_of (map value_seen values.now)) (standing bindings.old.items table.old letters.old)) (standing bindings.new.items table.new letters.new) result }
+    ensures known { IfOk result (λ r. IfOk r (λ symbols. Knows table.new symbols)) }
+    ensures bound { OnOk result (Knows table.new (bound_symbols bindings.new.items)) }
+    ensures grown { length table.old ≤ length table.new }
+{
+    let mut symbols = List::new(alloc);
+    'values: for value in values {
+        match evaluated(alloc, value, vars, bindings, table, letters)? {
+            Ok(symbol) => symbols.push(symbol)?,
+            Err(cause) => return Ok(Err(cause)),
+        }
+    }
+    Ok(Ok(symbols))
 }
