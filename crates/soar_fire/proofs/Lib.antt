@@ -2,3 +2,4 @@ mod KnownLemmas
 mod NumberLemmas
 mod OutcomeLemmas
 mod ValueLemmas
+mod WishLemmas

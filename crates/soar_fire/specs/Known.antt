@@ -1,9 +1,11 @@
 -- Symbols whose words are in the table.
-use Rattle.std.specs.Prelude.{List, map}
+use Rattle.std.specs.Prelude.{List, ◌∷◌, map}
 use Rattle.soar_sym.specs.Words.{Texts, IsKnown}
 use Rattle.soar_sym.specs.declared.symbol.Sym.{Sym}
 use Rattle.soar_rule.specs.Symbols.{AreKnown}
 use Rattle.defs_match.specs.Testing.{Bindings}
+use Rattle.defs_soar.specs.declared.preference.Wish.{Wish}
+use Rattle.soar_fire.specs.Fires.{referents_of}
 use Rattle.soar_fire.specs.declared.functions.Computed.{Computed}
 use Rattle.soar_fire.specs.declared.functions.Computed.TheVariants as code
 
@@ -19,3 +21,6 @@ abbrev pub GivesKnown : Texts → Computed → Type 0
 GivesKnown words (code.Gives s) = IsKnown words s
 GivesKnown words (code.Spells text) = Unit {0}
 GivesKnown words (code.Fails why) = Unit {0}
+
+abbrev pub symbols_of_wish : Wish → List Sym
+symbols_of_wish w = w.id ∷ w.attr ∷ w.value ∷ referents_of w.referent

@@ -5,8 +5,10 @@ mod arithmetic;
 mod fault;
 mod firing;
 mod functions;
+mod judging;
 mod plain;
 mod value;
+mod wish;
 
 pub use fault::FireFault;
 pub use firing::fire;
