@@ -1,3 +1,4 @@
+mod ActionLemmas
 mod KnownLemmas
 mod NumberLemmas
 mod OutcomeLemmas

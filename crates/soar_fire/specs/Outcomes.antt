@@ -144,3 +144,10 @@ Finds o after (Ok a) = o ≡ reached (Ok a) after
 Finds o after (Err fault.IdsSpent) = o ≡ stopped which.Identifiers
 Finds o after (Err fault.WordsSpent) = o ≡ stopped which.Words
 Finds o after (Err fault.NoMemory) = Unit {0}
+
+-- of a call that leaves what was made
+abbrev pub Leaves : Outcome Made → Made → Standing → Result (Unit {0}) FireFault → Type 0
+Leaves o made after (Ok done) = o ≡ reached (Ok made) after
+Leaves o made after (Err fault.IdsSpent) = o ≡ stopped which.Identifiers
+Leaves o made after (Err fault.WordsSpent) = o ≡ stopped which.Words
+Leaves o made after (Err fault.NoMemory) = Unit {0}

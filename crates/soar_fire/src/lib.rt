@@ -1,6 +1,7 @@
 //! What a rule makes when it fires: its actions, one after the other, and the functions that they call.
 #![tactic(auto)]
 
+mod action;
 mod arithmetic;
 mod fault;
 mod firing;

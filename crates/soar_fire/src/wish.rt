@@ -16,7 +16,17 @@ use soar_rule::{Atom, Pref, Value};
 use soar_sym::{Letters, Sym, SymTable};
 use std::alloc::Global;
 
+/// What the actions of a firing read and leave as it is.
+#[derive(Clone, Copy)]
+pub struct Scene<'a> {
+    pub alloc: Global,
+    /// The names of the rule's variables.
+    pub vars: &'a [Sym],
+    pub goals: &'a [Goal],
+}
+
 /// The parts of an action that makes a preference.
+#[derive(Clone, Copy)]
 pub struct Asked<'a> {
     pub id: Atom,
     pub attr: &'a Value,
@@ -74,40 +84,38 @@ fn evaluated_referent(
 
 /// The identifier, and whether it is one, then attribute, value and referent.
 pub fn wished(
-    alloc: Global,
-    goals: &[Goal],
+    scene: &Scene<'_>,
     asked: &Asked<'_>,
-    vars: &[Sym],
     bindings: &mut Vec<(u32, Sym)>,
     table: &mut SymTable,
     letters: &mut Letters,
 ) -> Result<Result<Wish, DropCause>, FireFault>
     requires bound { Knows table.old (bound_symbols bindings.old.items) }
     requires constants { Knows table.old (constants_of_action (makes asked.now.id (value_seen asked.now.attr.now) (value_seen asked.now.value.now) (preference_seen asked.now.pref.now))) }
-    ensures answer { Answers (wish_outcome vars.now goals.now asked.now.id (value_seen asked.now.attr.now) (value_seen asked.now.value.now) (preference_seen asked.now.pref.now) (standing bindings.old.items table.old letters.old)) (standing bindings.new.items table.new letters.new) result }
+    ensures answer { Answers (wish_outcome scene.now.vars.now scene.now.goals.now asked.now.id (value_seen asked.now.attr.now) (value_seen asked.now.value.now) (preference_seen asked.now.pref.now) (standing bindings.old.items table.old letters.old)) (standing bindings.new.items table.new letters.new) result }
     ensures known { IfOk result (λ r. IfOk r (λ w. Knows table.new (symbols_of_wish w))) }
     ensures bound { OnOk result (Knows table.new (bound_symbols bindings.new.items)) }
     ensures grown { length table.old ≤ length table.new }
 {
-    let id = match identifier_of(asked.id, vars, bindings, table, letters)? {
+    let id = match identifier_of(asked.id, scene.vars, bindings, table, letters)? {
         Ok(id) => id,
         Err(cause) => return Ok(Err(cause)),
     };
-    let attr = match evaluated(alloc, asked.attr, vars, bindings, table, letters)? {
+    let attr = match evaluated(scene.alloc, asked.attr, scene.vars, bindings, table, letters)? {
         Ok(attr) => attr,
         Err(cause) => return Ok(Err(cause)),
     };
-    let value = match evaluated(alloc, asked.value, vars, bindings, table, letters)? {
+    let value = match evaluated(scene.alloc, asked.value, scene.vars, bindings, table, letters)? {
         Ok(value) => value,
         Err(cause) => return Ok(Err(cause)),
     };
-    let referent = match evaluated_referent(alloc, asked.pref, vars, bindings, table, letters)? {
+    let referent = match evaluated_referent(scene.alloc, asked.pref, scene.vars, bindings, table, letters)? {
         Ok(referent) => referent,
         Err(cause) => return Ok(Err(cause)),
     };
     let kind = kind_of(asked.pref, referent);
     Ok(judged(
-        goals,
+        scene.goals,
         Wish {
             id,
             attr,
