@@ -1,4 +1,6 @@
 mod ActionLemmas
+mod Agreement
+mod BindingLemmas
 mod KnownLemmas
 mod NumberLemmas
 mod OutcomeLemmas

@@ -3,6 +3,7 @@
 
 mod action;
 mod arithmetic;
+mod bindings;
 mod fault;
 mod firing;
 mod functions;
