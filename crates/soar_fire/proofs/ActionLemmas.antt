@@ -1,9 +1,9 @@
 -- Actions in turn.
-use Rattle.std.proofs.Common.{◌≡◌, ◌<◌, ◌≤◌, ℕ, ◌+◌, suc, List, [], ◌∷◌, ◌++◌, length, map, flat_map, drop, get_or, Ok, refl, sym, ap, ◌∙◌, subst, add-one, drop-cons, arith}
+use Rattle.std.proofs.Common.{◌≡◌, ◌<◌, ◌≤◌, ℕ, ◌+◌, suc, List, [], ◌∷◌, ◌++◌, length, map, flat_map, drop, get_or, Ok, refl, sym, ap, ◌∙◌, subst, add-one, drop-cons}
 use Rattle.soar_sym.specs.Words.{Texts}
 use Rattle.soar_sym.specs.declared.symbol.Sym.{Sym}
 use Rattle.soar_rule.specs.declared.action.Action.{Action}
-use Rattle.soar_rule.specs.Productions.{action_seen, ActionOf, values_of, ValueOf, writes}
+use Rattle.soar_rule.specs.Productions.{action_seen, values_of, ValueOf, writes}
 use Rattle.soar_rule.specs.Symbols.{constants_of_action, constants_of_value, constants_of_values, AreKnown}
 use Rattle.defs_soar.specs.declared.firing.Made.{Made}
 use Rattle.defs_soar.specs.declared.goal.Goal.{Goal}

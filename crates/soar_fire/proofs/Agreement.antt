@@ -164,6 +164,7 @@ agrees_new vars v letter s drawn h = by (nat_lt 4294967295 (last_of s.letters le
   where
     number : ℕ
     number = last_of s.letters letter + 1
+
     by : (b : Bool) → nat_lt 4294967295 number ≡ b
         → Agrees vars (cond b (stopped which.Identifiers) (found (Ident letter number) (standing (s.bindings ++ (v, Ident letter number) ∷ []) s.words (with_last s.letters letter number)))) (meaning.new_identifier v letter (naming_at s vars drawn))
     by true over = passed_next drawn (identifiers_to number) h ∙ ap (λ b. cond b (Some which.Identifiers) None) over
@@ -207,7 +208,7 @@ mutual
       (λ symbol after. then_with (evaluated_all values after) (λ symbols last. done (symbol ∷ symbols) last))
       (agrees_value vars v s drawn h)
       (λ symbol s1 d1 h1. agrees_then vars (values_outcome vars values s1) (evaluated_all values (naming_at s1 vars d1)) (λ symbols last. found (symbol ∷ symbols) last) (λ symbols last. done (symbol ∷ symbols) last)
-        (agrees_values vars values s1 d1 h1) (λ symbols s2 d2 h2. (d2, h2, refl)) (λ w symbols last k. k))
+      (agrees_values vars values s1 d1 h1) (λ symbols s2 d2 h2. (d2, h2, refl)) (λ w symbols last k. k))
       (λ w symbol after k. keeps_then (evaluated_all values after) (λ symbols last. done (symbol ∷ symbols) last) w (keeps_values values after w k) (λ symbols last m. m))
 
 agrees_referent : (vars : List Sym) (o : Option ValueOf) (s : Standing) (drawn : List Drawn) → first_passed drawn ≡ None → Agrees vars (referent_outcome vars o s) (evaluated_referent o (naming_at s vars drawn))

@@ -1,6 +1,7 @@
 mod ActionLemmas
 mod Agreement
 mod BindingLemmas
+mod FiringLemmas
 mod KnownLemmas
 mod NumberLemmas
 mod OutcomeLemmas

@@ -1,11 +1,10 @@
 -- Whole numbers within 64 bits.
-use Rattle.std.proofs.Common.{◌≡◌, ◌≢◌, ℕ, suc, add-one, Bool, true, false, cond, Option, Some, None, Result, Ok, Err, refl, ap, sym, ◌∙◌, arith, ℤ, pos, neg_ℤ, ◌/◌, ◌==◌, FitsSigned, w64}
+use Rattle.std.proofs.Common.{◌≡◌, ◌≢◌, add-one, Bool, true, false, cond, Option, Some, None, Ok, Err, refl, ap, sym, ◌∙◌, arith, ℤ, pos, neg_ℤ, ◌/◌, ◌==◌, FitsSigned, w64}
 use Rattle.std.proofs.lemmas.Bool.Decides.{nat_tests}
 use Rattle.std.specs.Option.{SomeIff}
 use Rattle.std.specs.Int.{CanDivide, IsNonZero}
 use Rattle.std.specs.Int.RustNames.{int_div}
 use Rattle.defs_text.specs.Runs.{fits_integer}
-use Rattle.defs_soar.specs.declared.firing.DropCause.{DropCause}
 use Rattle.defs_soar.specs.declared.firing.DropCause.TheVariants as cause
 use Rattle.defs_soar.specs.Functions.{divided, fitting, quotient, size_of_integer}
 use Rattle.soar_fire.specs.Steps.{or_overflow}
@@ -20,6 +19,7 @@ fits_false z f = by (fits_integer z) refl
     fits : (w : ℤ) → fits_integer w ≡ true → FitsSigned w64 w
     fits (pos n) e = record { sfits = grind (arith, nat_tests) }
     fits (lib.IntN.negsuc n) e = record { sfits = grind (arith, nat_tests) }
+
     by : (b : Bool) → fits_integer z ≡ b → fits_integer z ≡ false
     by true e = absurd (f (fits z e))
     by false e = e

@@ -1,7 +1,7 @@
 -- Steps one after the other.
-use Rattle.std.proofs.Common.{◌≡◌, List, [], ◌∷◌, ◌++◌, Result, Ok, Err, OnOk, refl, sym, ap, ◌∙◌, append_assoc}
+use Rattle.std.proofs.Common.{◌≡◌, List, [], ◌∷◌, ◌++◌, Result, Ok, Err, OnOk, refl, sym, ap, append_assoc}
 use Rattle.soar_sym.specs.declared.symbol.Sym.{Sym}
-use Rattle.soar_fire.specs.Outcomes.{Outcome, reached, stopped, then_on, found, Standing}
+use Rattle.soar_fire.specs.Outcomes.{Outcome, reached, stopped, then_on, found}
 
 pub on_ok : {A E : Type 0} (r : Result A E) (P : Type 0) → P → OnOk r P
 on_ok (Ok a) P h = h

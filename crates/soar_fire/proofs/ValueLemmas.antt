@@ -1,13 +1,13 @@
 -- Values in turn.
-use Rattle.std.proofs.Common.{◌≡◌, ◌<◌, ℕ, ◌+◌, suc, List, [], ◌∷◌, ◌++◌, length, map, drop, get_or, Result, Ok, Err, refl, sym, ap, ◌∙◌, subst, add-one, drop-cons, arith}
+use Rattle.std.proofs.Common.{◌≡◌, ◌<◌, ℕ, ◌+◌, List, [], ◌∷◌, ◌++◌, length, map, drop, get_or, Ok, refl, ap, ◌∙◌, subst, add-one, drop-cons}
 use Rattle.soar_sym.specs.Words.{Texts}
 use Rattle.soar_sym.specs.declared.symbol.Sym.{Sym}
 use Rattle.soar_rule.specs.declared.action.Value.{Value}
-use Rattle.soar_rule.specs.Productions.{value_seen, values_of, ValueOf}
+use Rattle.soar_rule.specs.Productions.{value_seen, values_of}
 use Rattle.soar_rule.specs.Symbols.{constants_of_value, constants_of_values}
 use Rattle.soar_fire.specs.Known.{Knows}
-use Rattle.soar_fire.specs.Outcomes.{Outcome, reached, stopped, then_on, found, Standing, value_outcome, values_outcome}
-use Rattle.soar_fire.proofs.KnownLemmas.{knows_front, knows_back, knows_grown}
+use Rattle.soar_fire.specs.Outcomes.{reached, then_on, found, Standing, value_outcome, values_outcome}
+use Rattle.soar_fire.proofs.KnownLemmas.{knows_front, knows_back}
 use Rattle.soar_fire.proofs.OutcomeLemmas.{then_more}
 
 next_seen : (values : List Value) (i : ℕ) (v : Value) → i < length values → v ≡ get_or values i v → map value_seen (drop i values) ≡ value_seen v ∷ map value_seen (drop (i + 1) values)

@@ -1,5 +1,5 @@
 -- Firing as the code does it: it stops at the first limit, where the definition goes on and notes what was drawn.
-use Rattle.std.specs.Prelude.{◌≡◌, ℕ, suc, ◌+◌, Bool, true, nat_lt, List, [], ◌∷◌, ◌++◌, length, Option, Some, None, Result, Ok, Err, if◌then◌else◌}
+use Rattle.std.specs.Prelude.{◌≡◌, ℕ, suc, ◌+◌, true, false, nat_lt, List, [], ◌∷◌, ◌++◌, length, Option, Some, None, Result, Ok, Err, if◌then◌else◌}
 use Rattle.soar_sym.specs.Letters.{last_of, with_last}
 use Rattle.soar_sym.specs.Words.{Texts, with_text}
 use Rattle.soar_sym.specs.declared.symbol.Sym.{Sym}
@@ -129,6 +129,9 @@ abbrev pub actions_outcome : List Sym → List Goal → ℕ → List ActionOf �
 actions_outcome vars goals place [] made s = found made s
 actions_outcome vars goals place (action ∷ actions) made s =
     then_on (action_outcome vars goals place action made s) (λ after last. actions_outcome vars goals (suc place) actions after last)
+
+abbrev pub nothing_made : Made
+nothing_made = record { wishes = []; texts = []; halted = false; dropped = [] }
 
 -- ---- what a call answers
 

@@ -4,7 +4,7 @@ ghost use Rattle.soar_rule.specs.Productions.{action_seen, preference_seen, valu
 ghost use Rattle.soar_rule.specs.Symbols.{constants_of_action};
 ghost use Rattle.defs_soar.specs.Functions.{joined};
 ghost use Rattle.soar_fire.specs.Known.{Knows, KnowsWishes, bound_symbols, constants_of_actions};
-ghost use Rattle.soar_fire.specs.Outcomes.{action_outcome, actions_outcome, or_dropped, standing, values_outcome, wish_outcome, with_dropped, with_wish, with_writing, Leaves};
+ghost use Rattle.soar_fire.specs.Outcomes.{action_outcome, actions_outcome, or_dropped, standing, values_outcome, wish_outcome, with_dropped, with_wish, with_writing, nothing_made, Finds, Leaves};
 
 use crate::fault::FireFault;
 use crate::plain::joined;
@@ -12,7 +12,7 @@ use crate::value::evaluated_all;
 use crate::wish::{Asked, Scene, wished};
 use defs_soar::{DropCause, Dropped, Made};
 use soar_rule::{Action, Value};
-use soar_sym::{Letters, Sym, SymTable};
+use soar_sym::{Letters, List, Sym, SymTable, Text};
 use std::alloc::AllocError;
 
 fn with_dropped(made: &mut Made, place: u32, cause: DropCause) -> Result<(), AllocError>
@@ -137,8 +137,32 @@ fn next_place(place: u32) -> Result<u32, FireFault>
     }
 }
 
+/// What actions make.
+pub fn made_of(
+    scene: &Scene<'_>,
+    actions: &[Action],
+    bindings: &mut Vec<(u32, Sym)>,
+    table: &mut SymTable,
+    letters: &mut Letters,
+) -> Result<Made, FireFault>
+    requires bound { Knows table.old (bound_symbols bindings.old.items) }
+    requires constants { Knows table.old (constants_of_actions (map action_seen actions.now)) }
+    ensures answer { Finds (actions_outcome scene.now.vars.now scene.now.goals.now 1 (map action_seen actions.now) nothing_made (standing bindings.old.items table.old letters.old)) (standing bindings.new.items table.new letters.new) result }
+    ensures wishes { IfOk result (λ made. KnowsWishes table.new made.wishes) }
+    ensures grown { length table.old ≤ length table.new }
+{
+    let mut made = Made {
+        wishes: List::new(scene.alloc),
+        texts: Text::new(scene.alloc),
+        halted: false,
+        dropped: List::new(scene.alloc),
+    };
+    with_actions(scene, actions, &mut made, bindings, table, letters)?;
+    Ok(made)
+}
+
 /// Takes actions in turn.
-pub fn with_actions(
+fn with_actions(
     scene: &Scene<'_>,
     actions: &[Action],
     made: &mut Made,

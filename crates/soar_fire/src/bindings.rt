@@ -20,11 +20,7 @@ pub fn bindings_of(
     paired(alloc, variables.as_slice(), binds)
 }
 
-fn paired(
-    alloc: Global,
-    variables: &[u32],
-    symbols: &[Sym],
-) -> Result<Vec<(u32, Sym)>, AllocError>
+fn paired(alloc: Global, variables: &[u32], symbols: &[Sym]) -> Result<Vec<(u32, Sym)>, AllocError>
     ensures { IfOk result (λ bindings. bindings.items ≡ paired variables.now symbols.now) }
 {
     let mut bindings = Vec::new(alloc);
@@ -42,7 +38,6 @@ fn paired(
 }
 
 /// The variables that conditions bind, in the order in which a match binds them.
-#[tactic(auto, using(crate::proofs::BindingLemmas::each_append))]
 fn bound_variables(alloc: Global, conds: &[Cond]) -> Result<Vec<u32>, AllocError>
     ensures { IfOk result (λ variables. variables.items ≡ bound_variables (conditions conds.now)) }
 {

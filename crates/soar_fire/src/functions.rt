@@ -134,7 +134,11 @@ fn third_or_fourth(table: &SymTable, symbols: &[Sym]) -> Computed
 {
     match symbols {
         [first, second, third, fourth] => {
-            Computed::Gives(if is_symbol(*first, *second) { *third } else { *fourth })
+            Computed::Gives(if is_symbol(*first, *second) {
+                *third
+            } else {
+                *fourth
+            })
         }
         _ => Computed::Fails(DropCause::NotANumber),
     }

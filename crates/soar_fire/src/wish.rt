@@ -101,15 +101,36 @@ pub fn wished(
         Ok(id) => id,
         Err(cause) => return Ok(Err(cause)),
     };
-    let attr = match evaluated(scene.alloc, asked.attr, scene.vars, bindings, table, letters)? {
+    let attr = match evaluated(
+        scene.alloc,
+        asked.attr,
+        scene.vars,
+        bindings,
+        table,
+        letters,
+    )? {
         Ok(attr) => attr,
         Err(cause) => return Ok(Err(cause)),
     };
-    let value = match evaluated(scene.alloc, asked.value, scene.vars, bindings, table, letters)? {
+    let value = match evaluated(
+        scene.alloc,
+        asked.value,
+        scene.vars,
+        bindings,
+        table,
+        letters,
+    )? {
         Ok(value) => value,
         Err(cause) => return Ok(Err(cause)),
     };
-    let referent = match evaluated_referent(scene.alloc, asked.pref, scene.vars, bindings, table, letters)? {
+    let referent = match evaluated_referent(
+        scene.alloc,
+        asked.pref,
+        scene.vars,
+        bindings,
+        table,
+        letters,
+    )? {
         Ok(referent) => referent,
         Err(cause) => return Ok(Err(cause)),
     };

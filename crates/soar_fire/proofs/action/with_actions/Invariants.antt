@@ -11,5 +11,5 @@ invariant-actions l = record {
   wishes : KnowsWishes l.table l.made.wishes;
   grown : length l.initial.table ≤ length l.table;
   rest : actions_outcome l.scene.vars.now l.scene.goals.now (l.place + 1) (map action_seen (drop l.action-index l.actions)) l.made (standing l.bindings.items l.table l.letters)
-    ≡ actions_outcome l.scene.vars.now l.scene.goals.now 1 (map action_seen l.actions) l.initial.made (standing l.initial.bindings.items l.initial.table l.initial.letters);
+      ≡ actions_outcome l.scene.vars.now l.scene.goals.now 1 (map action_seen l.actions) l.initial.made (standing l.initial.bindings.items l.initial.table l.initial.letters);
 }

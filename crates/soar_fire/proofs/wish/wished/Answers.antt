@@ -1,4 +1,4 @@
-use Rattle.std.proofs.Common.{◌≡◌, ◌≤◌, length, IfSome, sym, subst, arith}
+use Rattle.std.proofs.Common.{◌≤◌, length, IfSome, arith}
 use Rattle.soar_sym.specs.Words.{IsKnown}
 use Rattle.soar_rule.specs.Productions.{preference_seen, value_seen}
 use Rattle.soar_fire.proofs.KnownLemmas.{known_grown, knows_grown}
