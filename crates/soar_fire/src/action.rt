@@ -8,8 +8,9 @@ ghost use Rattle.soar_fire.specs.Outcomes.{action_outcome, actions_outcome, or_d
 
 use crate::fault::FireFault;
 use crate::plain::joined;
+use crate::scene::Scene;
 use crate::value::evaluated_all;
-use crate::wish::{Asked, Scene, wished};
+use crate::wish::{Asked, wished};
 use defs_soar::{DropCause, Dropped, Made};
 use soar_rule::{Action, Value};
 use soar_sym::{Letters, List, Sym, SymTable, Text};
@@ -67,7 +68,7 @@ fn write(
     ensures bound { OnOk result (Knows table.new (bound_symbols bindings.new.items)) }
     ensures grown { length table.old ≤ length table.new }
 {
-    match evaluated_all(scene.alloc, values, scene.vars, bindings, table, letters)? {
+    match evaluated_all(scene, values, bindings, table, letters)? {
         Ok(symbols) => {
             let text = joined(scene.alloc, table, symbols.as_slice())?;
             made.texts.push_str(text.as_str())?;

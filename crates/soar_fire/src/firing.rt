@@ -6,7 +6,7 @@ ghost use Rattle.soar_fire.specs.Fires.{made_of, Fires, IsFirable, AreWishesKnow
 use crate::action::made_of;
 use crate::bindings::bindings_of;
 use crate::fault::FireFault;
-use crate::wish::Scene;
+use crate::scene::Scene;
 use defs_match::{Instance, Rule};
 use defs_soar::{Goal, Made};
 use soar_sym::{Letters, List, SymTable};

@@ -9,6 +9,7 @@ mod firing;
 mod functions;
 mod judging;
 mod plain;
+mod scene;
 mod value;
 mod wish;
 

@@ -11,6 +11,7 @@ ghost use Rattle.soar_fire.specs.Outcomes.{atom_outcome, call_outcome, new_ident
 use crate::fault::FireFault;
 use crate::functions::{Computed, compute};
 use crate::plain::text_of;
+use crate::scene::Scene;
 use defs_soar::DropCause;
 use soar_rule::{Atom, Func, Value};
 use soar_sym::{InternFault, Letters, List, Sym, SymTable};
@@ -86,15 +87,15 @@ fn new_identifier(
 /// What an atom stands for. An unbound variable is bound to a new identifier.
 #[tactic(auto, using(crate::proofs::KnownLemmas::knows_bound, crate::proofs::KnownLemmas::knows_head))]
 pub fn atom_of_action(
+    scene: &Scene<'_>,
     atom: Atom,
-    vars: &[Sym],
     bindings: &mut Vec<(u32, Sym)>,
     table: &SymTable,
     letters: &mut Letters,
 ) -> Result<Sym, FireFault>
     requires bound { Knows table.now (bound_symbols bindings.old.items) }
     requires constants { Knows table.now (constants_of_atom atom) }
-    ensures answer { Finds (atom_outcome vars.now atom (standing bindings.old.items table.now letters.old)) (standing bindings.new.items table.now letters.new) result }
+    ensures answer { Finds (atom_outcome scene.now.vars.now atom (standing bindings.old.items table.now letters.old)) (standing bindings.new.items table.now letters.new) result }
     ensures known { IfOk result (λ s. IsKnown table.now s) }
     ensures bound { OnOk result (Knows table.now (bound_symbols bindings.new.items)) }
 {
@@ -103,7 +104,7 @@ pub fn atom_of_action(
         Atom::Var(variable) => match symbol_of(variable, bindings.as_slice()) {
             Some(symbol) => Ok(symbol),
             None => {
-                let letter = letter_of(table, name_at(vars, variable));
+                let letter = letter_of(table, name_at(scene.vars, variable));
                 new_identifier(variable, letter, bindings, table, letters)
             }
         },
@@ -155,29 +156,28 @@ pub fn called(
 /// What a value stands for.
 #[cycle(values)]
 pub fn evaluated(
-    alloc: Global,
+    scene: &Scene<'_>,
     value: &Value,
-    vars: &[Sym],
     bindings: &mut Vec<(u32, Sym)>,
     table: &mut SymTable,
     letters: &mut Letters,
 ) -> Result<Result<Sym, DropCause>, FireFault>
     requires bound { Knows table.old (bound_symbols bindings.old.items) }
     requires constants { Knows table.old (constants_of_value (value_seen value.now)) }
-    ensures answer { Answers (value_outcome vars.now (value_seen value.now) (standing bindings.old.items table.old letters.old)) (standing bindings.new.items table.new letters.new) result }
+    ensures answer { Answers (value_outcome scene.now.vars.now (value_seen value.now) (standing bindings.old.items table.old letters.old)) (standing bindings.new.items table.new letters.new) result }
     ensures known { IfOk result (λ r. IfOk r (λ s. IsKnown table.new s)) }
     ensures bound { OnOk result (Knows table.new (bound_symbols bindings.new.items)) }
     ensures grown { length table.old ≤ length table.new }
 {
     match value {
         Value::Atom(atom) => {
-            let symbol = atom_of_action(*atom, vars, bindings, table, letters)?;
+            let symbol = atom_of_action(scene, *atom, bindings, table, letters)?;
             Ok(Ok(symbol))
         }
         Value::Call(func, values) => {
-            match evaluated_all(alloc, values.as_slice(), vars, bindings, table, letters)? {
+            match evaluated_all(scene, values.as_slice(), bindings, table, letters)? {
                 Ok(symbols) => called(
-                    alloc,
+                    scene.alloc,
                     *func,
                     symbols.as_slice(),
                     bindings.as_slice(),
@@ -193,23 +193,22 @@ pub fn evaluated(
 /// What values stand for, from left to right, up to the first that stands for nothing.
 #[cycle(values)]
 pub fn evaluated_all(
-    alloc: Global,
+    scene: &Scene<'_>,
     values: &[Value],
-    vars: &[Sym],
     bindings: &mut Vec<(u32, Sym)>,
     table: &mut SymTable,
     letters: &mut Letters,
 ) -> Result<Result<List<Sym>, DropCause>, FireFault>
     requires bound { Knows table.old (bound_symbols bindings.old.items) }
     requires constants { Knows table.old (constants_of_values (values_of (map value_seen values.now))) }
-    ensures answer { Answers (values_outcome vars.now (values_of (map value_seen values.now)) (standing bindings.old.items table.old letters.old)) (standing bindings.new.items table.new letters.new) result }
+    ensures answer { Answers (values_outcome scene.now.vars.now (values_of (map value_seen values.now)) (standing bindings.old.items table.old letters.old)) (standing bindings.new.items table.new letters.new) result }
     ensures known { IfOk result (λ r. IfOk r (λ symbols. Knows table.new symbols)) }
     ensures bound { OnOk result (Knows table.new (bound_symbols bindings.new.items)) }
     ensures grown { length table.old ≤ length table.new }
 {
-    let mut symbols = List::new(alloc);
+    let mut symbols = List::new(scene.alloc);
     'values: for value in values {
-        match evaluated(alloc, value, vars, bindings, table, letters)? {
+        match evaluated(scene, value, bindings, table, letters)? {
             Ok(symbol) => symbols.push(symbol)?,
             Err(cause) => return Ok(Err(cause)),
         }

@@ -10,20 +10,11 @@ ghost use Rattle.soar_fire.specs.Outcomes.{atom_outcome, identifier_only, refere
 
 use crate::fault::FireFault;
 use crate::judging::{is_identifier, judged, kind_of};
+use crate::scene::Scene;
 use crate::value::{atom_of_action, evaluated};
-use defs_soar::{DropCause, Goal, Wish};
+use defs_soar::{DropCause, Wish};
 use soar_rule::{Atom, Pref, Value};
 use soar_sym::{Letters, Sym, SymTable};
-use std::alloc::Global;
-
-/// What the actions of a firing read and leave as it is.
-#[derive(Clone, Copy)]
-pub struct Scene<'a> {
-    pub alloc: Global,
-    /// The names of the rule's variables.
-    pub vars: &'a [Sym],
-    pub goals: &'a [Goal],
-}
 
 /// The parts of an action that makes a preference.
 #[derive(Clone, Copy)]
@@ -36,19 +27,19 @@ pub struct Asked<'a> {
 
 /// The identifier of an action.
 fn identifier_of(
+    scene: &Scene<'_>,
     atom: Atom,
-    vars: &[Sym],
     bindings: &mut Vec<(u32, Sym)>,
     table: &SymTable,
     letters: &mut Letters,
 ) -> Result<Result<Sym, DropCause>, FireFault>
     requires bound { Knows table.now (bound_symbols bindings.old.items) }
     requires constants { Knows table.now (constants_of_atom atom) }
-    ensures answer { Answers (then_on (atom_outcome vars.now atom (standing bindings.old.items table.now letters.old)) identifier_only) (standing bindings.new.items table.now letters.new) result }
+    ensures answer { Answers (then_on (atom_outcome scene.now.vars.now atom (standing bindings.old.items table.now letters.old)) identifier_only) (standing bindings.new.items table.now letters.new) result }
     ensures known { IfOk result (λ r. IfOk r (λ s. IsKnown table.now s)) }
     ensures bound { OnOk result (Knows table.now (bound_symbols bindings.new.items)) }
 {
-    let symbol = atom_of_action(atom, vars, bindings, table, letters)?;
+    let symbol = atom_of_action(scene, atom, bindings, table, letters)?;
     if is_identifier(symbol) {
         Ok(Ok(symbol))
     } else {
@@ -57,23 +48,22 @@ fn identifier_of(
 }
 
 fn evaluated_referent(
-    alloc: Global,
+    scene: &Scene<'_>,
     pref: &Pref,
-    vars: &[Sym],
     bindings: &mut Vec<(u32, Sym)>,
     table: &mut SymTable,
     letters: &mut Letters,
 ) -> Result<Result<Option<Sym>, DropCause>, FireFault>
     requires bound { Knows table.old (bound_symbols bindings.old.items) }
     requires constants { Knows table.old (constants_of_referent (referent_value (preference_seen pref.now))) }
-    ensures answer { Answers (referent_outcome vars.now (referent_of (preference_seen pref.now)) (standing bindings.old.items table.old letters.old)) (standing bindings.new.items table.new letters.new) result }
+    ensures answer { Answers (referent_outcome scene.now.vars.now (referent_of (preference_seen pref.now)) (standing bindings.old.items table.old letters.old)) (standing bindings.new.items table.new letters.new) result }
     ensures known { IfOk result (λ r. IfOk r (λ o. IfSome o (λ s. IsKnown table.new s))) }
     ensures bound { OnOk result (Knows table.new (bound_symbols bindings.new.items)) }
     ensures grown { length table.old ≤ length table.new }
 {
     match pref {
         Pref::Better(value) | Pref::Worse(value) | Pref::IndifferentTo(value) => {
-            match evaluated(alloc, value, vars, bindings, table, letters)? {
+            match evaluated(scene, value, bindings, table, letters)? {
                 Ok(symbol) => Ok(Ok(Some(symbol))),
                 Err(cause) => Ok(Err(cause)),
             }
@@ -97,40 +87,19 @@ pub fn wished(
     ensures bound { OnOk result (Knows table.new (bound_symbols bindings.new.items)) }
     ensures grown { length table.old ≤ length table.new }
 {
-    let id = match identifier_of(asked.id, scene.vars, bindings, table, letters)? {
+    let id = match identifier_of(scene, asked.id, bindings, table, letters)? {
         Ok(id) => id,
         Err(cause) => return Ok(Err(cause)),
     };
-    let attr = match evaluated(
-        scene.alloc,
-        asked.attr,
-        scene.vars,
-        bindings,
-        table,
-        letters,
-    )? {
+    let attr = match evaluated(scene, asked.attr, bindings, table, letters)? {
         Ok(attr) => attr,
         Err(cause) => return Ok(Err(cause)),
     };
-    let value = match evaluated(
-        scene.alloc,
-        asked.value,
-        scene.vars,
-        bindings,
-        table,
-        letters,
-    )? {
+    let value = match evaluated(scene, asked.value, bindings, table, letters)? {
         Ok(value) => value,
         Err(cause) => return Ok(Err(cause)),
     };
-    let referent = match evaluated_referent(
-        scene.alloc,
-        asked.pref,
-        scene.vars,
-        bindings,
-        table,
-        letters,
-    )? {
+    let referent = match evaluated_referent(scene, asked.pref, bindings, table, letters)? {
         Ok(referent) => referent,
         Err(cause) => return Ok(Err(cause)),
     };

@@ -22,14 +22,14 @@ pub evaluated_all-values-preserved : goal.evaluated_all-values-preserved
 evaluated_all-values-preserved t c =
     let before : Standing = standing c.values.bindings.items c.values.table c.values.letters in
     let after : Standing = standing c.evaluated.new.bindings.items c.evaluated.new.table c.evaluated.new.letters in
-    let is : value_outcome c.args.vars.now (value_seen c.value-item.result) before ≡ reached (Ok c.in-Ok.symbol) after = c.in_ok-symbol.ensures.answer ∙ ap (λ r. reached r after) c.in-Ok.is in
+    let is : value_outcome c.args.scene.now.vars.now (value_seen c.value-item.result) before ≡ reached (Ok c.in-Ok.symbol) after = c.in_ok-symbol.ensures.answer ∙ ap (λ r. reached r after) c.in-Ok.is in
     record {
       bound = c.in_ok-symbol.ensures.bound;
       constants = knows_grown _ _ _ (later_constants _ c.args.values.now c.values.value-index c.value-item.result c.values.invariant.constants c.values-test.true c.value-item.is) c.evaluated.ensures.grown;
       known = subst (Knows c.evaluated.new.table) (sym c.in_ok-push-in-Ok.ensures.ok)
           (knows_push _ _ _ (knows_grown _ _ _ c.values.invariant.known c.evaluated.ensures.grown) (rw c.in-Ok.is at c.in_ok-symbol.ensures.known));
       grown = omega (arith, c.evaluated.ensures.grown);
-      rest = ap (λ symbols. then_on (values_outcome c.args.vars.now (values_of (map value_seen (drop (c.values.value-index + 1) c.args.values.now))) after) (λ more s. found (symbols ++ more) s)) c.in_ok-push-in-Ok.ensures.ok
-          ∙ sym (next_rest c.args.vars.now c.args.values.now c.values.value-index c.value-item.result c.in-Ok.symbol c.values.symbols before after c.values-test.true c.value-item.is is)
+      rest = ap (λ symbols. then_on (values_outcome c.args.scene.now.vars.now (values_of (map value_seen (drop (c.values.value-index + 1) c.args.values.now))) after) (λ more s. found (symbols ++ more) s)) c.in_ok-push-in-Ok.ensures.ok
+          ∙ sym (next_rest c.args.scene.now.vars.now c.args.values.now c.values.value-index c.value-item.result c.in-Ok.symbol c.values.symbols before after c.values-test.true c.value-item.is is)
           ∙ c.values.invariant.rest;
     }

@@ -11,6 +11,6 @@ invariant-evaluated_all-values l = record {
   constants : Knows l.table (constants_of_values (values_of (map value_seen (drop l.value-index l.values))));
   known : Knows l.table l.symbols;
   grown : length l.initial.table ≤ length l.table;
-  rest : then_on (values_outcome l.vars (values_of (map value_seen (drop l.value-index l.values))) (standing l.bindings.items l.table l.letters)) (λ more s. found (l.symbols ++ more) s)
-      ≡ values_outcome l.vars (values_of (map value_seen l.values)) (standing l.initial.bindings.items l.initial.table l.initial.letters);
+  rest : then_on (values_outcome l.scene.vars.now (values_of (map value_seen (drop l.value-index l.values))) (standing l.bindings.items l.table l.letters)) (λ more s. found (l.symbols ++ more) s)
+      ≡ values_outcome l.scene.vars.now (values_of (map value_seen l.values)) (standing l.initial.bindings.items l.initial.table l.initial.letters);
 }
