@@ -31,7 +31,7 @@ wishes_push words ws w h k = record { are_known = are_wishes_push words ws w h.a
 
 -- ---- constants
 
-constants_are : (vs : List ValueOf) → flat_map constants_of_value vs ≡ constants_of_values (values_of vs)
+pub constants_are : (vs : List ValueOf) → flat_map constants_of_value vs ≡ constants_of_values (values_of vs)
 constants_are [] = refl
 constants_are (v ∷ vs) = ap (λ rest. constants_of_value v ++ rest) (constants_are vs)
 

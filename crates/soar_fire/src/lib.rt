@@ -15,3 +15,6 @@ mod wish;
 
 pub use fault::FireFault;
 pub use firing::fire;
+
+#[cfg(test)]
+mod tests;
