@@ -1,6 +1,6 @@
 -- What firing a rule answers.
 use Rattle.std.specs.Prelude.{◌≡◌, ℕ, List, [], ◌∷◌, Option, Some, None, Result, Ok, Err}
-use Rattle.soar_sym.specs.Words.{Texts, IsKnown}
+use Rattle.soar_sym.specs.Words.{Texts}
 use Rattle.soar_sym.specs.declared.symbol.Sym.{Sym}
 use Rattle.soar_rule.specs.Symbols.{AreKnown, symbols_of}
 use Rattle.defs_match.specs.Conflict.{bindings_of}

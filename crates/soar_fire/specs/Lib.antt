@@ -1,1 +1,4 @@
 pub mod Fires
+pub mod Known
+pub mod Outcomes
+pub mod Steps

@@ -1,3 +1,7 @@
+ghost use Rattle.std.specs.Prelude.{◌≡◌};
+ghost use Rattle.soar_fire.specs.declared.fault.FireFault.TheVariants as fault;
+
+use std::alloc::{AllocError, AllocFailed};
 use thiserror::Error;
 
 /// Why a rule could not fire.
@@ -11,4 +15,20 @@ pub enum FireFault {
     WordsSpent,
     #[error("out of memory")]
     NoMemory,
+}
+
+impl From<AllocError> for FireFault {
+    ghost from_gives = { λ _ e. e ≡ fault.NoMemory };
+
+    fn from(_error: AllocError) -> FireFault {
+        FireFault::NoMemory
+    }
+}
+
+impl<T: Drop> From<AllocFailed<T>> for FireFault {
+    ghost from_gives = { λ _ e. e ≡ fault.NoMemory };
+
+    fn from(_error: AllocFailed<T>) -> FireFault {
+        FireFault::NoMemory
+    }
 }

@@ -3,7 +3,10 @@ ghost use Rattle.soar_rule.specs.Variables.{bound_variables};
 ghost use Rattle.defs_match.specs.Rules.{rule_seen};
 ghost use Rattle.soar_fire.specs.Fires.{made_of, Fires, IsFirable, AreWishesKnown};
 
+use crate::action::made_of;
+use crate::bindings::bindings_of;
 use crate::fault::FireFault;
+use crate::scene::Scene;
 use defs_match::{Instance, Rule};
 use defs_soar::{Goal, Made};
 use soar_sym::{Letters, List, SymTable};
@@ -28,5 +31,17 @@ pub fn fire(
     ensures known { IfOk result (λ made. AreWishesKnown table.new made.wishes) }
     ensures grown { length table.old ≤ length table.new }
 {
-    todo
+    let production = &rule.production;
+    let mut bindings = bindings_of(
+        alloc,
+        production.conds.as_slice(),
+        instance.binds.as_slice(),
+    )?;
+    let scene = Scene {
+        alloc,
+        vars: production.vars.as_slice(),
+        goals: goals.as_slice(),
+    };
+    let actions = production.actions.as_slice();
+    made_of(&scene, actions, &mut bindings, table, letters)
 }

@@ -1,0 +1,9 @@
+mod ActionLemmas
+mod Agreement
+mod BindingLemmas
+mod FiringLemmas
+mod KnownLemmas
+mod NumberLemmas
+mod OutcomeLemmas
+mod ValueLemmas
+mod WishLemmas

@@ -1,0 +1,26 @@
+use Rattle.std.proofs.Common.{◌≡◌, map, drop, ap, sym, ◌∙◌, Ok, arith}
+use Rattle.soar_rule.specs.Productions.{action_seen}
+use Rattle.soar_fire.specs.Outcomes.{Standing, reached, standing, action_outcome, actions_outcome}
+use Rattle.soar_fire.proofs.KnownLemmas.{knows_grown}
+use Rattle.soar_fire.proofs.ActionLemmas.{next_constants, later_constants, next_rest}
+use Rattle.soar_fire.proofs.action.with_actions.Goals as goal
+
+pub with_action-requires-clause-constants : goal.with_action-requires-clause-constants
+with_action-requires-clause-constants c = next_constants _ c.args.actions.now c.actions.action-index c.action-item.result c.actions.invariant.constants c.actions-test.true c.action-item.is
+
+pub actions-preserved : goal.actions-preserved
+actions-preserved c =
+    let scene = c.args.scene.now in
+    let before : Standing = standing c.actions.bindings.items c.actions.table c.actions.letters in
+    let after : Standing = standing c.with_action.new.bindings.items c.with_action.new.table c.with_action.new.letters in
+    let is : action_outcome scene.vars.now scene.goals.now c.in_ok-place.place (action_seen c.action-item.result) c.actions.made before ≡ reached (Ok c.with_action.new.made) after = c.in_ok-with_action.ensures.answer in
+    record {
+      bound = c.in_ok-with_action.ensures.bound;
+      constants = knows_grown _ _ _ (later_constants _ c.args.actions.now c.actions.action-index c.action-item.result c.actions.invariant.constants c.actions-test.true c.action-item.is) c.with_action.ensures.grown;
+      wishes = c.in_ok-with_action.ensures.wishes;
+      grown = omega (arith, c.with_action.ensures.grown);
+      rest =
+          sym (next_rest scene.vars.now scene.goals.now c.in_ok-place.place c.args.actions.now c.actions.action-index c.action-item.result c.actions.made c.with_action.new.made before after c.actions-test.true c.action-item.is is)
+          ∙ ap (λ n. actions_outcome scene.vars.now scene.goals.now n (map action_seen (drop c.actions.action-index c.args.actions.now)) c.actions.made before) c.in_ok-place.ensures.next
+          ∙ c.actions.invariant.rest;
+    }
