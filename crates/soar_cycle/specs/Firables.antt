@@ -10,7 +10,7 @@ use Rattle.defs_match.specs.declared.instance.Instance.{Instance}
 use Rattle.defs_soar.specs.Agents.{LiveFiring}
 use Rattle.defs_soar.specs.Pending.{Firable, Work as WorkOf, firable_of}
 use Rattle.soar_cycle.specs.declared.live.Live.{Live}
-use Rattle.soar_cycle.specs.declared.pending.Work.{Work}
+use Rattle.soar_cycle.specs.declared.work.Work.{Work}
 
 abbrev pub live_seen : Live → LiveFiring
 live_seen l = record { number = l.number; name = l.name; depth = l.depth; instance = l.instance }

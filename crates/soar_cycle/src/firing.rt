@@ -40,6 +40,5 @@ pub fn fire_all(
     ensures answer { FiresAll table.old letters.old goals.now (map rule_seen rules.now) memory.now.elements instances.now last table.new letters.new result }
     ensures grown { length table.old ≤ length table.new }
 {
-    let _ = (alloc, table, letters, goals, rules, memory, instances, last);
     Err(Stop::NoMemory)
 }

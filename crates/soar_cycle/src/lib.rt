@@ -4,15 +4,15 @@
 mod changes;
 mod firing;
 mod live;
-mod pending;
-mod retag;
-mod settle;
+mod settling;
 mod stop;
+mod tagging;
+mod work;
 
 pub use changes::Changes;
 pub use firing::{Fired, fire_all};
 pub use live::Live;
-pub use pending::{Work, pending};
-pub use retag::retag;
-pub use settle::settle;
+pub use settling::settle;
 pub use stop::Stop;
+pub use tagging::retag;
+pub use work::{Work, pending};

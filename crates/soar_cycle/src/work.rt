@@ -35,6 +35,5 @@ pub fn pending(
     ensures bound { IfOk result (λ work. AreBound (map rule_seen rules.now) work.fired) }
     ensures known { IfOk result (λ work. (words : Texts) → AreElementsKnown words memory.now.elements → AreInstancesKnown words work.fired) }
 {
-    let _ = (alloc, proposing, rules, memory, goals, live);
     Err(NoMemory)
 }

@@ -20,6 +20,5 @@ pub fn settle(
     ensures inputs { OnOk result (inputs.new ≡ (settled_from goals.now prefs.old.rows inputs.old).inputs) }
     ensures kept { IfOk result (λ kept. kept ≡ kept_triples goals.now (settled_from goals.now prefs.old.rows inputs.old)) }
 {
-    let _ = (alloc, goals, prefs, inputs);
     Err(NoMemory)
 }

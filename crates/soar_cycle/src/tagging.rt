@@ -22,6 +22,5 @@ pub fn retag(
     requires limit { memory.old.limit ≡ 4000000 }
     ensures { Retags table.now goals.now kept.now memory.old memory.new result }
 {
-    let _ = (alloc, table, goals, kept, memory);
     Err(Stop::NoMemory)
 }
