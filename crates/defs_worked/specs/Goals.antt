@@ -1,7 +1,7 @@
 -- Goals that go with what they depend on: whole runs that were worked out by hand.
-use Rattle.std.specs.Prelude.{codes}
+use Rattle.std.specs.Prelude.{◌≡◌, ℕ, List, [], ◌∷◌, codes}
 use Rattle.soar_edge.specs.declared.status.Status.TheVariants as status
-use Rattle.defs_worked.specs.Writes.{Writes}
+use Rattle.defs_worked.specs.Writes.{Writes, WritesWith}
 
 -- two goals go with an element on which the higher one depends
 abbrev pub DependencyGone : Type 0

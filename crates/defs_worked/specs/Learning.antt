@@ -1,7 +1,7 @@
 -- Learning: whole runs that were worked out by hand.
-use Rattle.std.specs.Prelude.{codes}
+use Rattle.std.specs.Prelude.{◌≡◌, ℕ, List, [], ◌∷◌, codes}
 use Rattle.soar_edge.specs.declared.status.Status.TheVariants as status
-use Rattle.defs_worked.specs.Writes.{Writes}
+use Rattle.defs_worked.specs.Writes.{Writes, WritesWith}
 
 -- a chunk from a tie, which spares the impasse the next time, and its explanation
 abbrev pub LearnFromTie : Type 0
@@ -37,3 +37,13 @@ UngroundedSubstate = Writes (codes "sp {prop (state <s> ^superstate nil ^cand <n
 abbrev pub UngroundedBeforeRepair : Type 0
 UngroundedBeforeRepair = Writes (codes "sp {prop (state <s> ^superstate nil ^cand <n>) --> (<s> ^operator <o> +) (<o> ^name <n>)}\nsp {plain (state <s> ^impasse tie ^non-numeric <o> ^superstate <ss>) (<ss> ^go yes) --> (<ss> ^plain <o>)}\nchunk always\nadd-wme S1 ^cand x\nadd-wme S1 ^cand y\nadd-wme S1 ^go yes\nwatch 3\nrun 1\n")
     (codes "-- input\n-- proposal\nfire 1 prop: 4 6\nfire 2 prop: 4 7\n-- decision\n1:   ==>S: S2 (tie)\n-- application\nfire 3 plain: 15 19 23 8\nfire 4 plain: 15 20 23 8\njustify 5 justification*1 from 3: 8 (ungrounded O1)\njustify 6 justification*2 from 4: 8 (ungrounded O2)\n-- output\n") status.Done
+
+-- two firings made one element, and the explanation is that of the first
+abbrev pub LeastMaker : Type 0
+LeastMaker = Writes (codes "chunk always\nsp {one (state <s> ^superstate <ss>) (<ss> ^go yes) --> (<s> ^seen yes)}\nsp {two (state <s> ^superstate <ss>) (<ss> ^come yes) --> (<s> ^seen yes)}\nsp {back (state <s> ^seen yes ^superstate <ss>) --> (<ss> ^done yes)}\nadd-wme S1 ^go yes\nadd-wme S1 ^come yes\nrun 1\nprint chunk*1\n")
+    (codes "1:   ==>S: S2 (state no-change)\nsp {chunk*1\n    :chunk\n    (state <s1> ^go yes)\n    -->\n    (<s1> ^done yes +)\n}\n") status.Done
+
+-- a negation of an explanation is blocked by the time of the result
+abbrev pub BlockedExplanation : Type 0
+BlockedExplanation = Writes (codes "watch 3\nchunk always\nsp {look :o-support (state <s> ^superstate <ss>) (<ss> ^go yes) -(<ss> ^stop yes) --> (<s> ^seen yes)}\nsp {back (state <s> ^seen yes ^superstate <ss>) (<ss> ^now yes) --> (<ss> ^done yes)}\nadd-wme S1 ^go yes\nrun 1\nadd-wme S1 ^stop yes\nadd-wme S1 ^now yes\nrun 1\n")
+    (codes "-- input\n-- proposal\n-- decision\n1:   ==>S: S2 (state no-change)\n-- application\nfire 1 look: 11 6\n-- output\n-- input\n-- proposal\nretract 1 look: 11 6\nfire 2 back: 13 11 15\nstale 2 blocked 1 by 14\n-- decision\n2:     ==>S: S3 (state no-change)\n-- application\n-- output\n") status.Done

@@ -1,5 +1,5 @@
 -- Operators and impasses: whole runs that were worked out by hand.
-use Rattle.std.specs.Prelude.{[], ◌∷◌, codes}
+use Rattle.std.specs.Prelude.{◌≡◌, ℕ, List, [], ◌∷◌, codes}
 use Rattle.soar_edge.specs.declared.status.Status.TheVariants as status
 use Rattle.defs_worked.specs.Writes.{Writes, WritesWith}
 
@@ -32,6 +32,11 @@ ConflictWithAThird = Writes (codes "sp {prop (state <s> ^superstate nil ^cand <n
 abbrev pub ConstraintFailure : Type 0
 ConstraintFailure = Writes (codes "sp {c (state <s> ^superstate nil) --> (<s> ^operator <o> + ! ~)}\nrun 1\n")
     (codes "1:   ==>S: S2 (constraint-failure)\n") status.Done
+
+-- a rejected operator that is better than another does not drop it
+abbrev pub RejectedBeatsNone : Type 0
+RejectedBeatsNone = Writes (codes "sp {two (state <s> ^superstate nil) --> (<s> ^operator <a> + - > <b>) (<s> ^operator <b> +) (<a> ^name x) (<b> ^name y)}\nrun 1\n")
+    (codes "1: O: B1 (y)\n") status.Done
 
 -- a selected operator stays, and no change in it gives a substate
 abbrev pub KeptOperator : Type 0

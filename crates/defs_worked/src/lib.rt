@@ -6,6 +6,7 @@ ghost use Rattle.defs_worked.specs.Refusals as refusals;
 ghost use Rattle.defs_worked.specs.Support as support;
 ghost use Rattle.defs_worked.specs.Operators as operators;
 ghost use Rattle.defs_worked.specs.Goals as goals;
+ghost use Rattle.defs_worked.specs.Present as present;
 ghost use Rattle.defs_worked.specs.Learning as learning;
 
 /// Matching and printing: whole runs that were worked out by hand.
@@ -47,6 +48,7 @@ pub fn worked_operators()
     ensures conflict_of_two { operators.ConflictOfTwo }
     ensures conflict_with_a_third { operators.ConflictWithAThird }
     ensures constraint_failure { operators.ConstraintFailure }
+    ensures rejected_beats_none { operators.RejectedBeatsNone }
     ensures kept_operator { operators.KeptOperator }
     ensures softmax_word_nine { operators.SoftmaxWordNine }
     ensures softmax_word_zero { operators.SoftmaxWordZero }
@@ -70,4 +72,12 @@ pub fn worked_learning()
     ensures justified_learning_off { learning.JustifiedLearningOff }
     ensures ungrounded_substate { learning.UngroundedSubstate }
     ensures ungrounded_before_repair { learning.UngroundedBeforeRepair }
+    ensures least_maker { learning.LeastMaker }
+    ensures blocked_explanation { learning.BlockedExplanation }
+{}
+
+/// The program at its present stage: whole runs that were worked out by hand.
+pub fn worked_present()
+    ensures made_and_gone { present.MadeAndGone }
+    ensures not_built_yet { present.NotBuiltYet }
 {}

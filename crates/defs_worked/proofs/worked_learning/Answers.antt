@@ -29,3 +29,11 @@ returns-clause-ungrounded_substate c = refl
 pub returns-clause-ungrounded_before_repair : goal.returns-clause-ungrounded_before_repair
 unfolding computing
 returns-clause-ungrounded_before_repair c = refl
+
+pub returns-clause-least_maker : goal.returns-clause-least_maker
+unfolding computing
+returns-clause-least_maker c = refl
+
+pub returns-clause-blocked_explanation : goal.returns-clause-blocked_explanation
+unfolding computing
+returns-clause-blocked_explanation c = refl

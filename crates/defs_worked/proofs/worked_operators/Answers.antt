@@ -26,6 +26,10 @@ pub returns-clause-constraint_failure : goal.returns-clause-constraint_failure
 unfolding computing
 returns-clause-constraint_failure c = refl
 
+pub returns-clause-rejected_beats_none : goal.returns-clause-rejected_beats_none
+unfolding computing
+returns-clause-rejected_beats_none c = refl
+
 pub returns-clause-kept_operator : goal.returns-clause-kept_operator
 unfolding computing
 returns-clause-kept_operator c = refl
