@@ -1,5 +1,8 @@
 pub mod BeforeLemmas
 pub mod ClosedLemmas
+pub mod DepthLemmas
+pub mod OccurrenceLemmas
+pub mod OperatorLemmas
 pub mod PlaceLemmas
 pub mod TakenLemmas
 pub mod TellingLemmas
