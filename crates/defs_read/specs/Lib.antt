@@ -4,3 +4,4 @@ pub mod Printing
 pub mod Readers
 pub mod Reading
 pub mod ReadingActions
+pub mod Worked

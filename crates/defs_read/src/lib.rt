@@ -1,11 +1,15 @@
 //! How productions are written and read: their grammar, what a text means, and the text of each.
 #![tactic(auto)]
 
-ghost use Rattle.std.specs.Prelude.{◌≡◌, true};
+ghost use Rattle.defs_read.specs.Worked as worked;
 
-/// There is nothing to run here: this crate says what others do.
-pub fn is_of_definitions() -> bool
-    ensures { result ≡ true }
-{
-    true
-}
+/// Texts of productions that were read by hand.
+pub fn worked_readings()
+    ensures fields { worked.Fields }
+    ensures negations { worked.Negations }
+    ensures no_arrow { worked.NoArrow }
+    ensures no_value { worked.NoValue }
+    ensures two_flags { worked.TwoFlags }
+    ensures wrong_calls { worked.WrongCalls }
+    ensures state_in_bars { worked.StateInBars }
+{}
