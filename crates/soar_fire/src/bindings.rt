@@ -38,7 +38,7 @@ fn paired(alloc: Global, variables: &[u32], symbols: &[Sym]) -> Result<Vec<(u32,
 }
 
 /// The variables that conditions bind, in the order in which a match binds them.
-fn bound_variables(alloc: Global, conds: &[Cond]) -> Result<Vec<u32>, AllocError>
+pub fn bound_variables(alloc: Global, conds: &[Cond]) -> Result<Vec<u32>, AllocError>
     ensures { IfOk result (λ variables. variables.items ≡ bound_variables (conditions conds.now)) }
 {
     let mut seen = Vec::new(alloc);

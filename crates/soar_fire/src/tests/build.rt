@@ -5,7 +5,9 @@ use crate::tests::known::{are_known, symbols_of};
 use crate::{FireFault, fire};
 use defs_match::{Instance, Rule};
 use defs_soar::{Goal, Impasse, Made};
-use soar_rule::{Action, Atom, Cond, Field, Func, Kind, Pattern, Pref, Production, Support, Test, Value};
+use soar_rule::{
+    Action, Atom, Cond, Field, Func, Kind, Pattern, Pref, Production, Support, Test, Value,
+};
 use soar_sym::{Letters, List, Sym, SymTable};
 use std::alloc::{AllocError, Global};
 
