@@ -51,7 +51,7 @@ identifier_of (letter ∷ digits) = Ident (if is_small letter then letter - 32 e
 abbrev pub bare_symbol : Texts → List ℕ → Sym
 bare_symbol words text = if is_identifier_form text then identifier_of text else word_in words text
 
--- an attribute or value: a word, an integer, an identifier or a label
+-- what may stand as a value
 abbrev pub operand_of : Texts → Argument → Option Operand
 operand_of words (bare text) = Some (is_symbol (bare_symbol words text))
 operand_of words (barred text) = Some (is_symbol (word_in words text))

@@ -228,7 +228,7 @@ after_substate a goals why items =
     let s = resettled named (with_goal (cut_below a goals) (new_goal id why items)) in
     with_decision (substates a.counts.cycles (length goals) id why ∷ []) (record s { drawn = identifiers_to number ∷ s.drawn })
 
--- with 100 goals no substate is made, and the agent halts
+-- the hundredth goal is the last: where another would be due, the agent halts
 abbrev pub after_limit : Agent → List Goal → Step
 after_limit a goals = let s = with_decision (reaches_goal_limit ∷ []) (resettled a (cut_below a goals)) in record s { halted = true }
 

@@ -125,7 +125,7 @@ abbrev pub with_makers : List FiringOf → List ℕ → List ℕ
 with_makers firings numbers =
     with_numbers (flat_map (λ n. flat_map (λ f. flat_map maker_named f.used) (firing_of firings n)) numbers) numbers
 
--- the roots and all that explain them; each explaining firing has a lesser number, so as many rounds as there are firings are enough
+-- the roots, and step by step the makers of what was used; a maker is older than its user, so as many rounds as there are firings are enough
 abbrev pub explaining : List FiringOf → List ℕ → List ℕ
 explaining firings roots = until_same (λ a b. length a == length b) (length firings) (with_makers firings) (with_numbers roots [])
 
@@ -180,7 +180,7 @@ as_select_step n = select_step n.element n.named
 abbrev pub is_seen : List Naming → Naming → Bool
 is_seen seen n = list_any (naming_eq n) seen
 
--- the firings in order of number, each after the selections that it is the first to use
+-- the firings by number; before each stand the selections that none before it used
 abbrev pub firing_steps : List Naming → List FiringOf → List StepOf
 firing_steps seen [] = []
 firing_steps seen (f ∷ firings) =

@@ -62,7 +62,7 @@ is_goal_of_depth c depth s = list_any (λ f. (f.depth == depth) && list_any (is_
 abbrev pub is_higher : ChainOf → ℕ → Sym → Bool
 is_higher c depth s = is_identifier s && ((is_in_ground c s || list_any (names_superstate s) c.steps) && not (is_goal_of_depth c depth s))
 
--- an identifier that is new in a firing of the chain, and stands in no ground
+-- an identifier that some firing of the chain made new, and no ground holds
 abbrev pub is_made_by : ChainOf → Sym → Bool
 is_made_by c s = list_any (λ f. is_new_in f s) (firings_of c) && not (is_in_ground c s)
 

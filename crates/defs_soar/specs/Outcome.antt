@@ -119,7 +119,7 @@ ungrounded words c depth =
 
 -- ---- sizes
 
--- the number that is too large, that of the conditions first
+-- how many conditions there are, or else variables, where these are too many
 abbrev pub too_large : Form → Option ℕ
 too_large form =
     if nat_lt 1000 (size_of_all form.production.conditions) then Some (size_of_all form.production.conditions)

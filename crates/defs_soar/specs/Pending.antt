@@ -60,7 +60,7 @@ pub record Work : Type 0 where
   pub retracted : List LiveFiring
   pub fired : List Firable
 
--- the firings whose instance is not in the conflict set, and the instances that are not live
+-- live firings that match no more, and matches that no live firing has
 abbrev pub all_work : Bool → List RuleOf → List Element → List Goal → List LiveFiring → Work
 all_work proposing rules elements goals live =
     let now = conflict rules elements in
