@@ -1,4 +1,4 @@
-//! Whole runs that were worked out by hand, each a fact that the check computes from the definition of the whole program.
+//! Whole runs that were worked out by hand, each a fact that the check computes from the definition of the whole program; and laws of definitions.
 #![tactic(auto)]
 
 ghost use Rattle.defs_worked.specs.Matching as matching;
@@ -8,6 +8,10 @@ ghost use Rattle.defs_worked.specs.Operators as operators;
 ghost use Rattle.defs_worked.specs.Goals as goals;
 ghost use Rattle.defs_worked.specs.Present as present;
 ghost use Rattle.defs_worked.specs.Learning as learning;
+
+mod laws;
+
+pub use laws::{laws_of_conditions, laws_of_decisions, laws_of_levels, laws_of_settling};
 
 /// Matching and printing: whole runs that were worked out by hand.
 pub fn worked_matching()
