@@ -1,4 +1,0 @@
-pub mod Firables
-pub mod FiresAll
-pub mod Seen
-pub mod Settles
