@@ -1,0 +1,4 @@
+pub mod Firables
+pub mod FiresAll
+pub mod Seen
+pub mod Settles
