@@ -1,7 +1,5 @@
 -- Instances to fire, with the rules that they are of.
 use Rattle.std.specs.Prelude.{◌≡◌, ℕ, ◌<◌, ◌==◌, List, [], ◌∷◌, map, flat_map, filter, length}
-use Rattle.soar_sym.specs.Words.{Texts, IsKnown}
-use Rattle.soar_rule.specs.Symbols.{AreKnown, symbols_of}
 use Rattle.soar_rule.specs.Variables.{bound_variables}
 use Rattle.soar_wm.specs.declared.element.Element.{Element}
 use Rattle.defs_match.specs.Contents.{is_numbered}
@@ -50,17 +48,3 @@ pub record IsInstance (rules : List RuleOf) (i : Instance) : Type 0 where
 abbrev pub AreBound : List RuleOf → List Instance → Type 0
 AreBound rules [] = Unit {0}
 AreBound rules (i ∷ instances) = IsInstance rules i × AreBound rules instances
-
--- ---- words
-
-abbrev pub AreElementsKnown : Texts → List Element → Type 0
-AreElementsKnown words [] = Unit {0}
-AreElementsKnown words (e ∷ elements) = (IsKnown words e.id × IsKnown words e.attr × IsKnown words e.value) × AreElementsKnown words elements
-
-abbrev pub AreInstancesKnown : Texts → List Instance → Type 0
-AreInstancesKnown words [] = Unit {0}
-AreInstancesKnown words (i ∷ instances) = AreKnown words i.binds × AreInstancesKnown words instances
-
-abbrev pub AreRulesKnown : Texts → List RuleOf → Type 0
-AreRulesKnown words [] = Unit {0}
-AreRulesKnown words (rule ∷ rules) = AreKnown words (symbols_of rule.production) × AreRulesKnown words rules

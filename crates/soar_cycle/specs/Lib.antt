@@ -1,4 +1,5 @@
 pub mod Firables
 pub mod FiresAll
+pub mod Known
 pub mod Seen
 pub mod Settles

@@ -1,27 +1,24 @@
 -- The code's agent as the state that it stands for. What the agent does not keep yet is as at the start; its history is not kept at all.
-use Rattle.std.specs.Prelude.{◌≡◌, ℕ, ◌≤◌, ◌^◌, ◌-◌, true, false, List, [], ◌∷◌, map, Option, Some, None, Result, Ok, Err}
-use Rattle.soar_sym.specs.Words.{Texts}
+use Rattle.std.specs.Prelude.{◌≡◌, ℕ, ◌≤◌, true, false, List, [], ◌∷◌, ◌++◌, map, flat_map, length, Option, Some, None, Result, Ok, Err}
 use Rattle.soar_sym.specs.declared.symbol.Sym.TheVariants.{Ident}
 use Rattle.defs_match.specs.Rules.{RuleOf, rule_seen}
 use Rattle.defs_soar.specs.declared.goal.Impasse.TheVariants as impasse
 use Rattle.defs_soar.specs.declared.limit.Which.{Which}
-use Rattle.defs_soar.specs.declared.preference.Preference.{Preference}
 use Rattle.defs_soar.specs.Agents.{Agent}
 use Rattle.defs_soar.specs.Decision.{new_goal}
+use Rattle.defs_soar.specs.Events.{Event, writes_text}
 use Rattle.defs_soar.specs.History.{Past}
 use Rattle.defs_soar.specs.Limits.{first_passed}
 use Rattle.defs_soar.specs.Pending.{pending, is_none, is_justification}
 use Rattle.defs_soar.specs.Start.{first_settings}
-use Rattle.defs_soar.specs.Waves.{Step, Course, halting, wave_of}
-use Rattle.soar_cycle.specs.Firables.{AreNumbered, AreElementsKnown, AreRulesKnown, live_seen}
-use Rattle.soar_cycle.specs.Settles.{AreTriplesKnown}
+use Rattle.defs_soar.specs.Waves.{Step, halting, wave_of}
+use Rattle.soar_cycle.specs.Firables.{AreNumbered, live_seen}
+use Rattle.soar_cycle.specs.Known.{AreElementsKnown, AreRulesKnown, AreRowsKnown, AreTriplesKnown}
 use Rattle.soar_cycle.specs.declared.agent.Agent.{Agent as AgentKept}
 use Rattle.soar_cycle.specs.declared.stop.Stop.{Stop}
 use Rattle.soar_cycle.specs.declared.stop.Stop.TheVariants as stop
 use Rattle.soar_cycle.specs.declared.wave.Waved.{Waved}
 use Rattle.soar_cycle.specs.declared.wave.Waved.TheVariants as waved
-use Rattle.soar_rule.specs.Symbols.{AreKnown}
-use Rattle.defs_soar.specs.Dependencies.{symbols_of_wish}
 
 -- with this history
 abbrev pub agent_of : AgentKept → List Past → Agent
@@ -39,20 +36,18 @@ agent_of a history = record {
 
 -- ---- what an agent keeps
 
-abbrev pub AreRowsKnown : Texts → List Preference → Type 0
-AreRowsKnown words [] = Unit {0}
-AreRowsKnown words (row ∷ rows) = AreKnown words (symbols_of_wish row.wish) × AreRowsKnown words rows
-
 -- no rule is a justification
 abbrev pub AreNoJustifications : List RuleOf → Type 0
 AreNoJustifications [] = Unit {0}
 AreNoJustifications (rule ∷ rules) = (is_justification rule.production.kind ≡ false) × AreNoJustifications rules
 
--- one goal, the limits, rules in order of number, and words that the table has
+-- one goal, the limits, rules in order of number, and words that the table has, those of the architecture among them
 pub record IsSound (a : AgentKept) : Type 0 where
   pub one_goal : a.goals ≡ new_goal (Ident 83 1) impasse.Top [] ∷ []
   pub element_limit : a.memory.limit ≡ 4000000
   pub row_limit : a.prefs.limit ≡ 1000000
+  pub few_rows : length a.prefs.rows ≤ a.prefs.limit
+  pub first_words : 7 ≤ length a.table
   pub numbered : AreNumbered (map rule_seen a.rules)
   pub none_learned : AreNoJustifications (map rule_seen a.rules)
   pub rules_known : AreRulesKnown a.table (map rule_seen a.rules)
@@ -78,3 +73,18 @@ WavesFrom old new history (Ok waved.Went) = (is_none (pending true (agent_of old
 WavesFrom old new history (Ok waved.Halted) = (is_none (pending true (agent_of old history)) ≡ false) × Stepped new (wave_at old history) × ((wave_at old history).halted ≡ true)
 WavesFrom old new history (Err (stop.Limit which)) = (is_none (pending true (agent_of old history)) ≡ false) × (first_passed (wave_at old history).drawn ≡ Some which)
 WavesFrom old new history (Err stop.NoMemory) = Unit {0}
+
+-- ---- what a wave writes
+
+abbrev pub written_by : Event → List ℕ
+written_by (writes_text text) = text
+written_by other = []
+
+abbrev pub written_of : List Event → List ℕ
+written_of events = flat_map written_by events
+
+-- the texts of the firings come behind what was there
+abbrev pub Writes : AgentKept → List Past → List ℕ → List ℕ → Result Waved Stop → Type 0
+Writes old history before after (Ok waved.Rest) = after ≡ before
+Writes old history before after (Ok went) = after ≡ before ++ written_of (wave_at old history).events
+Writes old history before after (Err why) = Unit {0}

@@ -1,6 +1,6 @@
 -- What settling leaves, and what working memory is made of it.
 use Rattle.std.specs.Prelude.{◌≡◌, ℕ, ◌+◌, List, [], ◌∷◌, length, Option, Some, None, Result, Ok, Err}
-use Rattle.soar_sym.specs.Words.{Texts, IsKnown}
+use Rattle.soar_sym.specs.Words.{Texts}
 use Rattle.soar_sym.specs.declared.symbol.Triple.{Triple}
 use Rattle.soar_wm.specs.declared.element.Element.{Element}
 use Rattle.soar_wm.specs.WorkingMemory.{WorkingMemory}
@@ -16,11 +16,6 @@ use Rattle.soar_cycle.specs.declared.stop.Stop.TheVariants as stop
 
 abbrev pub settled_from : List Goal → List Preference → List Triple → Supports
 settled_from goals rows inputs = settled goals (record { rows = rows; inputs = inputs })
-
--- the words of triples are in the table
-abbrev pub AreTriplesKnown : Texts → List Triple → Type 0
-AreTriplesKnown words [] = Unit {0}
-AreTriplesKnown words (t ∷ triples) = (IsKnown words t.id × IsKnown words t.attr × IsKnown words t.value) × AreTriplesKnown words triples
 
 -- the elements afterwards
 abbrev pub after_of : Texts → List Goal → List Triple → WorkingMemory → List Element

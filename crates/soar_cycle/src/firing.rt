@@ -1,7 +1,8 @@
-ghost use Rattle.std.specs.Prelude.{◌≡◌, ◌≤◌, length, map, OnOk};
+ghost use Rattle.std.specs.Prelude.{◌≡◌, ◌≤◌, length, map, IfOk};
 ghost use Rattle.defs_match.specs.Rules.{rule_seen};
-ghost use Rattle.soar_cycle.specs.Firables.{AreNumbered, AreBound, AreInstancesKnown, AreRulesKnown};
+ghost use Rattle.soar_cycle.specs.Firables.{AreNumbered, AreBound};
 ghost use Rattle.soar_cycle.specs.FiresAll.{FiresAll};
+ghost use Rattle.soar_cycle.specs.Known.{AreInstancesKnown, AreRulesKnown, AreRowsKnown};
 
 use crate::live::Live;
 use crate::stop::Stop;
@@ -38,6 +39,7 @@ pub fn fire_all(
     requires rules { AreRulesKnown table.old (map rule_seen rules.now) }
     requires known { AreInstancesKnown table.old instances.now }
     ensures answer { FiresAll table.old letters.old goals.now (map rule_seen rules.now) memory.now.elements instances.now last table.new letters.new result }
+    ensures known { IfOk result (λ fired. AreRowsKnown table.new fired.rows) }
     ensures grown { length table.old ≤ length table.new }
 {
     Err(Stop::NoMemory)

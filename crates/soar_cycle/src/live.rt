@@ -6,6 +6,6 @@ use soar_sym::Sym;
 pub struct Live {
     pub number: u64,
     pub name: Sym,
-    pub depth: u32,
+    pub depth: usize,
     pub instance: Instance,
 }

@@ -1,5 +1,6 @@
 ghost use Rattle.std.specs.Prelude.{◌≡◌};
-ghost use Rattle.soar_cycle.specs.Settles.{AreTriplesKnown, Retags};
+ghost use Rattle.soar_cycle.specs.Known.{AreTriplesKnown};
+ghost use Rattle.soar_cycle.specs.Settles.{Retags};
 
 use crate::changes::Changes;
 use crate::stop::Stop;

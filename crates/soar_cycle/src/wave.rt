@@ -1,6 +1,6 @@
 ghost use Rattle.std.specs.Prelude.{◌≡◌, List as ListOf, IfOk};
 ghost use Rattle.defs_soar.specs.History.{Past};
-ghost use Rattle.soar_cycle.specs.Seen.{IsSound, WavesFrom};
+ghost use Rattle.soar_cycle.specs.Seen.{IsSound, WavesFrom, Writes};
 
 use crate::agent::Agent;
 use crate::stop::Stop;
@@ -20,6 +20,7 @@ impl Agent {
     pub fn wave(&mut self, alloc: Global, text: &mut Text) -> Result<Waved, Stop>
         requires sound { IsSound self.old }
         ensures wave { (history : ListOf Past) → WavesFrom self.old self.new history result }
+        ensures text { (history : ListOf Past) → Writes self.old history text.old text.new result }
         ensures sound { IfOk result (λ _. IsSound self.new) }
     {
         Err(Stop::NoMemory)

@@ -2,7 +2,8 @@ ghost use Rattle.std.specs.Prelude.{◌≡◌, map, IfOk};
 ghost use Rattle.soar_sym.specs.Words.{Texts};
 ghost use Rattle.defs_match.specs.Rules.{rule_seen};
 ghost use Rattle.defs_soar.specs.Pending.{pending_in};
-ghost use Rattle.soar_cycle.specs.Firables.{AreNumbered, AreBound, AreElementsKnown, AreInstancesKnown, IsPending, live_seen};
+ghost use Rattle.soar_cycle.specs.Firables.{AreNumbered, AreBound, IsPending, live_seen};
+ghost use Rattle.soar_cycle.specs.Known.{AreElementsKnown, AreInstancesKnown};
 
 use crate::live::Live;
 use defs_match::{Instance, Rule};

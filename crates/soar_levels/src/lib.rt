@@ -12,6 +12,7 @@ mod walk;
 
 pub use levels::Levels;
 pub use support::operator_kind;
+pub use taken::match_depth;
 
 #[cfg(test)]
 mod tests;

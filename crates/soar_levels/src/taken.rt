@@ -36,7 +36,9 @@ fn id_at(goals: &[Goal], place: usize) -> Option<Sym>
     Some(goals[place].id)
 }
 
-fn match_depth(goals: &[Goal], memory: &Memory, tags: &[u32]) -> usize
+/// The depth of the match goal: that of the deepest goal that an element of the tags is about, from 1 for the
+/// top goal, and 0 where they are about no goal (Soar manual, substates).
+pub fn match_depth(goals: &[Goal], memory: &Memory, tags: &[u32]) -> usize
     ensures { result ≡ match_depth goals.now (elements_of_tags memory.now.elements tags.now) }
 {
     let mut depth = 0;
