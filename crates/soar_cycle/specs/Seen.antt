@@ -41,6 +41,11 @@ abbrev pub AreNoJustifications : List RuleOf → Type 0
 AreNoJustifications [] = Unit {0}
 AreNoJustifications (rule ∷ rules) = (is_justification rule.production.kind ≡ false) × AreNoJustifications rules
 
+-- the numbers of rules are at most the last that was given
+abbrev pub AreUpTo : ℕ → List RuleOf → Type 0
+AreUpTo last [] = Unit {0}
+AreUpTo last (rule ∷ rules) = (rule.number ≤ last) × AreUpTo last rules
+
 -- one goal, the limits, rules in order of number, and words that the table has, those of the architecture among them
 pub record IsSound (a : AgentKept) : Type 0 where
   pub one_goal : a.goals ≡ new_goal (Ident 83 1) impasse.Top [] ∷ []
@@ -49,6 +54,7 @@ pub record IsSound (a : AgentKept) : Type 0 where
   pub few_rows : length a.prefs.rows ≤ a.prefs.limit
   pub first_words : 7 ≤ length a.table
   pub numbered : AreNumbered (map rule_seen a.rules)
+  pub numbers_given : AreUpTo a.last_rule (map rule_seen a.rules)
   pub none_learned : AreNoJustifications (map rule_seen a.rules)
   pub rules_known : AreRulesKnown a.table (map rule_seen a.rules)
   pub elements_known : AreElementsKnown a.table a.memory.elements
@@ -87,4 +93,5 @@ written_of events = flat_map written_by events
 abbrev pub Writes : AgentKept → List Past → List ℕ → List ℕ → Result Waved Stop → Type 0
 Writes old history before after (Ok waved.Rest) = after ≡ before
 Writes old history before after (Ok went) = after ≡ before ++ written_of (wave_at old history).events
-Writes old history before after (Err why) = Unit {0}
+Writes old history before after (Err (stop.Limit which)) = after ≡ before
+Writes old history before after (Err stop.NoMemory) = Unit {0}

@@ -4,8 +4,11 @@
 mod agent;
 mod changes;
 mod firing;
+mod inputs;
 mod live;
+mod phase;
 mod settling;
+mod start;
 mod stop;
 mod tagging;
 mod wave;
