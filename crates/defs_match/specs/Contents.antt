@@ -1,7 +1,7 @@
 -- What a matcher holds: rules by number and elements by tag, and what each call changes.
 use Rattle.std.specs.Prelude.{◌≡◌, ℕ, Bool, true, false, ◌==◌, nat_lt, not, List, [], ◌∷◌, filter, if◌then◌else◌}
 use Rattle.std.specs.List.{list_any}
-use Rattle.soar_rule.specs.Checking.{can_be_matched}
+use Rattle.soar_rule.specs.AsItStands.{can_be_matched}
 use Rattle.soar_wm.specs.declared.element.Element.{Element}
 use Rattle.soar_wm.specs.WorkingMemory.{has_tag, has_triple, triple_of}
 use Rattle.defs_match.specs.Rules.{RuleOf}

@@ -1,7 +1,16 @@
+pub mod ActionExpansion
+pub mod ConditionExpansion
 pub mod Expansion
+pub mod FieldExpansion
+pub mod FreshNames
 pub mod Grammar
 pub mod Printing
+pub mod PrintingConditions
 pub mod Readers
 pub mod Reading
 pub mod ReadingActions
+pub mod ReadingFields
+pub mod ReadingTokens
+pub mod ReadingValues
+pub mod Spelling
 pub mod Worked

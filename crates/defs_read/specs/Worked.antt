@@ -1,9 +1,10 @@
 -- Texts of productions that were read by hand: what is read is spelled so, and where reading stops.
 use Rattle.std.specs.Prelude.{◌≡◌, ℕ, List, map, Result, Ok, Err, codes}
 use Rattle.defs_text.specs.Lexing.{lexed}
-use Rattle.defs_read.specs.Grammar.{Tree, Tokens, spelling}
+use Rattle.defs_read.specs.Grammar.{Tree}
 use Rattle.defs_read.specs.Readers.{Stop, unexpected}
 use Rattle.defs_read.specs.ReadingActions.{tree_of}
+use Rattle.defs_read.specs.Spelling.{Tokens, spelling}
 
 abbrev pub tokens_of : List ℕ → Tokens
 tokens_of text = map (λ t. t.says) (lexed text).tokens

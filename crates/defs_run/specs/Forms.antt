@@ -1,75 +1,16 @@
--- The forms of commands at the present stage, over the tokens behind the command's word. What is of no form is not built.
-use Rattle.std.specs.Prelude.{ℕ, zero, suc, ◌-◌, ◌&&◌, ◌||◌, ◌==◌, not, Bool, true, false, List, [], ◌∷◌, ◌++◌, drop, Option, Some, None, if◌then◌else◌, option_and_then, codes}
+-- The forms of productions at the present stage, over the tokens behind the command's word. What is of no form is not built.
+use Rattle.std.specs.Prelude.{ℕ, zero, suc, ◌-◌, ◌&&◌, ◌||◌, not, Bool, true, false, List, [], ◌∷◌, ◌++◌, drop, Option, Some, None, if◌then◌else◌, option_and_then}
 use Rattle.std.specs.List.{list_any}
-use Rattle.std.specs.Str.{bytes_eq}
-use Rattle.soar_sym.specs.Words.{Texts, text_of}
 use Rattle.soar_sym.specs.Equality.{symbol_eq}
 use Rattle.soar_sym.specs.declared.symbol.Sym.{Sym}
-use Rattle.soar_sym.specs.declared.symbol.Sym.TheVariants.{Word, Int}
+use Rattle.soar_sym.specs.declared.symbol.Sym.TheVariants.{Word}
 use Rattle.defs_text.specs.Runs.{is_empty}
-use Rattle.defs_text.specs.Symbols.{is_identifier_form}
-use Rattle.defs_text.specs.declared.token.TokenKind.{TokenKind}
-use Rattle.defs_text.specs.declared.token.TokenKind.TheVariants as kind
 use Rattle.defs_text.specs.declared.token.Token.{Token}
 use Rattle.defs_run.specs.declared.form.Operand.{Operand}
 use Rattle.defs_run.specs.declared.form.Operand.TheVariants.{Variable, Constant}
 use Rattle.defs_run.specs.declared.form.Group.{Group}
 use Rattle.defs_run.specs.declared.form.Outline.{Outline}
-use Rattle.defs_run.specs.declared.form.Addition.{Addition}
-
--- ---- the token in front
-
-abbrev pub is_mark_kind : ℕ → TokenKind → Bool
-is_mark_kind byte (kind.Mark b) = b == byte
-is_mark_kind byte other = false
-
-abbrev pub begins_mark : ℕ → List Token → Bool
-begins_mark byte [] = false
-begins_mark byte (t ∷ tokens) = is_mark_kind byte t.kind
-
-abbrev pub is_arrow_kind : TokenKind → Bool
-is_arrow_kind kind.Arrow = true
-is_arrow_kind other = false
-
-abbrev pub begins_arrow : List Token → Bool
-begins_arrow [] = false
-begins_arrow (t ∷ tokens) = is_arrow_kind t.kind
-
--- the bare word `state`, which is the first of the architecture's words
-abbrev pub is_state_kind : TokenKind → Bool
-is_state_kind (kind.Word word bare) = symbol_eq word (Word 0) && bare
-is_state_kind other = false
-
-abbrev pub begins_state : List Token → Bool
-begins_state [] = false
-begins_state (t ∷ tokens) = is_state_kind t.kind
-
-abbrev pub variable_kind : TokenKind → Option Sym
-variable_kind (kind.Var name) = Some name
-variable_kind other = None
-
-abbrev pub variable_at : List Token → Option Sym
-variable_at [] = None
-variable_at (t ∷ tokens) = variable_kind t.kind
-
--- a word, bare or in bars
-abbrev pub word_kind : TokenKind → Option Sym
-word_kind (kind.Word word bare) = Some word
-word_kind other = None
-
-abbrev pub word_at : List Token → Option Sym
-word_at [] = None
-word_at (t ∷ tokens) = word_kind t.kind
-
-abbrev pub operand_kind : TokenKind → Option Operand
-operand_kind (kind.Var name) = Some (Variable name)
-operand_kind (kind.Word word bare) = Some (Constant word)
-operand_kind (kind.Int value) = Some (Constant (Int value))
-operand_kind other = None
-
-abbrev pub operand_at : List Token → Option Operand
-operand_at [] = None
-operand_at (t ∷ tokens) = operand_kind t.kind
+use Rattle.defs_run.specs.Fronts.{begins_mark, begins_arrow, begins_state, variable_at, word_at, operand_at}
 
 -- ---- groups
 
@@ -163,44 +104,3 @@ outlined name conditions = if begins_arrow conditions.rest then concluded name c
 abbrev pub outline_at : List Token → Option Outline
 outline_at tokens =
     if begins_mark 123 tokens then option_and_then (λ name. outlined name (groups_at (drop 2 tokens))) (word_at (drop 1 tokens)) else None
-
--- ---- `S1 ^WORD VALUE`
-
--- in a command a bare word of the form of an identifier is none
-abbrev pub is_plain_word : Texts → ℕ → Bool → Bool
-is_plain_word words word bare = not (bare && is_identifier_form (text_of words word))
-
-abbrev pub plain_word : Texts → TokenKind → Option Sym
-plain_word words (kind.Word (Word word) bare) = if is_plain_word words word bare then Some (Word word) else None
-plain_word words other = None
-
-abbrev pub constant_kind : Texts → TokenKind → Option Sym
-constant_kind words (kind.Int value) = Some (Int value)
-constant_kind words other = plain_word words other
-
-abbrev pub is_top_kind : Texts → TokenKind → Bool
-is_top_kind words (kind.Word (Word word) bare) = bare && bytes_eq (text_of words word) (codes "S1")
-is_top_kind words other = false
-
-abbrev pub begins_top : Texts → List Token → Bool
-begins_top words [] = false
-begins_top words (t ∷ tokens) = is_top_kind words t.kind
-
-abbrev pub attribute_at : Texts → List Token → Option Sym
-attribute_at words [] = None
-attribute_at words (t ∷ tokens) = plain_word words t.kind
-
-abbrev pub constant_at : Texts → List Token → Option Sym
-constant_at words [] = None
-constant_at words (t ∷ tokens) = constant_kind words t.kind
-
-abbrev pub addition_if : Bool → Sym → Sym → Option Addition
-addition_if fits attr value = if fits && not (symbol_eq attr (Word 7)) then Some (record { attr = attr; value = value }) else None
-
-abbrev pub is_addition : Texts → List Token → Bool
-is_addition words tokens = begins_top words tokens && (begins_mark 94 (drop 1 tokens) && is_empty (drop 4 tokens))
-
-abbrev pub addition_at : Texts → List Token → Option Addition
-addition_at words tokens =
-    option_and_then (λ attr. option_and_then (λ value. addition_if (is_addition words tokens) attr value)
-    (constant_at words (drop 3 tokens))) (attribute_at words (drop 2 tokens))

@@ -13,15 +13,16 @@ use Rattle.defs_soar.specs.Agents.{Agent}
 use Rattle.defs_soar.specs.Cycle.{then_phase, then_course}
 use Rattle.defs_soar.specs.Events.{proposal_phase}
 use Rattle.defs_soar.specs.Limits.{counts_to}
-use Rattle.defs_soar.specs.Waves.{Said, Course, still}
+use Rattle.defs_soar.specs.Phases.{Said, Course, still}
+use Rattle.defs_run.specs.AdditionForms.{addition_at}
 use Rattle.defs_run.specs.Arguments.{Argument, number, argument_in, id_of}
+use Rattle.defs_run.specs.CommandForms.{number_order, tag_order}
 use Rattle.defs_run.specs.Commands.{CommandOf, commands_of, first_run, whole_part}
-use Rattle.defs_run.specs.Forms.{outline_at, addition_at}
+use Rattle.defs_run.specs.Forms.{outline_at}
 use Rattle.defs_run.specs.Loading.{production_of}
 use Rattle.defs_run.specs.Orders.{Operand, is_symbol, is_label, Order, load, add_wme, remove_wme, run_cycles, matches, print_id, Refusal, unknown_command, not_built}
-use Rattle.defs_run.specs.Runs.{Transcript, transcript_at}
 use Rattle.defs_run.specs.Stages.{Reading, Stage}
-use Rattle.defs_run.specs.WholeReading.{number_order, tag_order}
+use Rattle.defs_run.specs.Transcripts.{Transcript, transcript_at}
 use Rattle.defs_run.specs.declared.form.Outline.{Outline}
 use Rattle.defs_run.specs.declared.form.Addition.{Addition}
 

@@ -14,8 +14,9 @@ use Rattle.soar_rule.specs.Productions.{ProductionOf}
 use Rattle.defs_match.specs.Rules.{RuleOf}
 use Rattle.defs_match.specs.Conflict.{conflict}
 use Rattle.defs_match.specs.declared.instance.Instance.{Instance}
+use Rattle.defs_run.specs.AdditionForms.{addition_at}
 use Rattle.defs_run.specs.Commands.{CommandOf, first_run}
-use Rattle.defs_run.specs.Forms.{outline_at, addition_at}
+use Rattle.defs_run.specs.Forms.{outline_at}
 use Rattle.defs_run.specs.declared.form.Outline.{Outline}
 use Rattle.defs_run.specs.declared.form.Addition.{Addition}
 use Rattle.defs_run.specs.declared.form.Order.{Order}

@@ -6,8 +6,8 @@ use Rattle.soar_sym.specs.declared.symbol.Sym.{Sym}
 use Rattle.soar_sym.specs.declared.symbol.Sym.TheVariants.{Ident, Word, Int}
 use Rattle.defs_text.specs.Symbols.{symbol_text}
 use Rattle.defs_soar.specs.Agents.{Agent}
-use Rattle.defs_soar.specs.Firing.{letter_from}
 use Rattle.defs_soar.specs.Limits.{Drawn, identifiers_to}
+use Rattle.defs_soar.specs.Naming.{letter_from}
 use Rattle.defs_soar.specs.Start.{first_agent}
 use Rattle.defs_soar.specs.Trace.{Piece, line}
 use Rattle.defs_run.specs.Orders.{Operand, is_symbol, is_label, Refusal, refusal_text}

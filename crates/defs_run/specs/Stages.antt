@@ -3,7 +3,7 @@ use Rattle.std.specs.Prelude.{ℕ, Bool, List, Result}
 use Rattle.soar_sym.specs.Words.{Texts}
 use Rattle.soar_edge.specs.Cutting.{Cut}
 use Rattle.defs_soar.specs.Agents.{Agent}
-use Rattle.defs_soar.specs.Waves.{Course}
+use Rattle.defs_soar.specs.Phases.{Course}
 use Rattle.defs_run.specs.Orders.{Order, Refusal}
 
 -- a command that was read: the table with its words, and the order, or the refusal that its words alone decide

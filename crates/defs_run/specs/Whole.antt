@@ -4,7 +4,7 @@ use Rattle.soar_edge.specs.Cutting.{cuts_of}
 use Rattle.soar_edge.specs.declared.filed.Filed.{Filed}
 use Rattle.defs_soar.specs.Cycle.{run}
 use Rattle.defs_run.specs.Stages.{Stage}
-use Rattle.defs_run.specs.Runs.{Transcript, transcript_at}
+use Rattle.defs_run.specs.Transcripts.{Transcript, transcript_at}
 use Rattle.defs_run.specs.WholeReading.{read_whole}
 
 abbrev pub whole_stage : Stage

@@ -12,9 +12,12 @@ use Rattle.defs_soar.specs.Learning.{with_learning}
 use Rattle.defs_soar.specs.Negations.{negations_taken_over}
 use Rattle.defs_soar.specs.Outcome.{outcome_of}
 use Rattle.defs_soar.specs.Pending.{pending_in}
+use Rattle.defs_soar.specs.Phases.{phase}
+use Rattle.defs_soar.specs.Resettling.{resettled}
 use Rattle.defs_soar.specs.Results.{results_of}
 use Rattle.defs_soar.specs.Trimming.{trimmed}
-use Rattle.defs_soar.specs.Waves.{resettled, with_firings, wave_of, phase}
+use Rattle.defs_soar.specs.WaveFirings.{with_firings}
+use Rattle.defs_soar.specs.Waves.{wave_of}
 
 unfoldable pub computing : ℕ
 unfolding digits canonical general_form literal_form carried_tests ordered_grounds after_input after_output cycle run decided_by dependency_set with_learning negations_taken_over outcome_of pending_in results_of trimmed resettled with_firings wave_of phase

@@ -13,9 +13,10 @@ use Rattle.soar_rule.specs.Conditions.{positive, negated, conjunctive, Condition
 use Rattle.soar_rule.specs.Equality.{relation_eq}
 use Rattle.soar_wm.specs.declared.element.Element.{Element}
 use Rattle.defs_match.specs.Testing.{Bindings, symbol_at}
-use Rattle.defs_soar.specs.Explanation.{elements_matched}
+use Rattle.defs_soar.specs.ChainIdentifiers.{firings_of, is_in_ground, is_made_by, is_goal_of_depth}
 use Rattle.defs_soar.specs.History.{FiringOf, ChainOf}
-use Rattle.defs_soar.specs.Negations.{firings_of, bindings_in, is_in_ground, is_made_by, is_goal_of_depth}
+use Rattle.defs_soar.specs.Negations.{bindings_in}
+use Rattle.defs_soar.specs.Uses.{elements_matched}
 use Rattle.defs_soar.specs.Values.{is_identifier}
 
 -- a relation that a step tested, with the symbols of its field and of its referent

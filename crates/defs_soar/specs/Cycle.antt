@@ -10,10 +10,11 @@ use Rattle.defs_soar.specs.Events.{Part, input_phase, proposal_phase, applicatio
 use Rattle.defs_soar.specs.Goals.{goal_ids, is_goal}
 use Rattle.defs_soar.specs.Levels.{reached_from}
 use Rattle.defs_soar.specs.Limits.{counts_to}
+use Rattle.defs_soar.specs.Phases.{Said, Course, then_step, still, phase}
+use Rattle.defs_soar.specs.Resettling.{Step, resettled}
 use Rattle.defs_soar.specs.Sorted.{has_symbol, in_order}
 use Rattle.defs_soar.specs.Trimming.{Trimmed}
 use Rattle.defs_soar.specs.Values.{triple_eq, has_triple_among}
-use Rattle.defs_soar.specs.Waves.{Step, resettled, Said, Course, then_step, still, phase}
 
 -- ---- input
 

@@ -9,12 +9,12 @@ use Rattle.defs_soar.specs.declared.goal.Goal.{Goal}
 use Rattle.defs_soar.specs.declared.goal.Item.{Item}
 use Rattle.defs_soar.specs.declared.preference.Preference.{Preference}
 use Rattle.defs_soar.specs.ConditionOrder.{ordered_grounds}
-use Rattle.defs_soar.specs.Decision.{View, walked}
 use Rattle.defs_soar.specs.Goals.{goal_ids}
 use Rattle.defs_soar.specs.Levels.{goes_on_at, reached_from}
 use Rattle.defs_soar.specs.Settling.{Supports, one_settling, settled}
 use Rattle.defs_soar.specs.Sorted.{has_symbol}
 use Rattle.defs_soar.specs.Values.{is_identifier}
+use Rattle.defs_soar.specs.Walk.{View, walked}
 
 -- the list holds it
 abbrev pub IsIn : {A : Type 0} → A → List A → Type 0

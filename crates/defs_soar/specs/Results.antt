@@ -10,11 +10,11 @@ use Rattle.defs_soar.specs.declared.preference.PrefKind.TheVariants as kind
 use Rattle.defs_soar.specs.declared.preference.Preference.{Preference}
 use Rattle.defs_soar.specs.declared.preference.Wish.{Wish}
 use Rattle.defs_soar.specs.Dependencies.{has_level, is_new_in, symbols_of_referent}
-use Rattle.defs_soar.specs.Explanation.{is_above}
 use Rattle.defs_soar.specs.Goals.{plain_triple}
 use Rattle.defs_soar.specs.History.{Reach, FiringOf}
 use Rattle.defs_soar.specs.Levels.{level_in, same_length}
 use Rattle.defs_soar.specs.Sorted.{has_symbol}
+use Rattle.defs_soar.specs.Uses.{is_above}
 use Rattle.defs_soar.specs.Values.{is_identifier, is_kind, same_triple}
 
 -- a wish for an identifier of a higher level than the firing's match goal

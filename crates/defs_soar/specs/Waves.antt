@@ -1,122 +1,20 @@
--- Waves and phases (Soar manual, elaboration cycle).
-use Rattle.std.specs.Prelude.{ℕ, suc, ◌+◌, Bool, true, false, ◌&&◌, ◌||◌, ◌==◌, not, List, [], ◌∷◌, ◌++◌, map, flat_map, filter, length, if◌then◌else◌}
+-- Waves: the work of the least level that has any, and what it leaves (Soar manual, elaboration cycle).
+use Rattle.std.specs.Prelude.{ℕ, suc, ◌+◌, Bool, true, false, ◌&&◌, ◌==◌, not, List, [], ◌∷◌, ◌++◌, map, flat_map, filter, length, if◌then◌else◌}
 use Rattle.std.specs.List.{list_any}
 use Rattle.soar_sym.specs.declared.symbol.Sym.{Sym}
-use Rattle.soar_rule.specs.Repeat.{Turn, ends, goes_on, turns}
-use Rattle.soar_rule.specs.Symbols.{constants_of}
-use Rattle.soar_wm.specs.declared.element.Element.{Element}
-use Rattle.soar_wm.specs.WorkingMemory.{triple_of}
 use Rattle.defs_match.specs.Rules.{RuleOf}
-use Rattle.defs_soar.specs.declared.goal.Goal.{Goal}
 use Rattle.defs_soar.specs.declared.preference.Preference.{Preference}
 use Rattle.defs_soar.specs.Agents.{LiveFiring, Program, Counts, Agent}
-use Rattle.defs_soar.specs.Events.{by_instance, by_operator, by_learned, Event, learning, removes, retracts, fires, makes_wish, drops, writes_text, goes, comes}
-use Rattle.defs_soar.specs.Explanation.{elements_matched, all_uses}
-use Rattle.defs_soar.specs.Firing.{MadeSoFar, made_by}
-use Rattle.defs_soar.specs.History.{FiringOf, Reach, Past}
-use Rattle.defs_soar.specs.Learning.{Fated, Fresh, Entry, fired, told, Moment, Wave, all_fresh, goals_among, fated, with_learning}
-use Rattle.defs_soar.specs.Levels.{reaches}
-use Rattle.defs_soar.specs.Limits.{Drawn, preferences_to, elements_to, tags_to, counts_to}
-use Rattle.defs_soar.specs.Pending.{Firable, Work, pending, is_none, depth_of, is_of_operator_kind, is_justification}
+use Rattle.defs_soar.specs.Events.{by_instance, by_operator, by_learned, Event, learning, retracts, makes_wish, drops, writes_text}
+use Rattle.defs_soar.specs.History.{Past}
+use Rattle.defs_soar.specs.Learning.{with_learning}
+use Rattle.defs_soar.specs.Limits.{Drawn, preferences_to, counts_to}
+use Rattle.defs_soar.specs.Pending.{Work, is_justification}
 use Rattle.defs_soar.specs.Preferences.{with_row, with_rows, without_firings, is_kept_already, rows_after}
-use Rattle.defs_soar.specs.Settling.{kept_triples, elements_after}
-use Rattle.defs_soar.specs.Support.{goal_at_depth}
-use Rattle.defs_soar.specs.Trimming.{Trimmed, trimmed, supports_of, numbers_of}
-
--- a state, what can be told of the step, what it drew, and whether a firing of it halted
-pub record Step : Type 0 where
-  pub agent : Agent
-  pub events : List Event
-  pub drawn : List Drawn
-  pub halted : Bool
-
--- ---- settling
-
-abbrev pub without_elements : List Element → List Element → List Element
-without_elements others elements = filter (λ e. not (list_any (λ o. o.tag == e.tag) others)) elements
-
-abbrev pub removal_events : List Goal → List Event
-removal_events goals = map (λ goal. removes goal.id) goals
-
--- the agent with these goals, rows, inputs and live firings, settled, and without the goals that lost something they depend on
-unfoldable pub resettled : Agent → Trimmed → Step
-resettled a held =
-    let t = trimmed a.history a.holding.elements held in
-    let after = elements_after a.names.words t.goals (kept_triples t.goals (supports_of t)) a.names.last_tag a.holding.elements in
-    let new = without_elements a.holding.elements after in
-    let last = a.names.last_tag + length new in
-    record {
-      agent = record a {
-        names = record a.names { last_tag = last };
-        holding = record { elements = after; goals = t.goals; rows = t.rows; inputs = t.inputs; live = t.live };
-      };
-      events = removal_events t.removed ++ (map goes (without_elements after a.holding.elements) ++ map comes new);
-      drawn = elements_to (length after) ∷ tags_to last ∷ [];
-      halted = false;
-    }
-
--- ---- firing
-
-abbrev pub reach_of : Agent → Reach
-reach_of a = record { goals = a.holding.goals; reached = reaches a.holding.goals (map triple_of a.holding.elements) }
-
-abbrev pub moment_of : Agent → Moment
-moment_of a = record {
-  reach = reach_of a;
-  rows = a.holding.rows;
-  elements = a.holding.elements;
-  firings = map (λ past. past.firing) a.history;
-  settings = a.settings;
-}
-
-abbrev pub first_wave : Agent → Wave
-first_wave a = record { names = a.names; program = a.program; last_firing = a.counts.firings; learned = a.counts.learned; entries = []; next = []; halted = false; drawn = [] }
-
--- a firing as it is recorded; words and number are those of its turn, all else is from before the wave
-abbrev pub firing_of_work : Moment → Wave → Firable → MadeSoFar → FiringOf
-firing_of_work m w f made =
-    let depth = depth_of m.reach.goals f in
-    record {
-      number = suc w.last_firing;
-      name = f.rule.production.name;
-      rule = f.rule;
-      depth = depth;
-      instance = f.instance;
-      goals = goals_among w.names.words m.reach.goals (f.instance.binds ++ constants_of f.rule.production);
-      used = all_uses m.reach m.rows depth (elements_matched m.elements f.instance.tags);
-      made = made.wishes;
-    }
-
-abbrev pub fresh_firing : Moment → FiringOf → Bool → MadeSoFar → Fresh
-fresh_firing m f kind made = record {
-  firing = f;
-  goal = goal_at_depth f.depth m.reach.goals;
-  operator_kind = kind;
-  heading = fires f.number f.name f.instance;
-  wishes = map (fated m.reach.goals kind) made.wishes;
-  dropped = made.dropped;
-  text = made.text;
-}
-
-abbrev pub made_in : Wave → Moment → Firable → MadeSoFar
-made_in w m f =
-    made_by m.reach.goals f.rule.production.actions (record { bindings = f.bindings; words = w.names.words; letters = w.names.letters; vars = f.rule.production.vars; drawn = [] })
-
-abbrev pub with_firing : Moment → Wave → Firable → Wave
-with_firing m w f =
-    let made = made_in w m f in
-    record w {
-      names = record w.names { words = made.naming.words; letters = made.naming.letters };
-      last_firing = suc w.last_firing;
-      entries = w.entries ++ fired (fresh_firing m (firing_of_work m w f made) (is_of_operator_kind m.reach.goals f) made) ∷ [];
-      next = w.next ++ suc w.last_firing ∷ [];
-      halted = w.halted || made.halted;
-      drawn = w.drawn ++ (counts_to (suc w.last_firing) ∷ made.naming.drawn);
-    }
-
-unfoldable pub with_firings : Moment → Wave → List Firable → Wave
-with_firings m w [] = w
-with_firings m w (f ∷ firables) = with_firings m (with_firing m w f) firables
+use Rattle.defs_soar.specs.Resettling.{Step, resettled}
+use Rattle.defs_soar.specs.Trimming.{numbers_of}
+use Rattle.defs_soar.specs.WaveAtHand.{Fated, Fresh, Entry, fired, told, Moment, Wave, all_fresh}
+use Rattle.defs_soar.specs.WaveFirings.{moment_of, first_wave, with_firings}
 
 -- ---- what the wave leaves
 
@@ -212,51 +110,3 @@ after_work a gone w =
 -- retractions come first, the oldest firing before the others; then firings, by rule and by tags; then what is learned
 unfoldable pub wave_of : Agent → Work → Step
 wave_of a work = after_work a work.retracted (worked a work)
-
--- ---- a phase
-
--- what a step of a phase told and drew
-pub record Said : Type 0 where
-  pub events : List Event
-  pub drawn : List Drawn
-
--- a state and the steps that led to it, in order
-pub record Course : Type 0 where
-  pub agent : Agent
-  pub steps : List Said
-
-abbrev pub still : Agent → Course
-still a = record { agent = a; steps = [] }
-
-abbrev pub said_by : Step → Said
-said_by s = record { events = s.events; drawn = s.drawn }
-
--- a firing that halts halts the agent
-abbrev pub halting : Step → Agent
-halting s = record s.agent { halted = s.agent.halted || s.halted }
-
-abbrev pub then_step : Course → Step → Course
-then_step c s = record { agent = halting s; steps = c.steps ++ said_by s ∷ [] }
-
-abbrev pub turn_by : Bool → Course → Turn Course
-turn_by true c = ends c
-turn_by false c = goes_on c
-
--- a wave, unless nothing is pending; a firing that halts is the last
-abbrev pub one_wave : Bool → Course → Turn Course
-one_wave proposing c =
-    let work = pending proposing c.agent in
-    elim (is_none work) [ true ↦ ends c | false ↦ let s = wave_of c.agent work in turn_by s.halted (then_step c s) ]
-
--- how a phase ended: at rest or halted, or cut
-pub record Phased : Type 0 where
-  pub course : Course
-  pub is_cut : Bool
-
-abbrev pub phased_by : Bool → Turn Course → Phased
-phased_by proposing (ends c) = record { course = c; is_cut = false }
-phased_by proposing (goes_on c) = record { course = c; is_cut = not (is_none (pending proposing c.agent)) }
-
--- as many waves as are allowed; it is cut where something is pending then
-unfoldable pub phase : Bool → Agent → Phased
-phase proposing a = phased_by proposing (turns a.settings.max_elaborations (one_wave proposing) (still a))

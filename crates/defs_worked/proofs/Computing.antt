@@ -22,11 +22,14 @@ use Rattle.defs_soar.specs.Learning.{with_learning}
 use Rattle.defs_soar.specs.Negations.{negations_taken_over}
 use Rattle.defs_soar.specs.Outcome.{outcome_of}
 use Rattle.defs_soar.specs.Pending.{pending_in}
+use Rattle.defs_soar.specs.Phases.{phase}
+use Rattle.defs_soar.specs.Resettling.{resettled}
 use Rattle.defs_soar.specs.Results.{results_of}
 use Rattle.defs_soar.specs.Texts.{chain_lines}
 use Rattle.defs_soar.specs.Trace.{pieces_of}
 use Rattle.defs_soar.specs.Trimming.{trimmed}
-use Rattle.defs_soar.specs.Waves.{resettled, with_firings, wave_of, phase}
+use Rattle.defs_soar.specs.WaveFirings.{with_firings}
+use Rattle.defs_soar.specs.Waves.{wave_of}
 use Rattle.defs_run.specs.CommandLine.{script_of}
 use Rattle.defs_run.specs.Runs.{obeyed}
 use Rattle.defs_run.specs.Whole.{whole_transcript}

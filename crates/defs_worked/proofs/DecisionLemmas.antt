@@ -6,9 +6,10 @@ use Rattle.defs_soar.specs.declared.goal.Goal.{Goal}
 use Rattle.defs_soar.specs.declared.goal.Impasse.TheVariants as impasse
 use Rattle.defs_soar.specs.declared.goal.Item.{Item}
 use Rattle.defs_soar.specs.declared.preference.Preference.{Preference}
-use Rattle.defs_soar.specs.Decision.{View, Verdict, are_left, is_impasse, Decided, selects_operator, meets, Walked, walked, below_goal, without_selection, with_selection, is_among_left, has_impasse, verdict_at, renewed, drawn_from, uses_word, items_for}
 use Rattle.defs_soar.specs.Goals.{goal_ids}
 use Rattle.defs_soar.specs.Laws.{WalkKeepsTheFront}
+use Rattle.defs_soar.specs.Verdicts.{Verdict, are_left, is_impasse, drawn_from, uses_word, items_for}
+use Rattle.defs_soar.specs.Walk.{View, Decided, selects_operator, meets, Walked, walked, below_goal, without_selection, with_selection, is_among_left, has_impasse, verdict_at, renewed}
 
 abbrev IsFront : Walked → List Goal → Type 0
 IsFront w goals = goal_ids w.goals ≡ take (length w.goals) (goal_ids goals)

@@ -8,7 +8,8 @@ use Rattle.defs_text.specs.declared.token.TokenKind.TheVariants as kind
 use Rattle.defs_text.specs.declared.token.Token.{Token}
 use Rattle.defs_run.specs.declared.form.Group.{Group}
 use Rattle.defs_run.specs.declared.form.Outline.{Outline}
-use Rattle.defs_run.specs.Forms.{begins_mark, begins_arrow, word_kind, word_at, group_at, size_of, Groups, with_group, groups_from, groups_at, is_outline, concluded, outlined, outline_at}
+use Rattle.defs_run.specs.Forms.{group_at, size_of, Groups, with_group, groups_from, groups_at, is_outline, concluded, outlined, outline_at}
+use Rattle.defs_run.specs.Fronts.{begins_mark, begins_arrow, word_kind, word_at}
 use Rattle.soar_app.specs.Known.{IsKindKnown, AreTokensKnown}
 use Rattle.soar_app.proofs.WordLemmas.{known_behind}
 

@@ -1,6 +1,7 @@
 // Groups in a row, and what those of a production owe.
 ghost use Rattle.std.specs.Prelude.{◌≡◌, ◌-◌, ◌&&◌, ◌||◌, [], take, drop, OnOk, IfOk};
-ghost use Rattle.defs_run.specs.Forms.{begins_mark, group_at, group_if, groups_at, marked_triple, size_of, triple_at, occurs_in, is_variable, is_value_in, are_connected, are_conditions, is_make, are_makes};
+ghost use Rattle.defs_run.specs.Forms.{group_at, group_if, groups_at, marked_triple, size_of, triple_at, occurs_in, is_variable, is_value_in, are_connected, are_conditions, is_make, are_makes};
+ghost use Rattle.defs_run.specs.Fronts.{begins_mark};
 
 use crate::token::{begins_mark, begins_state, behind, operand_at, variable_at, word_at};
 use defs_run::{Group, Operand};

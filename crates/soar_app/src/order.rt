@@ -1,6 +1,7 @@
 // What the tokens behind a command's word ask for.
 ghost use Rattle.std.specs.Prelude.{◌≡◌, ◌≤◌, ◌^◌, length, IfOk};
-ghost use Rattle.defs_run.specs.Forms.{addition_at, outline_at};
+ghost use Rattle.defs_run.specs.AdditionForms.{addition_at};
+ghost use Rattle.defs_run.specs.Forms.{outline_at};
 ghost use Rattle.defs_run.specs.Session.{as_addition, as_load, as_matches, order_by};
 ghost use Rattle.defs_run.specs.Stage.{is_add_wme, is_command, is_matches, is_sp};
 ghost use Rattle.soar_app.specs.Known.{AreTokensKnown, IsOrderRead};

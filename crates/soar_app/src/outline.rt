@@ -1,6 +1,7 @@
 // `{NAME GROUP.. --> MAKE..}`
 ghost use Rattle.std.specs.Prelude.{◌≡◌, ◌&&◌, [], drop, None, IfOk};
-ghost use Rattle.defs_run.specs.Forms.{begins_arrow, concluded, groups_at, is_end, outline_at, outlined, are_conditions, are_makes};
+ghost use Rattle.defs_run.specs.Forms.{concluded, groups_at, is_end, outline_at, outlined, are_conditions, are_makes};
+ghost use Rattle.defs_run.specs.Fronts.{begins_arrow};
 
 use crate::group::{are_conditions, are_makes, take_groups};
 use crate::token::{begins_arrow, begins_mark, behind, word_at};

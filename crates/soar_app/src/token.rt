@@ -1,6 +1,6 @@
 // What stands in front of a list of tokens.
 ghost use Rattle.std.specs.Prelude.{◌≡◌, drop};
-ghost use Rattle.defs_run.specs.Forms.{begins_mark, begins_arrow, begins_state, variable_at, word_at, operand_at, is_mark_kind, is_arrow_kind, is_state_kind, variable_kind, word_kind, operand_kind};
+ghost use Rattle.defs_run.specs.Fronts.{begins_mark, begins_arrow, begins_state, variable_at, word_at, operand_at, is_mark_kind, is_arrow_kind, is_state_kind, variable_kind, word_kind, operand_kind};
 
 use defs_run::Operand;
 use defs_text::{Token, TokenKind};

@@ -4,7 +4,7 @@ use Rattle.soar_sym.specs.declared.symbol.Triple.{Triple}
 use Rattle.defs_soar.specs.Cycle.{held_with}
 use Rattle.defs_soar.specs.History.{Past}
 use Rattle.defs_soar.specs.Limits.{first_passed}
-use Rattle.defs_soar.specs.Waves.{Step, resettled}
+use Rattle.defs_soar.specs.Resettling.{Step, resettled}
 use Rattle.soar_cycle.specs.Seen.{agent_of, Stepped}
 use Rattle.soar_cycle.specs.declared.agent.Agent.{Agent as AgentKept}
 use Rattle.soar_cycle.specs.declared.stop.Stop.{Stop}

@@ -5,9 +5,10 @@ use Rattle.soar_wm.specs.declared.element.Element.{Element}
 use Rattle.defs_match.specs.Rules.{RuleOf}
 use Rattle.defs_match.specs.declared.instance.Instance.{Instance}
 use Rattle.defs_soar.specs.declared.goal.Goal.{Goal}
-use Rattle.defs_soar.specs.Learning.{Moment, Wave, Fresh, all_fresh}
 use Rattle.defs_soar.specs.Limits.{first_passed}
-use Rattle.defs_soar.specs.Waves.{with_firings, rows_of_fresh, live_of}
+use Rattle.defs_soar.specs.WaveAtHand.{Moment, Wave, Fresh, all_fresh}
+use Rattle.defs_soar.specs.WaveFirings.{with_firings}
+use Rattle.defs_soar.specs.Waves.{rows_of_fresh, live_of}
 use Rattle.soar_cycle.specs.Firables.{firables_for, live_seen}
 use Rattle.soar_cycle.specs.declared.firing.Fired.{Fired}
 use Rattle.soar_cycle.specs.declared.stop.Stop.{Stop}

@@ -3,7 +3,7 @@ use Rattle.std.specs.Prelude.{◌≡◌, Bool, List, [], ◌∷◌, ◌++◌, fl
 use Rattle.defs_soar.specs.declared.limit.Which.{Which}
 use Rattle.defs_soar.specs.History.{Past}
 use Rattle.defs_soar.specs.Limits.{or_else, first_passed}
-use Rattle.defs_soar.specs.Waves.{Said, Course, Phased, phase}
+use Rattle.defs_soar.specs.Phases.{Said, Course, Phased, phase}
 use Rattle.soar_cycle.specs.Seen.{agent_of, written_of}
 use Rattle.soar_cycle.specs.declared.agent.Agent.{Agent as AgentKept}
 use Rattle.soar_cycle.specs.declared.stop.Stop.{Stop}

@@ -10,8 +10,10 @@ use Rattle.defs_soar.specs.Events.{Event, writes_text}
 use Rattle.defs_soar.specs.History.{Past}
 use Rattle.defs_soar.specs.Limits.{first_passed}
 use Rattle.defs_soar.specs.Pending.{pending, is_none, is_justification}
+use Rattle.defs_soar.specs.Phases.{halting}
+use Rattle.defs_soar.specs.Resettling.{Step}
 use Rattle.defs_soar.specs.Start.{first_settings}
-use Rattle.defs_soar.specs.Waves.{Step, halting, wave_of}
+use Rattle.defs_soar.specs.Waves.{wave_of}
 use Rattle.soar_cycle.specs.Firables.{AreNumbered, live_seen}
 use Rattle.soar_cycle.specs.Known.{AreElementsKnown, AreRulesKnown, AreRowsKnown, AreTriplesKnown}
 use Rattle.soar_cycle.specs.declared.agent.Agent.{Agent as AgentKept}

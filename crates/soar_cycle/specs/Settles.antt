@@ -8,8 +8,8 @@ use Rattle.defs_soar.specs.declared.goal.Goal.{Goal}
 use Rattle.defs_soar.specs.declared.limit.Which.{Which}
 use Rattle.defs_soar.specs.declared.preference.Preference.{Preference}
 use Rattle.defs_soar.specs.Limits.{elements_to, tags_to, first_passed}
+use Rattle.defs_soar.specs.Resettling.{without_elements}
 use Rattle.defs_soar.specs.Settling.{Supports, settled, elements_after}
-use Rattle.defs_soar.specs.Waves.{without_elements}
 use Rattle.soar_cycle.specs.declared.changes.Changes.{Changes}
 use Rattle.soar_cycle.specs.declared.stop.Stop.{Stop}
 use Rattle.soar_cycle.specs.declared.stop.Stop.TheVariants as stop

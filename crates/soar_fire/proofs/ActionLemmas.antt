@@ -8,9 +8,10 @@ use Rattle.soar_rule.specs.Symbols.{constants_of_action, constants_of_value, con
 use Rattle.defs_soar.specs.declared.firing.Made.{Made}
 use Rattle.defs_soar.specs.declared.goal.Goal.{Goal}
 use Rattle.defs_soar.specs.declared.preference.Wish.{Wish}
+use Rattle.soar_fire.specs.ActionOutcomes.{action_outcome, actions_outcome}
 use Rattle.soar_fire.specs.Fires.{AreWishesKnown}
 use Rattle.soar_fire.specs.Known.{Knows, KnowsWishes, constants_of_actions, symbols_of_wish}
-use Rattle.soar_fire.specs.Outcomes.{reached, then_on, Standing, action_outcome, actions_outcome}
+use Rattle.soar_fire.specs.Outcomes.{reached, then_on, Standing}
 use Rattle.soar_fire.proofs.KnownLemmas.{knows_front, knows_back, knows_grown}
 
 -- ---- wishes

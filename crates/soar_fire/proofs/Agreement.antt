@@ -20,9 +20,12 @@ use Rattle.defs_soar.specs.declared.preference.Wish.{Wish}
 use Rattle.defs_soar.specs.Functions.{Computed, gives, spells, fails, computed, joined, plain_text}
 use Rattle.defs_soar.specs.Limits.{Drawn, identifiers_to, words_to, first_passed, passed_by, or_else}
 use Rattle.defs_soar.specs.Firing as meaning
-use Rattle.defs_soar.specs.Firing.{Naming, Evaluated, MadeSoFar, then_with, done, evaluated, evaluated_all, as_evaluated, atom_of_action, variable_value, evaluated_referent, referent_of, kind_of, judged, wished, values_of_list, texts_of}
+use Rattle.defs_soar.specs.Naming.{Naming, Evaluated, then_with, done, evaluated, evaluated_all, as_evaluated, atom_of_action, variable_value}
+use Rattle.defs_soar.specs.Naming as meaning_of_naming
+use Rattle.defs_soar.specs.Firing.{MadeSoFar, evaluated_referent, referent_of, kind_of, judged, wished, values_of_list, texts_of}
 use Rattle.defs_soar.specs.Values.{is_identifier}
-use Rattle.soar_fire.specs.Outcomes.{Standing, standing, Outcome, reached, stopped, then_on, found, new_identifier, bound_or_new, atom_outcome, word_of_text, computed_outcome, call_outcome, value_outcome, values_outcome, referent_outcome, identifier_only, wish_outcome, or_dropped, with_wish, with_writing, action_outcome, actions_outcome}
+use Rattle.soar_fire.specs.ActionOutcomes.{referent_outcome, identifier_only, wish_outcome, or_dropped, with_wish, with_writing, action_outcome, actions_outcome}
+use Rattle.soar_fire.specs.Outcomes.{Standing, standing, Outcome, reached, stopped, then_on, found, new_identifier, bound_or_new, atom_outcome, word_of_text, computed_outcome, call_outcome, value_outcome, values_outcome}
 
 -- ---- limits
 
@@ -159,14 +162,14 @@ agrees_then vars (stopped w) e g f h next kept = keeps_then e f w h (kept w)
 agrees_then vars (reached (Ok a) s) e g f h next kept = subst (λ x. Agrees vars (g a s) (then_with x f)) (sym h.2) (next a s h.0 h.1)
 agrees_then vars (reached (Err why) s) e g f h next kept = (h.0, h.1, ap (λ x. then_with x f) h.2)
 
-agrees_new : (vars : List Sym) (v letter : ℕ) (s : Standing) (drawn : List Drawn) → first_passed drawn ≡ None → Agrees vars (new_identifier v letter s) (meaning.new_identifier v letter (naming_at s vars drawn))
+agrees_new : (vars : List Sym) (v letter : ℕ) (s : Standing) (drawn : List Drawn) → first_passed drawn ≡ None → Agrees vars (new_identifier v letter s) (meaning_of_naming.new_identifier v letter (naming_at s vars drawn))
 agrees_new vars v letter s drawn h = by (nat_lt 4294967295 (last_of s.letters letter + 1)) refl
   where
     number : ℕ
     number = last_of s.letters letter + 1
 
     by : (b : Bool) → nat_lt 4294967295 number ≡ b
-        → Agrees vars (cond b (stopped which.Identifiers) (found (Ident letter number) (standing (s.bindings ++ (v, Ident letter number) ∷ []) s.words (with_last s.letters letter number)))) (meaning.new_identifier v letter (naming_at s vars drawn))
+        → Agrees vars (cond b (stopped which.Identifiers) (found (Ident letter number) (standing (s.bindings ++ (v, Ident letter number) ∷ []) s.words (with_last s.letters letter number)))) (meaning_of_naming.new_identifier v letter (naming_at s vars drawn))
     by true over = passed_next drawn (identifiers_to number) h ∙ ap (λ b. cond b (Some which.Identifiers) None) over
     by false within = (drawn ++ identifiers_to number ∷ [], passed_next drawn (identifiers_to number) h ∙ ap (λ b. cond b (Some which.Identifiers) None) within, refl)
 

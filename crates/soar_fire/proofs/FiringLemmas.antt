@@ -14,9 +14,10 @@ use Rattle.defs_soar.specs.declared.limit.Which.{Which}
 use Rattle.defs_soar.specs.Limits.{first_passed}
 use Rattle.soar_fire.specs.declared.fault.FireFault.{FireFault}
 use Rattle.soar_fire.specs.declared.fault.FireFault.TheVariants as fault
+use Rattle.soar_fire.specs.ActionOutcomes.{actions_outcome, nothing_made}
 use Rattle.soar_fire.specs.Fires.{made_of, Fires, IsMade}
 use Rattle.soar_fire.specs.Known.{Knows, constants_of_actions}
-use Rattle.soar_fire.specs.Outcomes.{Standing, standing, Outcome, reached, stopped, actions_outcome, nothing_made, Finds}
+use Rattle.soar_fire.specs.Outcomes.{Standing, standing, Outcome, reached, stopped, Finds}
 use Rattle.soar_fire.proofs.KnownLemmas.{knows_back}
 use Rattle.soar_fire.proofs.Agreement.{AgreesMade, agrees_actions}
 

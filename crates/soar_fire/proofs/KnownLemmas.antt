@@ -5,7 +5,7 @@ use Rattle.soar_sym.specs.declared.symbol.Sym.{Sym}
 use Rattle.soar_sym.specs.declared.symbol.Sym.TheVariants.{Ident, Word, Int}
 use Rattle.soar_rule.specs.Symbols.{AreKnown}
 use Rattle.defs_match.specs.Testing.{Bindings, symbol_of}
-use Rattle.defs_soar.specs.Firing.{name_at}
+use Rattle.defs_soar.specs.Naming.{name_at}
 use Rattle.soar_fire.specs.Known.{Knows, bound_symbols}
 
 pub name_at_is : (vars : List Sym) (n : ℕ) → name_at vars n ≡ get_or vars n (Word 0)

@@ -1,3 +1,4 @@
+pub mod ActionOutcomes
 pub mod Fires
 pub mod Known
 pub mod Outcomes

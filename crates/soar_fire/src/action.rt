@@ -3,8 +3,9 @@ ghost use Rattle.std.specs.Prelude.{◌≡◌, ◌≤◌, ◌+◌, ◌∷◌, �
 ghost use Rattle.soar_rule.specs.Productions.{action_seen, preference_seen, value_seen, values_of, makes, writes};
 ghost use Rattle.soar_rule.specs.Symbols.{constants_of_action};
 ghost use Rattle.defs_soar.specs.Functions.{joined};
+ghost use Rattle.soar_fire.specs.ActionOutcomes.{action_outcome, actions_outcome, or_dropped, wish_outcome, with_dropped, with_wish, with_writing, nothing_made};
 ghost use Rattle.soar_fire.specs.Known.{Knows, KnowsWishes, bound_symbols, constants_of_actions};
-ghost use Rattle.soar_fire.specs.Outcomes.{action_outcome, actions_outcome, or_dropped, standing, values_outcome, wish_outcome, with_dropped, with_wish, with_writing, nothing_made, Finds, Leaves};
+ghost use Rattle.soar_fire.specs.Outcomes.{standing, values_outcome, Finds, Leaves};
 
 use crate::fault::FireFault;
 use crate::plain::joined;

@@ -4,7 +4,7 @@ ghost use Rattle.soar_rule.specs.Productions.{value_seen, values_of};
 ghost use Rattle.soar_rule.specs.Symbols.{constants_of_atom, constants_of_value, constants_of_values};
 ghost use Rattle.soar_sym.specs.Words.{IsKnown};
 ghost use Rattle.defs_match.specs.Testing.{symbol_of};
-ghost use Rattle.defs_soar.specs.Firing.{letter_from, name_at, text_of_name};
+ghost use Rattle.defs_soar.specs.Naming.{letter_from, name_at, text_of_name};
 ghost use Rattle.soar_fire.specs.Known.{Knows, bound_symbols};
 ghost use Rattle.soar_fire.specs.Outcomes.{atom_outcome, call_outcome, new_identifier, standing, value_outcome, values_outcome, word_of_text, Answers, Finds};
 

@@ -5,8 +5,9 @@ ghost use Rattle.soar_rule.specs.Productions.{preference_seen, value_seen, makes
 ghost use Rattle.soar_rule.specs.Symbols.{constants_of_action, constants_of_atom, constants_of_referent};
 ghost use Rattle.soar_rule.specs.Variables.{referent_value};
 ghost use Rattle.defs_soar.specs.Firing.{referent_of};
+ghost use Rattle.soar_fire.specs.ActionOutcomes.{identifier_only, referent_outcome, wish_outcome};
 ghost use Rattle.soar_fire.specs.Known.{Knows, bound_symbols, symbols_of_wish};
-ghost use Rattle.soar_fire.specs.Outcomes.{atom_outcome, identifier_only, referent_outcome, standing, then_on, wish_outcome, Answers};
+ghost use Rattle.soar_fire.specs.Outcomes.{atom_outcome, standing, then_on, Answers};
 
 use crate::fault::FireFault;
 use crate::judging::{is_identifier, judged, kind_of};

@@ -1,14 +1,15 @@
 -- What is wrong with a production, and else its conditions in match order (the faults and their order are this engine's).
-use Rattle.std.specs.Prelude.{ℕ, suc, ◌+◌, Bool, true, false, ◌&&◌, ◌||◌, nat_lt, not, max, List, [], ◌∷◌, ◌++◌, length, flat_map, Option, Some, None, Result, Ok, Err, if◌then◌else◌, option_map}
+use Rattle.std.specs.Prelude.{ℕ, suc, Bool, true, false, ◌&&◌, ◌||◌, nat_lt, not, List, [], ◌∷◌, ◌++◌, length, flat_map, Option, Some, None, Result, Ok, Err, if◌then◌else◌, option_map}
 use Rattle.std.specs.List.{list_any}
 use Rattle.soar_sym.specs.Equality.{symbol_eq}
 use Rattle.soar_sym.specs.declared.symbol.Sym.TheVariants.{Word}
 use Rattle.soar_rule.specs.declared.cond.Atom.TheVariants.{Const, Var}
-use Rattle.soar_rule.specs.Conditions.{Condition, positive, negated, conjunctive, Conditions, no_more, condition_and, all_of}
-use Rattle.soar_rule.specs.Productions.{ValueOf, atom_value, call_value, ValuesOf, no_values, value_and, PreferenceOf, accepts, rejects, ActionOf, makes, writes, halts, ProductionOf}
+use Rattle.soar_rule.specs.Conditions.{positive, negated, conjunctive, Conditions, no_more, condition_and, all_of}
+use Rattle.soar_rule.specs.Productions.{ValueOf, atom_value, call_value, PreferenceOf, accepts, rejects, ActionOf, makes, writes, halts, ProductionOf}
 use Rattle.soar_rule.specs.MatchOrder.{or_else, first_unknown, missing_in, is_linked, Taken, first_lack, taken_in_order}
 use Rattle.soar_rule.specs.Repeat.{repeated}
-use Rattle.soar_rule.specs.Variables.{bound_by, is_among, variables_of_atom, variables_of_value, variables_of_values, referent_value, of_referent, plain_outside}
+use Rattle.soar_rule.specs.Sizes.{size_of_all, is_too_deep}
+use Rattle.soar_rule.specs.Variables.{is_among, variables_of_atom, variables_of_value, variables_of_values, referent_value, of_referent, plain_outside}
 
 pub data Fault : Type 0 where
   no_state : Fault
@@ -92,57 +93,10 @@ fault_of_actions bound actions = option_map unbound (first_unbound bound (linked
 
 -- ---- sizes
 
--- each negation and each condition inside one counts
-abbrev mutual
-  pub size_of : Condition → ℕ
-  size_of (positive p) = 1
-  size_of (negated p) = 1
-  size_of (conjunctive inside) = suc (size_of_all inside)
-
-  pub size_of_all : Conditions → ℕ
-  size_of_all no_more = 0
-  size_of_all (condition_and c cs) = size_of c + size_of_all cs
-
-abbrev mutual
-  pub depth_of : Condition → ℕ
-  depth_of (positive p) = 0
-  depth_of (negated p) = 1
-  depth_of (conjunctive inside) = suc (depth_of_all inside)
-
-  pub depth_of_all : Conditions → ℕ
-  depth_of_all no_more = 0
-  depth_of_all (condition_and c cs) = max (depth_of c) (depth_of_all cs)
-
-abbrev mutual
-  pub calls_in : ValueOf → ℕ
-  calls_in (atom_value a) = 0
-  calls_in (call_value f values) = suc (calls_in_all values)
-
-  pub calls_in_all : ValuesOf → ℕ
-  calls_in_all no_values = 0
-  calls_in_all (value_and v values) = max (calls_in v) (calls_in_all values)
-
-abbrev pub deepest_of : List ValueOf → ℕ
-deepest_of [] = 0
-deepest_of (v ∷ values) = max (calls_in v) (deepest_of values)
-
-abbrev pub calls_of_referent : Option ValueOf → ℕ
-calls_of_referent None = 0
-calls_of_referent (Some v) = calls_in v
-
-abbrev pub calls_of : ActionOf → ℕ
-calls_of (makes id attr value preference) = max (calls_in attr) (max (calls_in value) (calls_of_referent (referent_value preference)))
-calls_of (writes values) = deepest_of values
-calls_of halts = 0
-
 -- at most 1,000 conditions and 2,000 variables
 abbrev pub fault_of_number : ℕ → ℕ → Option Fault
 fault_of_number conditions variables =
     if nat_lt 1000 conditions then Some (too_many conditions) else if nat_lt 2000 variables then Some (too_many variables) else None
-
--- negations and calls at most 8 deep
-abbrev pub is_too_deep : ProductionOf → Bool
-is_too_deep p = nat_lt 8 (depth_of_all p.conditions) || list_any (λ a. nat_lt 8 (calls_of a)) p.actions
 
 -- ---- preferences
 
@@ -185,24 +139,3 @@ unless_fault (Some fault) p = Err fault
 -- the production with its conditions in match order, or its first fault
 unfoldable pub ordered : ProductionOf → Result ProductionOf Fault
 ordered p = let taken = taken_in_order p.conditions in unless_fault (fault_of p taken) (record p { conditions = all_of taken.order })
-
--- ---- conditions as they stand
-
-abbrev pub is_nothing : Option ℕ → Bool
-is_nothing None = true
-is_nothing (Some v) = false
-
--- each variable of a relation is bound where it stands: before it, or plain in the same field or an earlier one
-abbrev mutual
-  pub is_bound_where_it_stands : List ℕ → Condition → Bool
-  is_bound_where_it_stands bound (positive p) = is_nothing (missing_in bound p)
-  is_bound_where_it_stands bound (negated p) = is_nothing (missing_in bound p)
-  is_bound_where_it_stands bound (conjunctive inside) = are_bound_where_they_stand bound inside
-
-  pub are_bound_where_they_stand : List ℕ → Conditions → Bool
-  are_bound_where_they_stand bound no_more = true
-  are_bound_where_they_stand bound (condition_and c cs) = is_bound_where_it_stands bound c && are_bound_where_they_stand (bound ++ bound_by c) cs
-
--- what can be matched: relations on bound variables, and negations at most 8 deep
-abbrev pub can_be_matched : ProductionOf → Bool
-can_be_matched p = are_bound_where_they_stand [] p.conditions && not (nat_lt 8 (depth_of_all p.conditions))

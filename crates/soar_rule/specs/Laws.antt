@@ -1,7 +1,9 @@
 -- What checking a production comes to, in words that are apart from how the order is found.
 use Rattle.std.specs.Prelude.{◌≡◌, true, Ok}
-use Rattle.soar_rule.specs.Checking.{ordered, can_be_matched, size_of_all}
+use Rattle.soar_rule.specs.AsItStands.{can_be_matched}
+use Rattle.soar_rule.specs.Checking.{ordered}
 use Rattle.soar_rule.specs.Productions.{ProductionOf}
+use Rattle.soar_rule.specs.Sizes.{size_of_all}
 
 -- checking twice is checking once
 abbrev pub CheckedStays : Type 0

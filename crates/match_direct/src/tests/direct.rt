@@ -1,6 +1,6 @@
 // A matcher that is told of changes.
 ghost use Rattle.std.specs.Prelude.{◌≡◌, false, true, [], ◌∷◌, IfOk};
-ghost use Rattle.soar_rule.specs.Checking.{can_be_matched};
+ghost use Rattle.soar_rule.specs.AsItStands.{can_be_matched};
 ghost use Rattle.soar_rule.specs.Conditions.{conditions, all_of, positive, negated};
 ghost use Rattle.soar_rule.specs.Productions.{production_seen};
 ghost use Rattle.soar_rule.specs.declared.cond.Atom.TheVariants.{Var as VarOf};

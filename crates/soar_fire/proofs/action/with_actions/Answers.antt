@@ -1,6 +1,7 @@
 use Rattle.std.proofs.Common.{◌≡◌, map, drop, ap, sym, ◌∙◌, Ok, arith}
 use Rattle.soar_rule.specs.Productions.{action_seen}
-use Rattle.soar_fire.specs.Outcomes.{Standing, reached, standing, action_outcome, actions_outcome}
+use Rattle.soar_fire.specs.ActionOutcomes.{action_outcome, actions_outcome}
+use Rattle.soar_fire.specs.Outcomes.{Standing, reached, standing}
 use Rattle.soar_fire.proofs.KnownLemmas.{knows_grown}
 use Rattle.soar_fire.proofs.ActionLemmas.{next_constants, later_constants, next_rest}
 use Rattle.soar_fire.proofs.action.with_actions.Goals as goal

@@ -1,7 +1,8 @@
 use Rattle.std.proofs.Common.{◌≡◌, ◌≤◌, ◌+◌, length, map, drop}
 use Rattle.soar_rule.specs.Productions.{action_seen}
+use Rattle.soar_fire.specs.ActionOutcomes.{actions_outcome}
 use Rattle.soar_fire.specs.Known.{Knows, KnowsWishes, bound_symbols, constants_of_actions}
-use Rattle.soar_fire.specs.Outcomes.{actions_outcome, standing}
+use Rattle.soar_fire.specs.Outcomes.{standing}
 use Rattle.soar_fire.proofs.action.with_actions.Given as goal
 
 abbrev pub invariant-actions : goal.invariant-actions
