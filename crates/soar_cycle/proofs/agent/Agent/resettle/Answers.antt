@@ -1,0 +1,27 @@
+use Rattle.std.proofs.Common.{◌≡◌, sym, subst}
+use Rattle.std.proofs.lemmas.Result.{err_from_is_err_and}
+use Rattle.soar_cycle.specs.Known.{AreTriplesKnown}
+use Rattle.soar_cycle.proofs.ResettlingLemmas.{with_settled, stops_resettling, settled_stands, kept_sound, settled_sound}
+use Rattle.soar_cycle.proofs.agent.Agent.resettle.Goals as goal
+
+pub retag-requires-clause-known : goal.retag-requires-clause-known
+retag-requires-clause-known c = subst (AreTriplesKnown c.args.self.now.table) (sym c.in_ok-kept.ensures.kept) (kept_sound c.args.self.now c.requires.sound)
+
+pub returns-in_err-retag-clause-resettled : goal.returns-in_err-retag-clause-resettled
+returns-in_err-retag-clause-resettled c = λ history.
+    let a = c.args.self.now in
+    let new = with_settled a c.retag.new.memory c.settle.new.prefs c.settle.new.inputs in
+    let p = err_from_is_err_and c.from_residual-in_err-retag.result c.from_residual-in_err-retag.ensures.1 in
+    rw (p.1, p.2)
+    (stops_resettling a new history _ c.in_ok-kept.kept c.retag.new.memory c.in_err-retag.field-0.0 c.requires.sound.one_goal c.in_ok-kept.ensures.kept c.in_err-retag.ensures)
+
+pub returns-clause-resettled : goal.returns-clause-resettled
+returns-clause-resettled c = λ history.
+    settled_stands c.args.self.now history _ c.in_ok-kept.kept c.retag.new.memory c.settle.new.prefs c.settle.new.inputs c.requires.sound.one_goal
+    (record { kept_is = c.in_ok-kept.ensures.kept; memory_is = c.in_ok-retag.ensures.memory_is; rows_are = c.in_ok-kept.ensures.rows; inputs_are = c.in_ok-kept.ensures.inputs })
+    c.in_ok-retag.ensures.within
+
+pub returns-clause-sound : goal.returns-clause-sound
+returns-clause-sound c =
+    settled_sound c.args.self.now c.in_ok-kept.kept c.retag.new.memory c.settle.new.prefs c.settle.new.inputs c.requires.sound
+    (record { kept_is = c.in_ok-kept.ensures.kept; memory_is = c.in_ok-retag.ensures.memory_is; rows_are = c.in_ok-kept.ensures.rows; inputs_are = c.in_ok-kept.ensures.inputs })

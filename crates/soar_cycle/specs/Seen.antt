@@ -1,0 +1,99 @@
+-- The code's agent as the state that it stands for. What the agent does not keep yet is as at the start; its history is not kept at all.
+use Rattle.std.specs.Prelude.{◌≡◌, ℕ, ◌≤◌, true, false, List, [], ◌∷◌, ◌++◌, map, flat_map, length, Option, Some, None, Result, Ok, Err}
+use Rattle.soar_sym.specs.declared.symbol.Sym.TheVariants.{Ident}
+use Rattle.defs_match.specs.Rules.{RuleOf, rule_seen}
+use Rattle.defs_soar.specs.declared.goal.Impasse.TheVariants as impasse
+use Rattle.defs_soar.specs.declared.limit.Which.{Which}
+use Rattle.defs_soar.specs.Agents.{Agent}
+use Rattle.defs_soar.specs.Decision.{new_goal}
+use Rattle.defs_soar.specs.Events.{Event, writes_text}
+use Rattle.defs_soar.specs.History.{Past}
+use Rattle.defs_soar.specs.Limits.{first_passed}
+use Rattle.defs_soar.specs.Pending.{pending, is_none, is_justification}
+use Rattle.defs_soar.specs.Phases.{halting}
+use Rattle.defs_soar.specs.Resettling.{Step}
+use Rattle.defs_soar.specs.Start.{first_settings}
+use Rattle.defs_soar.specs.Waves.{wave_of}
+use Rattle.soar_cycle.specs.Firables.{AreNumbered, live_seen}
+use Rattle.soar_cycle.specs.Known.{AreElementsKnown, AreRulesKnown, AreRowsKnown, AreTriplesKnown}
+use Rattle.soar_cycle.specs.declared.agent.Agent.{Agent as AgentKept}
+use Rattle.soar_cycle.specs.declared.stop.Stop.{Stop}
+use Rattle.soar_cycle.specs.declared.stop.Stop.TheVariants as stop
+use Rattle.soar_cycle.specs.declared.wave.Waved.{Waved}
+use Rattle.soar_cycle.specs.declared.wave.Waved.TheVariants as waved
+
+-- with this history
+abbrev pub agent_of : AgentKept → List Past → Agent
+agent_of a history = record {
+  names = record { words = a.table; letters = a.letters; last_tag = a.memory.last };
+  holding = record { elements = a.memory.elements; goals = a.goals; rows = a.prefs.rows; inputs = a.inputs; live = map live_seen a.live };
+  queues = record { input = []; random = [] };
+  program = record { rules = map rule_seen a.rules; last_rule = a.last_rule; chains = []; chunks = 0; justifications = 0 };
+  counts = record { cycles = a.cycles; waves = a.waves; firings = a.firings; retractions = a.retractions; learned = 0 };
+  settings = first_settings 1;
+  history = history;
+  output = [];
+  halted = a.halted;
+}
+
+-- ---- what an agent keeps
+
+-- no rule is a justification
+abbrev pub AreNoJustifications : List RuleOf → Type 0
+AreNoJustifications [] = Unit {0}
+AreNoJustifications (rule ∷ rules) = (is_justification rule.production.kind ≡ false) × AreNoJustifications rules
+
+-- the numbers of rules are at most the last that was given
+abbrev pub AreUpTo : ℕ → List RuleOf → Type 0
+AreUpTo last [] = Unit {0}
+AreUpTo last (rule ∷ rules) = (rule.number ≤ last) × AreUpTo last rules
+
+-- one goal, the limits, rules in order of number, and words that the table has, those of the architecture among them
+pub record IsSound (a : AgentKept) : Type 0 where
+  pub one_goal : a.goals ≡ new_goal (Ident 83 1) impasse.Top [] ∷ []
+  pub element_limit : a.memory.limit ≡ 4000000
+  pub row_limit : a.prefs.limit ≡ 1000000
+  pub few_rows : length a.prefs.rows ≤ a.prefs.limit
+  pub first_words : 7 ≤ length a.table
+  pub numbered : AreNumbered (map rule_seen a.rules)
+  pub numbers_given : AreUpTo a.last_rule (map rule_seen a.rules)
+  pub none_learned : AreNoJustifications (map rule_seen a.rules)
+  pub rules_known : AreRulesKnown a.table (map rule_seen a.rules)
+  pub elements_known : AreElementsKnown a.table a.memory.elements
+  pub rows_known : AreRowsKnown a.table a.prefs.rows
+  pub inputs_known : AreTriplesKnown a.table a.inputs
+
+-- ---- a wave
+
+-- the agent stands for the state after a step, and none of what the step drew is beyond its limit
+pub record Stepped (new : AgentKept) (s : Step) : Type 0 where
+  pub history : List Past
+  pub stands : agent_of new history ≡ halting s
+  pub within : first_passed s.drawn ≡ None
+
+abbrev pub wave_at : AgentKept → List Past → Step
+wave_at a history = wave_of (agent_of a history) (pending true (agent_of a history))
+
+-- each answer of a wave of the proposal phase, exactly where it comes; only want of memory is free
+abbrev pub WavesFrom : AgentKept → AgentKept → List Past → Result Waved Stop → Type 0
+WavesFrom old new history (Ok waved.Rest) = (is_none (pending true (agent_of old history)) ≡ true) × (new ≡ old)
+WavesFrom old new history (Ok waved.Went) = (is_none (pending true (agent_of old history)) ≡ false) × Stepped new (wave_at old history) × ((wave_at old history).halted ≡ false)
+WavesFrom old new history (Ok waved.Halted) = (is_none (pending true (agent_of old history)) ≡ false) × Stepped new (wave_at old history) × ((wave_at old history).halted ≡ true)
+WavesFrom old new history (Err (stop.Limit which)) = (is_none (pending true (agent_of old history)) ≡ false) × (first_passed (wave_at old history).drawn ≡ Some which)
+WavesFrom old new history (Err stop.NoMemory) = Unit {0}
+
+-- ---- what a wave writes
+
+abbrev pub written_by : Event → List ℕ
+written_by (writes_text text) = text
+written_by other = []
+
+abbrev pub written_of : List Event → List ℕ
+written_of events = flat_map written_by events
+
+-- the texts of the firings come behind what was there
+abbrev pub Writes : AgentKept → List Past → List ℕ → List ℕ → Result Waved Stop → Type 0
+Writes old history before after (Ok waved.Rest) = after ≡ before
+Writes old history before after (Ok other) = after ≡ before ++ written_of (wave_at old history).events
+Writes old history before after (Err (stop.Limit which)) = after ≡ before
+Writes old history before after (Err stop.NoMemory) = Unit {0}

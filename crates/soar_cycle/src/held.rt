@@ -1,0 +1,141 @@
+// The triples that preference memory, the goals and the inputs hold up (Soar manual, support).
+ghost use Rattle.std.specs.Prelude.{◌≡◌, ◌++◌, flat_map, IfOk, OnOk};
+ghost use Rattle.defs_soar.specs.Goals.{is_goal, is_operator_slot, selected_by_goal, selected_element};
+ghost use Rattle.defs_soar.specs.Held as meaning;
+ghost use Rattle.defs_soar.specs.Values.{same_triple};
+
+use crate::goal_elements::{OPERATOR, add_goal_elements, plain_triple};
+use defs_soar::{Goal, PrefKind, Preference};
+use soar_sym::{List, NoMemory, Sym, Triple, is_symbol};
+use std::alloc::Global;
+
+/// The goals' elements, their selected operators, the inputs, and what the rows hold up.
+pub fn held(
+    alloc: Global,
+    rows: &[Preference],
+    goals: &[Goal],
+    inputs: &[Triple],
+) -> Result<List<Triple>, NoMemory>
+    ensures { IfOk result (λ all. all ≡ meaning.held rows.now goals.now inputs.now) }
+{
+    let mut all = List::new(alloc);
+    add_goal_elements(&mut all, goals)?;
+    add_selected(&mut all, goals)?;
+    all.extend_from_slice(inputs)?;
+    add_rows(&mut all, rows, goals)?;
+    Ok(all)
+}
+
+fn add_selected(out: &mut List<Triple>, goals: &[Goal]) -> Result<(), NoMemory>
+    ensures { OnOk result (out.new ≡ out.old ++ flat_map selected_element goals.now) }
+{
+    'goals: for goal in goals {
+        add_selected_of(out, goal)?;
+    }
+    Ok(())
+}
+
+fn add_selected_of(out: &mut List<Triple>, goal: &Goal) -> Result<(), NoMemory>
+    ensures { OnOk result (out.new ≡ out.old ++ selected_element goal.now) }
+{
+    if let Some(operator) = goal.selected {
+        out.push(plain_triple(goal.id, OPERATOR, operator))?;
+    }
+    Ok(())
+}
+
+fn add_rows(out: &mut List<Triple>, rows: &[Preference], goals: &[Goal]) -> Result<(), NoMemory>
+    ensures { OnOk result (out.new ≡ out.old ++ flat_map (meaning.held_by rows.now goals.now) rows.now) }
+{
+    'rows: for row in rows {
+        add_row(out, rows, goals, row)?;
+    }
+    Ok(())
+}
+
+fn add_row(
+    out: &mut List<Triple>,
+    rows: &[Preference],
+    goals: &[Goal],
+    row: &Preference,
+) -> Result<(), NoMemory>
+    ensures { OnOk result (out.new ≡ out.old ++ meaning.held_by rows.now goals.now row.now) }
+{
+    if is_operator_slot(goals, row.wish.id, row.wish.attr) {
+        add_candidate(out, row)
+    } else {
+        add_ordinary(out, rows, row)
+    }
+}
+
+/// Adds a goal's candidate, which is acceptable or required, with the mark.
+fn add_candidate(out: &mut List<Triple>, row: &Preference) -> Result<(), NoMemory>
+    ensures { OnOk result (out.new ≡ out.old ++ meaning.held_candidate row.now) }
+{
+    if row.wish.kind.is(PrefKind::Accept) || row.wish.kind.is(PrefKind::Require) {
+        out.push(marked_triple_of(row))?;
+    }
+    Ok(())
+}
+
+fn marked_triple_of(row: &Preference) -> Triple
+    ensures { result ≡ meaning.marked_triple_of row.now }
+{
+    Triple {
+        id: row.wish.id,
+        attr: row.wish.attr,
+        value: row.wish.value,
+        accept: true,
+    }
+}
+
+/// Adds an ordinary triple that is acceptable, where no row rejects it.
+fn add_ordinary(
+    out: &mut List<Triple>,
+    rows: &[Preference],
+    row: &Preference,
+) -> Result<(), NoMemory>
+    ensures { OnOk result (out.new ≡ out.old ++ meaning.held_ordinary rows.now row.now) }
+{
+    if row.wish.kind.is(PrefKind::Accept) && !is_rejected(rows, row) {
+        out.push(plain_triple(row.wish.id, row.wish.attr, row.wish.value))?;
+    }
+    Ok(())
+}
+
+/// Whether one of the rows rejects the triple of a row.
+fn is_rejected(rows: &[Preference], row: &Preference) -> bool
+    ensures { result ≡ meaning.is_rejected rows.now row.now }
+{
+    'rows: for other in rows {
+        if other.wish.kind.is(PrefKind::Reject) && same_triple(other, row) {
+            return true;
+        }
+    }
+    false
+}
+
+fn same_triple(a: &Preference, b: &Preference) -> bool
+    ensures { result ≡ same_triple a.now b.now }
+{
+    is_symbol(a.wish.id, b.wish.id)
+        && is_symbol(a.wish.attr, b.wish.attr)
+        && is_symbol(a.wish.value, b.wish.value)
+}
+
+fn is_operator_slot(goals: &[Goal], id: Sym, attr: Sym) -> bool
+    ensures { result ≡ is_operator_slot goals.now id attr }
+{
+    is_symbol(attr, OPERATOR) && is_goal(goals, id)
+}
+
+fn is_goal(goals: &[Goal], symbol: Sym) -> bool
+    ensures { result ≡ is_goal goals.now symbol }
+{
+    'goals: for goal in goals {
+        if is_symbol(symbol, goal.id) {
+            return true;
+        }
+    }
+    false
+}

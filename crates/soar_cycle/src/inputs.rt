@@ -1,0 +1,23 @@
+ghost use Rattle.std.specs.Prelude.{◌≡◌, List as ListOf, IfOk};
+ghost use Rattle.defs_soar.specs.History.{Past};
+ghost use Rattle.soar_cycle.specs.Changing.{ChangesInputs};
+ghost use Rattle.soar_cycle.specs.Known.{AreTriplesKnown};
+ghost use Rattle.soar_cycle.specs.Seen.{IsSound};
+
+use crate::agent::Agent;
+use crate::stop::Stop;
+use soar_sym::{List, Triple};
+use std::alloc::Global;
+
+impl Agent {
+    /// Puts other inputs in the place of those that there are, and settles (Soar manual, input and output).
+    pub fn change_inputs(&mut self, alloc: Global, inputs: List<Triple>) -> Result<(), Stop>
+        requires sound { IsSound self.old }
+        requires known { AreTriplesKnown self.old.table inputs }
+        ensures inputs { (history : ListOf Past) → ChangesInputs self.old self.new history inputs result }
+        ensures sound { IfOk result (λ _. IsSound self.new) }
+    {
+        self.inputs = inputs;
+        self.resettle(alloc)
+    }
+}
