@@ -114,8 +114,13 @@ fired_sound old table letters prefs live waves firings retractions gone made sou
   one_goal = sound.one_goal;
   element_limit = sound.element_limit;
   row_limit = ap (λ p. p.limit) renews.rows ∙ sound.row_limit;
-  few_rows = omega (arith, ap (λ p. p.limit) renews.rows, ap (λ p. length p.rows) renews.rows, renews.room,
-    filter_shorter (λ row. not (is_rejected_by made row)) (with_rows (without_firings old.prefs.rows gone) made));
+  few_rows = omega (
+    arith,
+    ap (λ p. p.limit) renews.rows,
+    ap (λ p. length p.rows) renews.rows,
+    renews.room,
+    filter_shorter (λ row. not (is_rejected_by made row)) (with_rows (without_firings old.prefs.rows gone) made),
+  );
   first_words = omega (arith, sound.first_words, grown);
   numbered = sound.numbered;
   numbers_given = sound.numbers_given;

@@ -16,7 +16,6 @@ use Rattle.soar_cycle.specs.declared.wave.Waved.{Waved}
 use Rattle.soar_cycle.specs.declared.wave.Waved.TheVariants as waves
 use Rattle.soar_cycle.specs.declared.work.Work.{Work}
 
-
 -- the step was gone whole, with its texts behind what was there
 pub record Carried (new : AgentKept) (before after : List ℕ) (halted : Bool) (s : Step) : Type 0 where
   pub stepped : Stepped new s

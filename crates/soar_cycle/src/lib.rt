@@ -36,3 +36,6 @@ pub use stop::Stop;
 pub use tagging::retag;
 pub use wave::Waved;
 pub use work::{Work, pending};
+
+#[cfg(test)]
+mod tests;

@@ -14,15 +14,15 @@ made-preserved c =
     let step = at_drop_more (λ l. not_rejected l c.made.prefs.rows) made i no_row c.made-test.true in
     elim c.if-is_reject_now.branch [
       | then-is_reject_now w ↦ record {
-          limit = ap (λ p. p.limit) (w.prefs-is ∙ w.reject_now.ensures) ∙ c.made.invariant.limit;
-          rows = ap (λ p. not_rejected (drop (i + 1) made) p.rows) (w.prefs-is ∙ w.reject_now.ensures)
-              ∙ ap (λ t. not_rejected (drop (i + 1) made) (without_triple c.made.prefs.rows t)) w.triple_of.ensures
-              ∙ one_rejected r (drop (i + 1) made) c.made.prefs.rows (sym c.is_reject_now.ensures ∙ w.if-is_reject_now.true) ∙ sym step ∙ c.made.invariant.rows;
-        }
+        limit = ap (λ p. p.limit) (w.prefs-is ∙ w.reject_now.ensures) ∙ c.made.invariant.limit;
+        rows = ap (λ p. not_rejected (drop (i + 1) made) p.rows) (w.prefs-is ∙ w.reject_now.ensures)
+            ∙ ap (λ t. not_rejected (drop (i + 1) made) (without_triple c.made.prefs.rows t)) w.triple_of.ensures
+            ∙ one_rejected r (drop (i + 1) made) c.made.prefs.rows (sym c.is_reject_now.ensures ∙ w.if-is_reject_now.true) ∙ sym step ∙ c.made.invariant.rows;
+      }
       | else-is_reject_now w ↦ record {
-          limit = ap (λ p. p.limit) w.prefs-is ∙ c.made.invariant.limit;
-          rows = ap (λ p. not_rejected (drop (i + 1) made) p.rows) w.prefs-is ∙ not_one_rejected r (drop (i + 1) made) c.made.prefs.rows (sym c.is_reject_now.ensures ∙ w.if-is_reject_now.false) ∙ sym step ∙ c.made.invariant.rows;
-        }
+        limit = ap (λ p. p.limit) w.prefs-is ∙ c.made.invariant.limit;
+        rows = ap (λ p. not_rejected (drop (i + 1) made) p.rows) w.prefs-is ∙ not_one_rejected r (drop (i + 1) made) c.made.prefs.rows (sym c.is_reject_now.ensures ∙ w.if-is_reject_now.false) ∙ sym step ∙ c.made.invariant.rows;
+      }
     ]
 
 pub returns : goal.returns

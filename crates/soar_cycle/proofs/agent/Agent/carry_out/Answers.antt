@@ -54,8 +54,10 @@ returns-in_err-self-clause-wave c = λ history w pend.
 
 pub resettle-requires : goal.resettle-requires
 resettle-requires c =
-    record { sound = fired_sound c.args.self.now c.fire_all.new.table c.fire_all.new.letters c.renew.new.prefs c.renew_live.new.live c.in_ok-waves.waves c.in_ok-self.field-0 c.in_ok-retractions.retractions
-    c.args.work.now.retracted c.in_ok-fired.fired.rows c.requires.sound c.fire_all.ensures.grown (rw (c.as_slice-gone.ensures, c.as_slice.ensures) at c.in_ok-renew.ensures) c.in_ok-fired.ensures.known }
+    record {
+      sound = fired_sound c.args.self.now c.fire_all.new.table c.fire_all.new.letters c.renew.new.prefs c.renew_live.new.live c.in_ok-waves.waves c.in_ok-self.field-0 c.in_ok-retractions.retractions
+          c.args.work.now.retracted c.in_ok-fired.fired.rows c.requires.sound c.fire_all.ensures.grown (rw (c.as_slice-gone.ensures, c.as_slice.ensures) at c.in_ok-renew.ensures) c.in_ok-fired.ensures.known;
+    }
 
 pub returns-in_err-resettle-clause-wave : goal.returns-in_err-resettle-clause-wave
 returns-in_err-resettle-clause-wave c = λ history w pend.
