@@ -1,6 +1,7 @@
-use crate::{show_instance, show_symbol};
+use crate::{show_element, show_instance, show_symbol};
 use defs_match::Instance;
 use soar_sym::{List, Sym, SymTable, Text};
+use soar_wm::Element;
 use std::test::Fail;
 
 #[test]
@@ -95,5 +96,53 @@ fn instances_are_named_with_their_tags(rt: HostRuntime) -> Result<(), Fail> {
     };
     show_instance(&mut out, &table, &two, barred)?;
     assert!(rt; out.as_str() == "find*block:|B2|: 12 4294967295");
+    Ok(())
+}
+
+#[test]
+fn elements_are_tagged_triples(rt: HostRuntime) -> Result<(), Fail> {
+    let mut table = SymTable::new(rt.alloc())?;
+    let attr = table.intern("a")?;
+    let value = table.intern("b")?;
+    let top = Sym::Ident {
+        letter: b'S',
+        number: 1,
+    };
+    let mut out = Text::from_str(rt.alloc(), "x\n")?;
+    let plain = Element {
+        tag: 6,
+        id: top,
+        attr,
+        value,
+        accept: false,
+        of_state: true,
+    };
+    show_element(&mut out, &table, &plain)?;
+    out.push('\n')?;
+    let proposed = Element {
+        tag: 7,
+        id: top,
+        attr: table.intern("operator")?,
+        value: Sym::Ident {
+            letter: b'O',
+            number: 1,
+        },
+        accept: true,
+        of_state: true,
+    };
+    show_element(&mut out, &table, &proposed)?;
+    out.push('\n')?;
+    let barred = Element {
+        tag: 4_294_967_295,
+        id: value,
+        attr: Sym::Int(-5),
+        value: table.intern("S1")?,
+        accept: false,
+        of_state: false,
+    };
+    show_element(&mut out, &table, &barred)?;
+    assert!(rt;
+        out.as_str() == "x\n6: (S1 ^a b)\n7: (S1 ^operator O1 +)\n4294967295: (b ^-5 |S1|)"
+    );
     Ok(())
 }
