@@ -1,5 +1,5 @@
 -- What carrying a wave out answers, where it stops and where it is done.
-use Rattle.std.proofs.Common.{◌≡◌, ℕ, suc, ◌+◌, ◌<◌, ◌≤◌, ◌∙◌, Bool, ◌||◌, List, [], ◌∷◌, ◌++◌, map, filter, length, Result, Ok, Err, Some, None, refl, sym, ap, subst, arith}
+use Rattle.std.proofs.Common.{◌≡◌, ℕ, ◌+◌, ◌≤◌, ◌∙◌, Bool, List, [], map, length, Result, Ok, Err, Some, None, refl, sym, ap, subst, arith}
 use Rattle.std.proofs.lemmas.List.{length-map}
 use Rattle.soar_sym.specs.Words.{Texts}
 use Rattle.soar_sym.specs.declared.symbol.Sym.TheVariants.{Ident}
@@ -7,23 +7,20 @@ use Rattle.soar_wm.specs.declared.element.Element.{Element}
 use Rattle.defs_match.specs.Rules.{RuleOf, rule_seen}
 use Rattle.defs_soar.specs.declared.goal.Goal.{Goal}
 use Rattle.defs_soar.specs.declared.goal.Impasse.TheVariants as impasse
-use Rattle.defs_soar.specs.declared.limit.Which.{Which}
 use Rattle.defs_soar.specs.declared.limit.Which.TheVariants as which
 use Rattle.defs_soar.specs.declared.preference.Preference.{Preference}
-use Rattle.defs_soar.specs.Agents.{LiveFiring}
 use Rattle.defs_soar.specs.Decision.{new_goal}
 use Rattle.defs_soar.specs.History.{Past}
 use Rattle.defs_soar.specs.Limits.{first_passed}
 use Rattle.defs_soar.specs.Pending.{Work as WorkOf}
-use Rattle.defs_soar.specs.Preferences.{rows_after, without_firings, with_rows}
+use Rattle.defs_soar.specs.Preferences.{without_firings, with_rows}
 use Rattle.defs_soar.specs.Resettling.{Step}
-use Rattle.defs_soar.specs.Trimming.{numbers_of}
 use Rattle.defs_soar.specs.WaveFirings.{first_wave, moment_of, with_firings}
 use Rattle.defs_soar.specs.Waves.{wave_of}
 use Rattle.soar_prefs.specs.Memory.{PreferenceMemory}
 use Rattle.soar_cycle.specs.Carrying.{Carries}
 use Rattle.soar_cycle.specs.Counting.{Counts}
-use Rattle.soar_cycle.specs.Firables.{firables_for, IsPending, live_seen}
+use Rattle.soar_cycle.specs.Firables.{IsPending}
 use Rattle.soar_cycle.specs.FiresAll.{Begins, FiresAll, HasFired}
 use Rattle.soar_cycle.specs.Renewal.{Renews, RenewsRows}
 use Rattle.soar_cycle.specs.Seen.{agent_of, IsSound}

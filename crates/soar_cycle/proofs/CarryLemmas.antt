@@ -1,18 +1,17 @@
 -- A wave of the top goal, from its parts.
-use Rattle.std.proofs.Common.{◌≡◌, ℕ, suc, ◌+◌, ◌<◌, ◌≤◌, ◌∙◌, Bool, true, false, not, ◌==◌, ◌||◌, ◌&&◌, cond, List, [], ◌∷◌, ◌++◌, map, filter, length, Option, Some, None, refl, sym, ap, subst, arith}
-use Rattle.std.specs.List.{list_any}
+use Rattle.std.proofs.Common.{◌≡◌, suc, ◌+◌, ◌<◌, ◌≤◌, ◌∙◌, Bool, ◌||◌, List, [], ◌∷◌, ◌++◌, length, Some, None, sym, ap}
 use Rattle.defs_soar.specs.declared.goal.Goal.{Goal}
 use Rattle.defs_soar.specs.declared.limit.Which.{Which}
 use Rattle.defs_soar.specs.declared.limit.Which.TheVariants as which
-use Rattle.defs_soar.specs.Agents.{LiveFiring, Agent}
+use Rattle.defs_soar.specs.Agents.{Agent}
 use Rattle.defs_soar.specs.History.{Past}
 use Rattle.defs_soar.specs.Limits.{Drawn, preferences_to, counts_to, first_passed}
 use Rattle.defs_soar.specs.Pending.{Work}
 use Rattle.defs_soar.specs.Phases.{halting}
-use Rattle.defs_soar.specs.Resettling.{Step, resettled}
+use Rattle.defs_soar.specs.Resettling.{resettled}
 use Rattle.defs_soar.specs.WaveAtHand.{Wave}
 use Rattle.defs_soar.specs.WaveFirings.{first_wave, moment_of}
-use Rattle.defs_soar.specs.Waves.{after_work, wave_of, worked}
+use Rattle.defs_soar.specs.Waves.{after_work, wave_of}
 use Rattle.soar_cycle.specs.WaveParts.{fired_in, settled_after, rows_in_all}
 use Rattle.soar_cycle.proofs.FiredWaveLemmas.{shallow_firings}
 use Rattle.soar_cycle.proofs.LimitLemmas.{passes_over, passes_not, passed_here, passed_later, passed_front, passed_behind}

@@ -1,6 +1,5 @@
 -- A wave that was carried out to its end, or that settling stopped.
-use Rattle.std.proofs.Common.{◌≡◌, ℕ, ◌+◌, ◌≤◌, ◌∙◌, Bool, ◌||◌, List, [], ◌∷◌, ◌++◌, map, flat_map, append-nil, Err, Some, None, refl, sym, ap, arith}
-use Rattle.defs_match.specs.Rules.{rule_seen}
+use Rattle.std.proofs.Common.{◌≡◌, ℕ, ◌+◌, ◌≤◌, ◌∙◌, ◌||◌, List, [], ◌∷◌, ◌++◌, map, flat_map, append-nil, Err, None, refl, sym, ap}
 use Rattle.soar_wm.specs.declared.element.Element.{Element}
 use Rattle.defs_soar.specs.declared.goal.Goal.{Goal}
 use Rattle.defs_soar.specs.Agents.{LiveFiring, Agent}
@@ -8,7 +7,7 @@ use Rattle.defs_soar.specs.Events.{goes, comes, removes}
 use Rattle.defs_soar.specs.History.{Past}
 use Rattle.defs_soar.specs.Limits.{first_passed}
 use Rattle.defs_soar.specs.Pending.{Work as WorkOf}
-use Rattle.defs_soar.specs.Resettling.{Step, removal_events, resettled, without_elements}
+use Rattle.defs_soar.specs.Resettling.{removal_events, resettled, without_elements}
 use Rattle.defs_soar.specs.Settling.{elements_after, kept_triples}
 use Rattle.defs_soar.specs.Trimming.{supports_of, trimmed}
 use Rattle.defs_soar.specs.WaveAtHand.{Wave, all_fresh}
@@ -16,7 +15,6 @@ use Rattle.defs_soar.specs.WaveFirings.{first_wave, moment_of}
 use Rattle.defs_soar.specs.Waves.{entry_events, retract_event, wave_of}
 use Rattle.soar_cycle.specs.Carrying.{Carried}
 use Rattle.soar_cycle.specs.FiresAll.{HasFired, texts_of_fresh}
-use Rattle.soar_cycle.specs.Firables.{IsPending}
 use Rattle.soar_cycle.specs.Resettles.{IsResettled, Resettles, resettled_now}
 use Rattle.soar_cycle.specs.Seen.{agent_of, IsSound, written_of}
 use Rattle.soar_cycle.specs.WaveParts.{fired_in, held_after, rows_in_all, settled_after, unsettled}

@@ -1,5 +1,5 @@
 -- What the firings of a wave leave as it was, and what they write.
-use Rattle.std.proofs.Common.{◌≡◌, ℕ, suc, ◌<◌, ◌≤◌, ◌∙◌, Bool, true, false, cond, List, [], ◌∷◌, ◌++◌, map, flat_map, append-nil, Option, Some, None, refl, sym, ap, subst, arith}
+use Rattle.std.proofs.Common.{◌≡◌, ℕ, suc, ◌≤◌, ◌∙◌, Bool, true, false, cond, List, [], ◌∷◌, ◌++◌, map, flat_map, append-nil, Option, Some, None, refl, sym, ap, subst, arith}
 use Rattle.std.proofs.lemmas.Grind.{flat_map-append}
 use Rattle.std.specs.List.{list_any}
 use Rattle.soar_sym.specs.Equality.{symbol_eq}
@@ -7,14 +7,13 @@ use Rattle.soar_wm.specs.declared.element.Element.{Element}
 use Rattle.defs_soar.specs.declared.goal.Goal.{Goal}
 use Rattle.defs_soar.specs.declared.limit.Which.{Which}
 use Rattle.defs_soar.specs.declared.limit.Which.TheVariants as which
-use Rattle.defs_soar.specs.Agents.{LiveFiring}
-use Rattle.defs_soar.specs.Events.{Event, makes_wish, drops, goes, comes, removes}
+use Rattle.defs_soar.specs.Events.{Event, makes_wish, drops}
 use Rattle.defs_soar.specs.Limits.{counts_to, first_passed}
 use Rattle.defs_soar.specs.Pending.{Firable, is_of_operator_kind}
 use Rattle.defs_soar.specs.Support.{match_depth}
-use Rattle.defs_soar.specs.WaveAtHand.{Fresh, Entry, fired, told, Moment, Wave, all_fresh}
+use Rattle.defs_soar.specs.WaveAtHand.{Fresh, fired, Moment, Wave, all_fresh}
 use Rattle.defs_soar.specs.WaveFirings.{made_in, fresh_firing, firing_of_work, with_firing, with_firings}
-use Rattle.defs_soar.specs.Waves.{text_events, entry_events, retract_event}
+use Rattle.defs_soar.specs.Waves.{text_events, entry_events}
 use Rattle.soar_cycle.specs.FiresAll.{texts_of_fresh}
 use Rattle.soar_cycle.specs.Seen.{written_by, written_of}
 use Rattle.soar_cycle.proofs.FiringAgreement.{stays_stopped, fresh_push}

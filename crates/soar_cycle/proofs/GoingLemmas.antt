@@ -1,9 +1,9 @@
 -- How a phase begins, goes on, and ends.
-use Rattle.std.proofs.Common.{◌≡◌, ℕ, suc, ◌-◌, ◌<◌, ◌≤◌, ◌∙◌, Bool, true, false, not, List, [], ◌∷◌, ◌++◌, append-nil, append_assoc, None, Some, Result, Ok, Err, refl, sym, ap, subst, arith}
+use Rattle.std.proofs.Common.{◌≡◌, ℕ, suc, ◌-◌, ◌<◌, ◌≤◌, ◌∙◌, Bool, true, false, not, List, [], ◌∷◌, ◌++◌, append-nil, append_assoc, None, Result, Ok, Err, refl, sym, ap, subst, arith}
 use Rattle.soar_rule.specs.Repeat.{Turn, ends, goes_on, turns}
 use Rattle.defs_soar.specs.History.{Past}
 use Rattle.defs_soar.specs.Pending.{is_none, pending}
-use Rattle.defs_soar.specs.Phases.{Said, Course, still, said_by, halting, then_step, one_wave, phased_by, phase}
+use Rattle.defs_soar.specs.Phases.{Said, Course, still, said_by, then_step, one_wave, phased_by, phase}
 use Rattle.soar_cycle.specs.Going.{Going, TellsWork}
 use Rattle.soar_cycle.specs.Phasing.{limit_in, written_within, ProposesFrom, ProposesText, Ran}
 use Rattle.soar_cycle.specs.Seen.{agent_of, wave_at, WavesFrom, Writes}

@@ -10,7 +10,7 @@ use Rattle.defs_soar.specs.Resettling.{Step, resettled}
 use Rattle.defs_soar.specs.Trimming.{Trimmed}
 use Rattle.soar_cycle.specs.Changing.{with_inputs, ChangesInputs}
 use Rattle.soar_cycle.specs.Resettles.{resettled_now, IsResettled, Resettles}
-use Rattle.soar_cycle.specs.Seen.{agent_of, IsSound, Stepped}
+use Rattle.soar_cycle.specs.Seen.{IsSound, Stepped}
 use Rattle.soar_cycle.specs.declared.agent.Agent.{Agent as AgentKept}
 use Rattle.soar_cycle.specs.declared.stop.Stop.{Stop}
 use Rattle.soar_cycle.specs.declared.stop.Stop.TheVariants as stop

@@ -3,7 +3,7 @@ use Rattle.std.proofs.Common.{◌≡◌, ℕ, zero, suc, ◌+◌, ◌<◌, ◌�
 use Rattle.std.specs.Ordering.{is_lt}
 use Rattle.soar_sym.specs.Order.{triple_cmp}
 use Rattle.soar_sym.specs.Words.{Texts, IsKnown}
-use Rattle.soar_sym.specs.declared.symbol.Sym.TheVariants.{Ident, Word}
+use Rattle.soar_sym.specs.declared.symbol.Sym.TheVariants.{Ident}
 use Rattle.soar_sym.specs.declared.symbol.Triple.{Triple}
 use Rattle.soar_rule.specs.Repeat.{until_same}
 use Rattle.soar_rule.specs.Symbols.{AreKnown}

@@ -1,5 +1,5 @@
 -- Whether a number that is drawn passes its limit.
-use Rattle.std.proofs.Common.{◌≡◌, ℕ, ◌<◌, ◌≤◌, ◌∙◌, Bool, true, false, nat_lt, List, [], ◌∷◌, ◌++◌, Option, Some, None, cond, refl, sym, ap, arith}
+use Rattle.std.proofs.Common.{◌≡◌, ℕ, ◌<◌, ◌≤◌, ◌∙◌, Bool, true, false, nat_lt, List, ◌∷◌, ◌++◌, Option, Some, None, cond, refl, sym, ap, arith}
 use Rattle.defs_soar.specs.declared.limit.Which.{Which}
 use Rattle.defs_soar.specs.Limits.{Drawn, limit_of, passes, or_else, passed_by, first_passed}
 use Rattle.soar_cycle.proofs.FiringAgreement.{passed_in_turn}

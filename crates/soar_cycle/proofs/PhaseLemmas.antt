@@ -1,19 +1,14 @@
 -- A phase, wave by wave.
-use Rattle.std.proofs.Common.{◌≡◌, ℕ, zero, suc, ◌+◌, ◌∙◌, Bool, true, false, not, List, [], ◌∷◌, ◌++◌, append-nil, append_assoc, Option, Some, None, Ok, Err, refl, sym, ap, subst}
+use Rattle.std.proofs.Common.{◌≡◌, ℕ, zero, suc, ◌+◌, ◌∙◌, Bool, true, false, List, [], ◌∷◌, ◌++◌, append-nil, append_assoc, Option, Some, None, refl, sym, ap}
 use Rattle.soar_rule.specs.Repeat.{Turn, ends, goes_on, turns}
 use Rattle.defs_soar.specs.declared.limit.Which.{Which}
-use Rattle.defs_soar.specs.Agents.{Agent}
-use Rattle.defs_soar.specs.History.{Past}
 use Rattle.defs_soar.specs.Limits.{or_else, first_passed}
-use Rattle.defs_soar.specs.Pending.{Work, is_none, pending}
-use Rattle.defs_soar.specs.Phases.{Said, Course, still, said_by, halting, then_step, turn_by, one_wave, Phased, phased_by, phase}
+use Rattle.defs_soar.specs.Pending.{is_none, pending}
+use Rattle.defs_soar.specs.Phases.{Said, Course, said_by, then_step, turn_by, one_wave, phased_by}
 use Rattle.defs_soar.specs.Resettling.{Step}
 use Rattle.defs_soar.specs.Waves.{wave_of}
-use Rattle.soar_cycle.specs.Going.{Going}
-use Rattle.soar_cycle.specs.Phasing.{limit_in, written_within, proposed, ProposesFrom, ProposesText, Ran}
-use Rattle.soar_cycle.specs.Seen.{agent_of, Stepped, wave_at, WavesFrom, Writes, written_of}
-use Rattle.soar_cycle.specs.declared.agent.Agent.{Agent as AgentKept}
-use Rattle.soar_cycle.specs.declared.stop.Stop.{Stop}
+use Rattle.soar_cycle.specs.Phasing.{limit_in, written_within}
+use Rattle.soar_cycle.specs.Seen.{written_of}
 use Rattle.soar_cycle.specs.declared.stop.Stop.TheVariants as stop
 use Rattle.soar_cycle.specs.declared.wave.Waved.TheVariants as waved
 

@@ -1,13 +1,11 @@
 -- From firings of the top goal nothing is learned.
-use Rattle.std.proofs.Common.{◌≡◌, ℕ, suc, ◌<◌, ◌≤◌, ◌∙◌, Bool, true, false, ◌&&◌, nat_lt, ◌==◌, cond, List, [], ◌∷◌, ◌++◌, filter, length, refl, sym, ap, arith}
+use Rattle.std.proofs.Common.{◌≡◌, ℕ, ◌≤◌, ◌∙◌, Bool, true, false, ◌&&◌, nat_lt, ◌==◌, cond, List, [], ◌∷◌, filter, length, refl, ap, arith}
 use Rattle.std.specs.List.{list_any}
-use Rattle.soar_wm.specs.declared.element.Element.{Element}
-use Rattle.defs_soar.specs.declared.goal.Goal.{Goal}
 use Rattle.defs_soar.specs.History.{FiringOf}
-use Rattle.defs_soar.specs.Learning.{learned_from, learned_from_each, one_round, with_learning, lecture_on}
+use Rattle.defs_soar.specs.Learning.{learned_from, learned_from_each, with_learning, lecture_on}
 use Rattle.defs_soar.specs.Results.{is_result, results_of}
 use Rattle.defs_soar.specs.Teaching.{taught}
-use Rattle.defs_soar.specs.WaveAtHand.{Fresh, Entry, Moment, Wave, all_fresh}
+use Rattle.defs_soar.specs.WaveAtHand.{Fresh, Moment, Wave, all_fresh}
 
 -- each is of the top goal, or of none
 abbrev pub AreShallow : List Fresh → Type 0

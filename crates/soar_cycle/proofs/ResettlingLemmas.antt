@@ -1,18 +1,17 @@
 -- With one goal no goal goes, so an agent is settled by its rows, inputs and elements alone.
-use Rattle.std.proofs.Common.{◌≡◌, ◌≤◌, ℕ, suc, false, List, [], ◌∷◌, ◌++◌, map, length, Some, None, Err, refl, sym, ap, subst, ◌∙◌, arith}
+use Rattle.std.proofs.Common.{◌≡◌, ◌≤◌, false, List, [], ◌∷◌, ◌++◌, map, length, None, Err, refl, sym, ap, subst, ◌∙◌, arith}
 use Rattle.soar_sym.specs.declared.symbol.Triple.{Triple}
 use Rattle.soar_wm.specs.WorkingMemory.{WorkingMemory}
 use Rattle.soar_wm.specs.declared.element.Element.{Element}
 use Rattle.defs_soar.specs.declared.goal.Goal.{Goal}
-use Rattle.defs_soar.specs.declared.limit.Which.{Which}
 use Rattle.defs_soar.specs.declared.preference.Preference.{Preference}
-use Rattle.defs_soar.specs.Agents.{Agent, LiveFiring}
+use Rattle.defs_soar.specs.Agents.{LiveFiring}
 use Rattle.defs_soar.specs.Cycle.{held_with}
 use Rattle.defs_soar.specs.Events.{goes, comes}
 use Rattle.defs_soar.specs.History.{Past}
 use Rattle.defs_soar.specs.Limits.{elements_to, tags_to, first_passed}
 use Rattle.defs_soar.specs.Resettling.{Step, resettled, without_elements, removal_events}
-use Rattle.defs_soar.specs.Settling.{Supports, kept_triples}
+use Rattle.defs_soar.specs.Settling.{kept_triples}
 use Rattle.defs_soar.specs.Trimming.{Trimmed, trimmed, with_supports}
 use Rattle.soar_prefs.specs.Memory.{PreferenceMemory}
 use Rattle.soar_cycle.specs.Firables.{live_seen}

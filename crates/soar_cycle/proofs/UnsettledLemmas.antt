@@ -1,6 +1,5 @@
 -- The agent when all has fired and nothing is settled yet.
-use Rattle.std.proofs.Common.{◌≡◌, ℕ, suc, ◌+◌, ◌≤◌, ◌∙◌, Bool, false, true, ◌&&◌, ◌||◌, ◌==◌, not, List, [], ◌∷◌, ◌++◌, map, filter, length, Option, None, refl, sym, ap, subst, arith}
-use Rattle.std.specs.List.{list_any}
+use Rattle.std.proofs.Common.{◌≡◌, ℕ, suc, ◌+◌, ◌≤◌, ◌∙◌, Bool, ◌||◌, ◌==◌, not, List, [], ◌∷◌, ◌++◌, map, filter, length, refl, sym, ap, subst, arith}
 use Rattle.std.proofs.lemmas.List.{length-map}
 use Rattle.std.proofs.lemmas.List.Elements.{filter_agree}
 use Rattle.soar_sym.specs.Words.{Texts}
@@ -9,14 +8,13 @@ use Rattle.defs_soar.specs.declared.preference.Preference.{Preference}
 use Rattle.defs_soar.specs.Agents.{LiveFiring, Agent}
 use Rattle.defs_soar.specs.Cycle.{held_with}
 use Rattle.defs_soar.specs.History.{Past}
-use Rattle.defs_soar.specs.Limits.{first_passed}
-use Rattle.defs_soar.specs.Pending.{Work as WorkOf, is_justification}
+use Rattle.defs_soar.specs.Pending.{Work as WorkOf}
 use Rattle.defs_soar.specs.Preferences.{rows_after, with_rows, without_firings, is_rejected_by}
 use Rattle.defs_soar.specs.Resettling.{resettled}
 use Rattle.defs_soar.specs.Trimming.{numbers_of}
-use Rattle.defs_soar.specs.WaveAtHand.{Wave, all_fresh}
+use Rattle.defs_soar.specs.WaveAtHand.{Wave}
 use Rattle.defs_soar.specs.WaveFirings.{first_wave, moment_of}
-use Rattle.defs_soar.specs.Waves.{is_retracted, is_spent, live_of, without_spent}
+use Rattle.defs_soar.specs.Waves.{is_retracted, is_spent, without_spent}
 use Rattle.soar_prefs.specs.Memory.{PreferenceMemory}
 use Rattle.soar_cycle.specs.Firables.{IsPending, live_seen}
 use Rattle.soar_cycle.specs.FiresAll.{HasFired}

@@ -1,5 +1,5 @@
 -- Instances to fire, with the rules that they are of.
-use Rattle.std.specs.Prelude.{◌≡◌, ℕ, ◌<◌, ◌==◌, List, [], ◌∷◌, map, flat_map, filter, length}
+use Rattle.std.specs.Prelude.{◌≡◌, ℕ, ◌<◌, List, [], ◌∷◌, map, flat_map, filter, length}
 use Rattle.soar_rule.specs.Variables.{bound_variables}
 use Rattle.soar_wm.specs.declared.element.Element.{Element}
 use Rattle.defs_match.specs.Contents.{is_numbered}

@@ -1,5 +1,4 @@
-use Rattle.std.proofs.Common.{◌≡◌, ◌+◌, ◌<◌, ◌≤◌, ◌∙◌, [], ◌∷◌, Err, drop, get_or, sym, ap, subst, arith}
-use Rattle.std.specs.Prelude.{length, Result}
+use Rattle.std.proofs.Common.{◌+◌, ◌∙◌, Err, drop, get_or, sym, subst}
 use Rattle.std.proofs.lemmas.List.{at_drop_more}
 use Rattle.std.proofs.lemmas.Result.{err_from_is_err_and}
 use Rattle.defs_soar.specs.Preferences.{with_rows}

@@ -1,4 +1,4 @@
-use Rattle.std.proofs.Common.{◌≡◌, ◌+◌, ◌∙◌, drop, get_or, sym, ap}
+use Rattle.std.proofs.Common.{◌+◌, ◌∙◌, drop, get_or, sym, ap}
 use Rattle.std.proofs.lemmas.List.{at_drop_more, at_drop_all}
 use Rattle.soar_prefs.specs.Memory.{without_triple}
 use Rattle.soar_cycle.specs.Renewal.{not_rejected}

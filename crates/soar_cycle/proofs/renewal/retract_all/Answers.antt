@@ -1,8 +1,7 @@
-use Rattle.std.proofs.Common.{◌≡◌, ◌+◌, ◌≤◌, ◌∙◌, drop, slice_index_or, sym, ap, arith}
+use Rattle.std.proofs.Common.{◌≡◌, ◌+◌, ◌∙◌, drop, slice_index_or, sym, ap, arith}
 use Rattle.std.specs.Prelude.{length}
 use Rattle.std.proofs.lemmas.List.{at_drop_more, at_drop_all}
-use Rattle.defs_soar.specs.Preferences.{is_of_gone, without_firings}
-use Rattle.soar_cycle.proofs.FilterLemmas.{filter_shorter}
+use Rattle.defs_soar.specs.Preferences.{without_firings}
 use Rattle.soar_cycle.proofs.RenewalLemmas.{none_left, one_left, fewer_left}
 use Rattle.soar_cycle.proofs.renewal.retract_all.Goals as goal
 

@@ -1,4 +1,4 @@
-use Rattle.std.proofs.Common.{◌≡◌, ◌≤◌, drop, length}
+use Rattle.std.proofs.Common.{◌≡◌, drop}
 use Rattle.defs_soar.specs.Preferences.{without_firings}
 use Rattle.soar_cycle.proofs.renewal.retract_all.Given as goal
 

@@ -1,11 +1,11 @@
-use Rattle.std.proofs.Common.{◌≡◌, ◌∙◌, ◌++◌, Err, ap, subst, sym, length}
+use Rattle.std.proofs.Common.{◌∙◌, ◌++◌, Err, ap, subst, sym, length}
 use Rattle.std.proofs.lemmas.Result.{err_from_is_err_and}
 use Rattle.defs_soar.specs.Waves.{wave_of}
 use Rattle.soar_cycle.specs.Carrying.{Carried}
 use Rattle.soar_cycle.specs.Renewal.{Renews}
 use Rattle.soar_cycle.specs.Seen.{agent_of}
 use Rattle.soar_cycle.proofs.CarriedLemmas.{carries_not, waves_stop, retractions_stop, counted_now, firing_stop, firings_stop, has_fired, rows_fit, rows_stop}
-use Rattle.soar_cycle.proofs.UnsettledLemmas.{firings_more, fired_agent, fired_sound, fired_stands, halted_sound, retractions_more, waves_more}
+use Rattle.soar_cycle.proofs.UnsettledLemmas.{firings_more, fired_agent, fired_sound, fired_stands, retractions_more, waves_more}
 use Rattle.soar_cycle.proofs.DoneLemmas.{settling_stop, done}
 use Rattle.soar_cycle.proofs.agent.Agent.carry_out.Goals as goal
 

@@ -1,10 +1,7 @@
-use Rattle.std.proofs.Common.{◌≡◌, ◌-◌, ◌<◌, ◌∙◌, suc, List, Ok, Err, ap, sym, subst, arith, ℕ}
+use Rattle.std.proofs.Common.{◌-◌, ◌∙◌, Ok, Err, ap, sym, subst}
 use Rattle.std.proofs.lemmas.Result.{err_from_is_err_and}
-use Rattle.defs_soar.specs.History.{Past}
-use Rattle.soar_cycle.specs.Going.{Going}
 use Rattle.soar_cycle.specs.Phasing.{ProposesFrom, ProposesText}
 use Rattle.soar_cycle.specs.Seen.{WavesFrom, Writes}
-use Rattle.soar_cycle.specs.declared.agent.Agent.{Agent}
 use Rattle.soar_cycle.proofs.GoingLemmas.{starts, goes, rests, rest_tells, halts, halt_tells, ends_phase, ends_text, some_left, stops, stop_tells}
 use Rattle.soar_cycle.proofs.agent.Agent.propose.Goals as goal
 
