@@ -34,11 +34,12 @@ limit_words words (s ∷ steps) = ap (or_else (first_passed s.drawn)) (limit_wor
 
 -- ---- what is written, one step after another
 
-abbrev nothing : Bool → Written
+-- nothing is written
+abbrev pub nothing : Bool → Written
 nothing mid = record { text = []; mid_line = mid }
 
 -- one step, unless it passes a limit, and what follows
-abbrev step_front : Bool → Written → (Bool → Written) → Option Which → Written
+abbrev pub step_front : Bool → Written → (Bool → Written) → Option Which → Written
 step_front mid w later o = elim o as (λ _. Written) [ Some limit ↦ nothing mid | None ↦ followed_by w (later w.mid_line) ]
 
 followed_assoc : (a b c : Written) → followed_by (followed_by a b) c ≡ followed_by a (followed_by b c)

@@ -18,7 +18,7 @@ use Rattle.soar_cycle.specs.declared.stop.Stop.{Stop}
 use Rattle.soar_cycle.specs.declared.stop.Stop.TheVariants as stop
 use Rattle.soar_app.specs.Courses.{front_said, Went, Passed, Goes, GoesPhase, Reached}
 use Rattle.soar_app.specs.declared.state.Session.{Session as SessionKept}
-use Rattle.soar_app.proofs.CourseLemmas.{phase_front, went_then, went_stops, passed_more, passed_cycles}
+use Rattle.soar_app.proofs.CourseLemmas.{nothing, step_front, phase_front, went_then, went_stops, passed_more, passed_cycles}
 use Rattle.soar_app.proofs.QuietLemmas.{phase_quiet}
 use Rattle.soar_app.proofs.SessionLemmas.{not_passed, is_passed}
 
@@ -63,9 +63,6 @@ phase_goes s a mid text history before after (Err stop.NoMemory) from wrote appe
 
 -- ---- the start of a cycle
 
-abbrev nothing : Bool → Written
-nothing mid = record { text = []; mid_line = mid }
-
 -- the session in which one cycle more was counted
 abbrev pub with_cycle : SessionKept → SessionKept
 with_cycle s = record s { agent = record s.agent { cycles = s.agent.cycles + 1 } }
@@ -76,9 +73,9 @@ counted_cycle s history =
     ap (λ (n : ℕ). record (agent_of s.agent history) { counts = record (agent_of s.agent history).counts { cycles = n } }) next
 
 -- what a step and the begin of the phase write
-begun_front : (mid : Bool) (o : Option Which) → o ≡ None → (elim o as (λ _. Written) [ Some limit ↦ nothing mid | None ↦ followed_by (nothing mid) (front_said mid (told_alone (begins proposal_phase) ∷ [])) ]) ≡ nothing mid
+begun_front : (mid : Bool) (o : Option Which) → o ≡ None → step_front mid (nothing mid) (λ m. front_said m (told_alone (begins proposal_phase) ∷ [])) o ≡ nothing mid
 unfolding pieces_of
-begun_front mid o none = ap (λ x. elim x as (λ _. Written) [ Some limit ↦ nothing mid | None ↦ followed_by (nothing mid) (front_said mid (told_alone (begins proposal_phase) ∷ [])) ]) none
+begun_front mid o none = ap (step_front mid (nothing mid) (λ m. front_said m (told_alone (begins proposal_phase) ∷ []))) none
 
 started_front : (mid : Bool) (a : Agent) → first_passed (counts_to (suc a.counts.cycles) ∷ []) ≡ None → front_said mid (begun proposal_phase (started a)).steps ≡ nothing mid
 unfolding pieces_of
@@ -132,31 +129,32 @@ phase_went s new history before after cut left goes =
     went_then s.mid_line (begun proposal_phase (started (agent_of s.agent history))) (phase_of (agent_of s.agent history)).course (with_cycle s) new before before after
     (started_went s history before left) goes.0
 
-pub cycle_went : (s new : SessionKept) (history : List Past) (before after : List ℕ) → s.agent.cycles < 2 ^ 64 - 1
-    → GoesPhase s.mid_line (phase true (agent_of (with_cycle s).agent history)) new before after (Ok false) → Went s.mid_line (cycle (agent_of s.agent history)) new before after
-unfolding before_cut phase_of
-cycle_went s new history before after left goes =
-    let behind : GoesPhase s.mid_line (phase_of (agent_of s.agent history)) new before after (Ok false) = phase_behind s new history before after (Ok false) goes in
-    subst (λ cut. Went s.mid_line (cut_line proposal_phase cut (before_cut s history)) new before after) behind.1 (phase_went s new history before after false left behind)
-
-pub cycle_cut : (s middle : SessionKept) (history : List Past) (before between after : List ℕ) (mid : Bool) → s.agent.cycles < 2 ^ 64 - 1
-    → GoesPhase s.mid_line (phase true (agent_of (with_cycle s).agent history)) middle before between (Ok true)
-    → after ≡ between ++ line_text middle.mid_line (codes "cut proposal") → mid ≡ false
-    → Went s.mid_line (cycle (agent_of s.agent history)) (record middle { mid_line = mid }) before after
-unfolding before_cut phase_of
-cycle_cut s middle history before between after mid left goes appended ends =
-    let behind : GoesPhase s.mid_line (phase_of (agent_of s.agent history)) middle before between (Ok true) = phase_behind s middle history before between (Ok true) goes in
-    let went : Went s.mid_line (before_cut s history) middle before between = phase_went s middle history before between true left behind in
-    let front : front_said middle.mid_line (told_alone (is_cut proposal_phase) ∷ []) ≡ record { text = line_text middle.mid_line (codes "cut proposal"); mid_line = false } = cut_front middle.mid_line in
-    let last : Went middle.mid_line (record { agent = (before_cut s history).agent; steps = told_alone (is_cut proposal_phase) ∷ [] }) (record middle { mid_line = mid }) between after = record {
+-- with the line of a cut phase behind
+pub cut_went : (mid new_mid : Bool) (c : Course) (s : SessionKept) (before between after : List ℕ) → Went mid c s before between
+    → after ≡ between ++ line_text s.mid_line (codes "cut proposal") → new_mid ≡ false
+    → Went mid (cut_line proposal_phase true c) (record s { mid_line = new_mid }) before after
+cut_went mid new_mid c s before between after went appended ends =
+    let front : front_said s.mid_line (told_alone (is_cut proposal_phase) ∷ []) ≡ record { text = line_text s.mid_line (codes "cut proposal"); mid_line = false } = cut_front s.mid_line in
+    let last : Course = record { agent = c.agent; steps = told_alone (is_cut proposal_phase) ∷ [] } in
+    let said : Went s.mid_line last (record s { mid_line = new_mid }) between after = record {
       history = went.history;
       stands = went.stands;
       within = refl;
       text = appended ∙ ap (λ (w : Written). between ++ w.text) (sym front);
       mid_line = ends ∙ ap (λ (w : Written). w.mid_line) (sym front);
     } in
-    subst (λ cut. Went s.mid_line (cut_line proposal_phase cut (before_cut s history)) (record middle { mid_line = mid }) before after) behind.1
-    (went_then s.mid_line (before_cut s history) (record { agent = (before_cut s history).agent; steps = told_alone (is_cut proposal_phase) ∷ [] }) middle (record middle { mid_line = mid }) before between after went last)
+    went_then mid c last s (record s { mid_line = new_mid }) before between after went said
+
+-- a cycle whose phase passed no limit, once it is said whether that was cut
+pub cycle_ends : (s middle new : SessionKept) (history : List Past) (before between after : List ℕ) (cut : Bool) (result : Result (Unit {0}) Stop) → s.agent.cycles < 2 ^ 64 - 1
+    → GoesPhase s.mid_line (phase true (agent_of (with_cycle s).agent history)) middle before between (Ok cut)
+    → ((mid : Bool) (c : Course) (first : List ℕ) → Went mid c middle first between → Goes mid (cut_line proposal_phase cut c) new first after result)
+    → Goes s.mid_line (cycle (agent_of s.agent history)) new before after result
+unfolding before_cut phase_of
+cycle_ends s middle new history before between after cut result left goes says =
+    let behind : GoesPhase s.mid_line (phase_of (agent_of s.agent history)) middle before between (Ok cut) = phase_behind s middle history before between (Ok cut) goes in
+    subst (λ (is : Bool). Goes s.mid_line (cut_line proposal_phase is (before_cut s history)) new before after result) behind.1
+    (says s.mid_line (before_cut s history) before (phase_went s middle history before between cut left behind))
 
 pub cycle_stops : (s new : SessionKept) (history : List Past) (before after : List ℕ) (why : Stop) → s.agent.cycles < 2 ^ 64 - 1
     → GoesPhase s.mid_line (phase true (agent_of (with_cycle s).agent history)) new before after (Err why) → Goes s.mid_line (cycle (agent_of s.agent history)) new before after (Err why)

@@ -23,15 +23,12 @@ use Rattle.defs_soar.specs.Phases.{halting, Course}
 use Rattle.defs_soar.specs.Resettling.{Step, resettled}
 use Rattle.defs_soar.specs.Trace.{Written, rendered, followed_by, is_mid_after}
 use Rattle.defs_soar.specs.Trimming.{Trimmed}
-use Rattle.defs_run.specs.Carrying
-use Rattle.defs_run.specs.Orders
-use Rattle.soar_cycle.specs.Changing
-use Rattle.defs_run.specs.Carrying.{with_production, loaded, told_of, followed, lists_elements, has_run}
-use Rattle.defs_run.specs.Inputs.{Carried, told_by, with_inputs, first_unknown, is_top_level, is_reserved, unless_there, unless_unknown, level_of, unreached_in, added, removed, spelled}
-use Rattle.defs_run.specs.Orders.{Operand, is_symbol}
+use Rattle.defs_run.specs.Carrying.{with_production, loaded, followed, lists_elements}
+use Rattle.defs_run.specs.Inputs.{refuses, told_by, with_inputs, Spelled, spelled, or_else as or_text, level_of, unreached_in, first_unknown, is_top_level, is_reserved, unless_there, added}
+use Rattle.defs_run.specs.Orders.{is_symbol, not_of_the_top_state, reserved_attribute}
 use Rattle.defs_run.specs.Present.{run_present}
 use Rattle.defs_run.specs.Sessions.{Session, quiet, with_agent, as_lines, says, draws, unknown_in}
-use Rattle.soar_cycle.specs.Changing.{ChangesInputs}
+use Rattle.soar_cycle.specs.Changing.{with_inputs as inputs_put, ChangesInputs}
 use Rattle.soar_cycle.specs.Seen.{IsSound, Stepped, agent_of}
 use Rattle.soar_cycle.specs.declared.agent.Agent.{Agent as AgentKept}
 use Rattle.soar_cycle.specs.declared.stop.Stop.{Stop}
@@ -43,7 +40,7 @@ use Rattle.soar_app.specs.States.{session_of}
 use Rattle.soar_app.specs.Steps.{Obeys, watch}
 use Rattle.soar_app.specs.Telling.{front_told}
 use Rattle.soar_app.specs.declared.state.Session.{Session as SessionKept}
-use Rattle.soar_app.proofs.CourseLemmas.{front_words, limit_words, run_plain}
+use Rattle.soar_app.proofs.CourseLemmas.{nothing, front_words, limit_words, run_plain}
 use Rattle.soar_app.proofs.QuietLemmas.{quiet_written, settling_quiet, settling_silent}
 use Rattle.soar_app.proofs.SessionLemmas.{IsSame, obeys_same, drawn_same, not_passed, is_passed, drawn_stops}
 use Rattle.soar_app.proofs.SoundLemmas.{with_rules}
@@ -100,9 +97,6 @@ settling_goes_on : (a : Agent) (held : Trimmed) → halting (resettled a held) �
 unfolding resettled
 settling_goes_on a held = ap (λ (h : Bool). record (resettled a held).agent { halted = h }) (or_false a.halted)
 
-abbrev nothing : Bool → Written
-nothing mid = record { text = []; mid_line = mid }
-
 -- what settling tells writes nothing
 settling_front : (mid : Bool) (a : Agent) (held : Trimmed) → front_told watch mid (told_by a (resettled a held) ∷ []) ≡ nothing mid
 settling_front mid a held =
@@ -117,7 +111,7 @@ settling_front mid a held =
 abbrev with_kept : AgentKept → SessionKept → SessionKept
 with_kept a s = record s { agent = a }
 
-pub changes : (s : SessionKept) (a : AgentKept) (inputs : List Triple) (history : List Past) (said : List ℕ) → IsSound a → Stepped a (Changing.with_inputs s.agent history inputs)
+pub changes : (s : SessionKept) (a : AgentKept) (inputs : List Triple) (history : List Past) (said : List ℕ) → IsSound a → Stepped a (inputs_put s.agent history inputs)
     → Obeys s.mid_line (with_inputs inputs (session_of s history)) (with_kept a s) said said (Ok false)
 changes s a inputs history said sound stepped =
     let old : Agent = agent_of s.agent history in
@@ -133,7 +127,8 @@ changes s a inputs history said sound stepped =
       kept = sound;
     }
 
-pub changes_none : (s new : SessionKept) (inputs : List Triple) (history : List Past) (said : List ℕ) (why : Stop) → ChangesInputs s.agent new.agent history inputs (Err why) → new.mid_line ≡ s.mid_line
+pub changes_none : (s new : SessionKept) (inputs : List Triple) (history : List Past) (said : List ℕ) (why : Stop)
+    → ChangesInputs s.agent new.agent history inputs (Err why) → new.mid_line ≡ s.mid_line
     → Obeys s.mid_line (with_inputs inputs (session_of s history)) new said said (Err why)
 changes_none s new inputs history said (stop.Limit limit) passed same =
     let old : Agent = agent_of s.agent history in
@@ -190,16 +185,13 @@ given_unknown s history (Word word) = refl
 given_unknown s history (Int value) = refl
 
 unknown_first : (letters : List ℕ) (words : Texts) (a b c : Sym)
-    → Carrying.or_else (if is_given_by letters a then None else Some (symbol_text words a)) (Carrying.or_else None (Carrying.or_else (if is_given_by letters b then None else Some (symbol_text words b))
+    → or_text (if is_given_by letters a then None else Some (symbol_text words a)) (or_text None (or_text (if is_given_by letters b then None else Some (symbol_text words b))
     (if is_given_by letters c then None else Some (symbol_text words c))))
     ≡ option_map (symbol_text words) (first_not_given letters (a ∷ b ∷ c ∷ []))
 unknown_first letters words a b c = by (is_given_by letters a) (is_given_by letters b) (is_given_by letters c)
   where
-    text : Sym → List ℕ
-    text s = symbol_text words s
-
     by : (x y z : Bool)
-        → Carrying.or_else (if x then None else Some (symbol_text words a)) (Carrying.or_else None (Carrying.or_else (if y then None else Some (symbol_text words b)) (if z then None else Some (symbol_text words c))))
+        → or_text (if x then None else Some (symbol_text words a)) (or_text None (or_text (if y then None else Some (symbol_text words b)) (if z then None else Some (symbol_text words c))))
         ≡ option_map (symbol_text words) (if x then (if y then (if z then None else Some c) else Some b) else Some a)
     by true true true = refl
     by true true false = refl
@@ -211,11 +203,13 @@ pub unknown_symbols : (s : SessionKept) (history : List Past) (attr value : Sym)
     → first_unknown true (session_of s history) (is_symbol top) (is_symbol attr) (is_symbol value)
     ≡ option_map (symbol_text s.agent.table) (first_not_given s.agent.letters (top ∷ attr ∷ value ∷ []))
 unknown_symbols s history attr value sound =
+    let unknown : Sym → Option (List ℕ) = λ symbol. unknown_in (session_of s history) (is_symbol symbol) in
+    let unless_given : Sym → Option (List ℕ) = λ symbol. if is_given_by s.agent.letters symbol then None else Some (symbol_text s.agent.table symbol) in
     let reached : unreached_in (session_of s history) (is_symbol top) ≡ None =
     ap (λ (o : Option ℕ). if is_some o then None else Some (symbol_text s.agent.table top)) (top_level s history sound) in
-    ap (λ o. Carrying.or_else (unknown_in (session_of s history) (is_symbol top)) (Carrying.or_else o (Carrying.or_else (unknown_in (session_of s history) (is_symbol attr)) (unknown_in (session_of s history) (is_symbol value))))) reached
-    ∙ (ap (λ o. Carrying.or_else (unknown_in (session_of s history) (is_symbol top)) (Carrying.or_else None (Carrying.or_else o (unknown_in (session_of s history) (is_symbol value))))) (given_unknown s history attr)
-    ∙ (ap (λ o. Carrying.or_else (unknown_in (session_of s history) (is_symbol top)) (Carrying.or_else None (Carrying.or_else (if is_given_by s.agent.letters attr then None else Some (symbol_text s.agent.table attr)) o))) (given_unknown s history value)
+    ap (λ o. or_text (unknown top) (or_text o (or_text (unknown attr) (unknown value)))) reached
+    ∙ (ap (λ o. or_text (unknown top) (or_text None (or_text o (unknown value)))) (given_unknown s history attr)
+    ∙ (ap (λ o. or_text (unknown top) (or_text None (or_text (unless_given attr) o))) (given_unknown s history value)
     ∙ unknown_first s.agent.letters s.agent.table top attr value))
 
 and_true : (b : Bool) → (b && true) ≡ b
@@ -229,11 +223,11 @@ top_reserved s history attr value sound = subst (λ goals. is_operator_slot goal
 -- what is done with an element of the top state, once its identifiers were found
 pub adds : (s : SessionKept) (history : List Past) (attr value : Sym) → IsSound s.agent
     → added (spelled (session_of s history) (is_symbol top) (is_symbol attr) (is_symbol value))
-    ≡ (if symbol_eq attr (Word 7) then Carrying.refuses Orders.reserved_attribute
+    ≡ (if symbol_eq attr (Word 7) then refuses reserved_attribute
     else unless_there (spelled (session_of s history) (is_symbol top) (is_symbol attr) (is_symbol value)) (tag_of (plain_triple top attr value) s.agent.memory.elements))
 adds s history attr value sound =
-    let t : Carrying.Spelled = spelled (session_of s history) (is_symbol top) (is_symbol attr) (is_symbol value) in
+    let t : Spelled = spelled (session_of s history) (is_symbol top) (is_symbol attr) (is_symbol value) in
     let found : is_top_level (session_of s history) top ≡ true = ap (λ (o : Option ℕ). elim o as (λ _. Bool) [ Some n ↦ n == 1 | None ↦ false ]) (top_level s history sound) in
-    ap (λ b. if not b then Carrying.refuses Orders.not_of_the_top_state else if is_reserved (session_of s history) (plain_triple top attr value) then Carrying.refuses Orders.reserved_attribute
+    ap (λ b. if not b then refuses not_of_the_top_state else if is_reserved (session_of s history) (plain_triple top attr value) then refuses reserved_attribute
     else unless_there t (tag_of (plain_triple top attr value) s.agent.memory.elements)) found
-    ∙ ap (λ b. if b then Carrying.refuses Orders.reserved_attribute else unless_there t (tag_of (plain_triple top attr value) s.agent.memory.elements)) (top_reserved s history attr value sound)
+    ∙ ap (λ b. if b then refuses reserved_attribute else unless_there t (tag_of (plain_triple top attr value) s.agent.memory.elements)) (top_reserved s history attr value sound)

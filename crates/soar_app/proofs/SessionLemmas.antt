@@ -51,7 +51,9 @@ pub obeys_same : (mid : Bool) (first second : Reply) (new : SessionKept) (before
     → Obeys mid second new before after result → Obeys mid first new before after result
 obeys_same mid first second new before after (Ok answer) same r = record {
   history = r.history;
-  session = r.session ∙ sym (ap (λ (s : Session). record s { mid_line = (front_told watch mid first.told).mid_line }) same.session ∙ ap (λ (w : Written). record second.session { mid_line = w.mid_line }) (same.front mid));
+  session = r.session
+      ∙ sym (ap (λ (s : Session). record s { mid_line = (front_told watch mid first.told).mid_line }) same.session
+      ∙ ap (λ (w : Written). record second.session { mid_line = w.mid_line }) (same.front mid));
   within = same.limit ∙ r.within;
   text = r.text ∙ ap (λ (w : Written). before ++ w.text) (sym (same.front mid));
   refused = r.refused ∙ sym same.refused;

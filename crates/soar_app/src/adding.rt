@@ -66,6 +66,7 @@ impl Session {
             None => self.add_new(alloc, addition, out),
         }
     }
+
     /// Refuses a triple that working memory has.
     fn refuse_twice(
         &mut self,

@@ -1,14 +1,16 @@
 // Running cycles.
-ghost use Rattle.std.specs.Prelude.{◌≡◌, ◌++◌, List as ListOf, not, true, IfOk};
+ghost use Rattle.std.specs.Prelude.{◌≡◌, ℕ, Bool, List as ListOf, true, IfOk};
+ghost use Rattle.defs_soar.specs.Cycle.{cut_line};
+ghost use Rattle.defs_soar.specs.Events.{proposal_phase};
 ghost use Rattle.defs_soar.specs.History.{Past};
-ghost use Rattle.defs_soar.specs.Phases.{phase};
+ghost use Rattle.defs_soar.specs.Phases.{Course, phase};
 ghost use Rattle.defs_soar.specs.Trace.{is_mid_after};
 ghost use Rattle.defs_run.specs.Carrying.{carried_out};
 ghost use Rattle.defs_run.specs.Orders.{run_cycles};
 ghost use Rattle.defs_run.specs.Present.{cycle, run_present};
 ghost use Rattle.soar_cycle.specs.Seen.{IsSound, agent_of};
 ghost use Rattle.soar_app.specs.Carries.{Carries};
-ghost use Rattle.soar_app.specs.Courses.{Goes, GoesPhase};
+ghost use Rattle.soar_app.specs.Courses.{Goes, GoesPhase, Went};
 
 use crate::said::say_line;
 use crate::state::Session;
@@ -64,12 +66,22 @@ impl Session {
         }
         self.agent.cycles += 1;
         match self.propose(alloc, out) {
-            Ok(true) => {
-                say_line(out, &mut self.mid_line, "cut proposal")?;
-                Ok(())
-            }
-            Ok(false) => Ok(()),
+            Ok(cut) => self.say_cut(cut, out),
             Err(stop) => Err(stop),
+        }
+    }
+
+    /// Says that the phase was cut, where it was.
+    fn say_cut(&mut self, cut: bool, out: &mut Text) -> Result<(), Stop>
+        requires { IsSound self.old.agent }
+        ensures course { (mid_line : Bool) (c : Course) (before : ListOf ℕ) → Went mid_line c self.old before out.old → Goes mid_line (cut_line proposal_phase cut c) self.new before out.new result }
+        ensures sound { IfOk result (λ _. IsSound self.new.agent) }
+    {
+        if cut {
+            say_line(out, &mut self.mid_line, "cut proposal")?;
+            Ok(())
+        } else {
+            Ok(())
         }
     }
 

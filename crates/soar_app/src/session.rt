@@ -37,6 +37,7 @@ impl Session {
             mid_line: false,
         })
     }
+
     /// Carries a command of a line out, appends what it says, and tells whether it was refused.
     pub fn obey(
         &mut self,
