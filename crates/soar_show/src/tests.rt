@@ -1,3 +1,5 @@
+ghost use Rattle.std.specs.Prelude.{◌≡◌, true};
+
 use crate::{show_element, show_instance, show_symbol};
 use defs_match::Instance;
 use soar_sym::{List, Sym, SymTable, Text};
@@ -99,50 +101,38 @@ fn instances_are_named_with_their_tags(rt: HostRuntime) -> Result<(), Fail> {
     Ok(())
 }
 
-#[test]
-fn elements_are_tagged_triples(rt: HostRuntime) -> Result<(), Fail> {
-    let mut table = SymTable::new(rt.alloc())?;
-    let attr = table.intern("a")?;
-    let value = table.intern("b")?;
-    let top = Sym::Ident {
-        letter: b'S',
-        number: 1,
-    };
-    let mut out = Text::from_str(rt.alloc(), "x\n")?;
-    let plain = Element {
-        tag: 6,
-        id: top,
-        attr,
-        value,
-        accept: false,
-        of_state: true,
-    };
-    show_element(&mut out, &table, &plain)?;
-    out.push('\n')?;
-    let proposed = Element {
-        tag: 7,
-        id: top,
-        attr: table.intern("operator")?,
-        value: Sym::Ident {
-            letter: b'O',
+/// `(S1 ^operator VALUE)` under a tag.
+fn candidate(tag: u32, value: Sym, accept: bool) -> Element
+    ensures { result ≡ record { tag = tag; id = Sym.Ident 83 1; attr = Sym.Word 7; value = value; accept = accept; of_state = true } }
+{
+    Element {
+        tag,
+        id: Sym::Ident {
+            letter: b'S',
             number: 1,
         },
-        accept: true,
+        attr: Sym::Word(7),
+        value,
+        accept,
         of_state: true,
-    };
-    show_element(&mut out, &table, &proposed)?;
-    out.push('\n')?;
-    let barred = Element {
-        tag: 4_294_967_295,
-        id: value,
-        attr: Sym::Int(-5),
-        value: table.intern("S1")?,
-        accept: false,
-        of_state: false,
-    };
-    show_element(&mut out, &table, &barred)?;
-    assert!(rt;
-        out.as_str() == "x\n6: (S1 ^a b)\n7: (S1 ^operator O1 +)\n4294967295: (b ^-5 |S1|)"
-    );
+    }
+}
+
+#[test]
+fn elements_are_tagged_triples(rt: HostRuntime) -> Result<(), Fail> {
+    let table = SymTable::new(rt.alloc())?;
+    let mut out = Text::new(rt.alloc());
+    show_element(&mut out, &table, &candidate(6, Sym::Int(-5), false))?;
+    assert!(rt; out.as_str() == "6: (S1 ^operator -5)");
+    Ok(())
+}
+
+#[test]
+fn a_mark_stands_behind_the_value(rt: HostRuntime) -> Result<(), Fail> {
+    let table = SymTable::new(rt.alloc())?;
+    let mut out = Text::new(rt.alloc());
+    let name = Sym::Word(1);
+    show_element(&mut out, &table, &candidate(4_294_967_295, name, true))?;
+    assert!(rt; out.as_str() == "4294967295: (S1 ^operator nil +)");
     Ok(())
 }
