@@ -13,14 +13,9 @@ pub mod Orders
 pub mod Present
 pub mod RandomReading
 pub mod Runs
-pub mod Said
-pub mod Session
 pub mod Sessions
 pub mod Sources
-pub mod Stage
 pub mod Stages
-pub mod Transcript
 pub mod Transcripts
 pub mod Whole
 pub mod WholeReading
-pub mod Worked

@@ -1,5 +1,5 @@
--- The production of an outline, and the list of rules once it is loaded (Soar manual, sp).
-use Rattle.std.specs.Prelude.{ℕ, ◌+◌, Bool, false, not, List, [], ◌∷◌, ◌++◌, map, filter, None, if◌then◌else◌}
+-- The production of an outline (Soar manual, sp).
+use Rattle.std.specs.Prelude.{ℕ, ◌+◌, Bool, false, List, [], ◌∷◌, ◌++◌, map, None, if◌then◌else◌}
 use Rattle.std.specs.List.{list_any}
 use Rattle.soar_sym.specs.Equality.{symbol_eq}
 use Rattle.soar_sym.specs.declared.symbol.Sym.{Sym}
@@ -12,7 +12,6 @@ use Rattle.soar_rule.specs.declared.production.Kind.TheVariants.{User}
 use Rattle.soar_rule.specs.declared.production.Support.TheVariants.{Unset}
 use Rattle.soar_rule.specs.Conditions.{Condition, positive, all_of}
 use Rattle.soar_rule.specs.Productions.{atom_value, accepts, ActionOf, makes, ProductionOf}
-use Rattle.defs_match.specs.Rules.{RuleOf}
 use Rattle.defs_run.specs.declared.form.Operand.{Operand}
 use Rattle.defs_run.specs.declared.form.Operand.TheVariants.{Variable, Constant}
 use Rattle.defs_run.specs.declared.form.Group.{Group}
@@ -77,15 +76,3 @@ production_of outline = record {
   conditions = all_of (map (condition_in (names_of outline)) outline.conditions);
   actions = map (action_in (names_of outline)) outline.makes;
 }
-
--- ---- rules
-
-abbrev pub is_named : Sym → RuleOf → Bool
-is_named name rule = symbol_eq name rule.production.name
-
-abbrev pub without_name : Sym → List RuleOf → List RuleOf
-without_name name rules = filter (λ rule. not (is_named name rule)) rules
-
--- the rules with this production in the place of that of its name, last and under this number
-abbrev pub with_rule : List RuleOf → ℕ → ProductionOf → List RuleOf
-with_rule rules number production = without_name production.name rules ++ record { number = number; production = production } ∷ []

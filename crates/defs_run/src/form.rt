@@ -31,10 +31,13 @@ pub struct Addition {
     pub value: Sym,
 }
 
-/// What a command of the right form asks for.
+/// What a command of the right form asks for. A count of cycles is from 1 to 1,000,000.
 #[derive(Debug, Drop)]
 pub enum Order {
     Load(Outline),
     Add(Addition),
+    Remove(u64),
+    Run(u32),
     Matches,
+    Print(Sym),
 }

@@ -19,3 +19,34 @@ abbrev pub NotBuiltYet : Type 0
 NotBuiltYet =
     WritesNow (codes "add-wme S1 ^a <x>\nsp {n -(state <s> ^a 1) --> (<s> ^b 1)}\nexcise n\nprint n\nprint Q9\nremove-wme 5\nremove-wme 99\nrun 0\nadd-wme S1 ^a 1\nadd-wme S1 ^a 1\n")
     (codes "error 18 -:1: not built\nerror 18 -:2: not built\nerror 10 -:3: unknown command\nerror 18 -:4: not built\nerror 31 -:5: unknown identifier Q9\nerror 34 -:6: not an input element 5\nerror 33 -:7: no element 99\nerror 18 -:8: not built\nerror 35 -:10: already there as 6\n") status.Refusals
+
+-- ---- reading and matching
+
+abbrev pub EmptyInput : Type 0
+EmptyInput = WritesNow [] [] status.Done
+
+abbrev pub OneElementTwice : Type 0
+OneElementTwice =
+    WritesNow (codes "sp {two (state <s> ^a <x>) (<s> ^a <y>) --> (<s> ^b <x>)}\nmatches\nadd-wme S1 ^a 1\nmatches\n") (codes "no matches\ntwo: 6 6\n") status.Done
+
+-- a production in the place of another of its name goes last, and names are printed as symbols are
+abbrev pub ReplacedAndBarred : Type 0
+ReplacedAndBarred =
+    WritesNow (codes "sp {S1 (state <s> ^type state) --> }\nsp {|a b| (state <s> ^type state) --> }\nmatches\nsp {S1 (state <s> ^superstate nil) --> }\nmatches")
+    (codes "|S1|: 5\n|a b|: 5\n|a b|: 5\n|S1|: 4\n") status.Done
+
+-- a join over three elements, in order of the first tag, then the second
+abbrev pub Joined : Type 0
+Joined =
+    WritesNow (codes " \nsp {j (state <s> ^a <x>) (<s> ^b <x>) --> (<s> ^c <y>) (<y> ^d 1)}\nadd-wme S1 ^b 2\nadd-wme S1 ^a 2\nadd-wme S1 ^a 1\nadd-wme S1 ^b 1\nadd-wme S1 ^b |2|\nmatches\n")
+    (codes "j: 7 6\nj: 8 9\n") status.Done
+
+-- what is of no form: an unconnected group, an operator, a comment, more behind, a float, an identifier as value
+abbrev pub Forms : Type 0
+Forms =
+    WritesNow (codes "sp {a (state <s> ^a 1) (<t> ^b 2) --> }\nsp {a (state <s> ^a 1) --> (<s> ^operator 1)}\nmatches #\nmatches now\nadd-wme S1 ^a 1.5\nadd-wme S1 ^a S1\nadd-wme S1 ^a |S1|\nmatches{\nsp")
+    (codes "error 18 -:1: not built\nerror 18 -:2: not built\nerror 18 -:3: not built\nerror 18 -:4: not built\nerror 18 -:5: not built\nerror 18 -:6: not built\nerror 18 -:8: not built\nerror 18 -:9: not built\n") status.Refusals
+
+-- no word of the command line is taken
+abbrev pub WordsGiven : Type 0
+WordsGiven = present_transcript (codes "a" ∷ []) [] (codes "matches\n") ≡ record { text = codes "usage: soar_app [--watch N] [--generate N] [FILE]...\n"; status = status.Usage }

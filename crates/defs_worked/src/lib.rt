@@ -84,4 +84,10 @@ pub fn worked_learning()
 pub fn worked_present()
     ensures made_and_gone { present.MadeAndGone }
     ensures not_built_yet { present.NotBuiltYet }
+    ensures empty_input { present.EmptyInput }
+    ensures one_element_twice { present.OneElementTwice }
+    ensures replaced_and_barred { present.ReplacedAndBarred }
+    ensures joined { present.Joined }
+    ensures forms { present.Forms }
+    ensures words_given { present.WordsGiven }
 {}

@@ -2,56 +2,125 @@
 use Rattle.std.proofs.Common.{◌≡◌, ℕ, ◌^◌, ◌≤◌, ◌||◌, ◌∙◌, Bool, true, false, nat_lt, List, [], ◌∷◌, length, take, Option, Some, None, map, String, Global, string_bytes, refl, sym, ap, subst, arith}
 use Rattle.std.specs.Prelude.{IfSome, if◌then◌else◌}
 use Rattle.std.proofs.lemmas.Grind.{common_steps}
-use Rattle.soar_edge.specs.Outside.{AppendsSome}
+use Rattle.soar_edge.specs.Outside.{Appends, AppendsSome}
 use Rattle.soar_edge.specs.declared.filed.Filed.{Filed}
 use Rattle.soar_edge.specs.declared.status.Status.{Status}
 use Rattle.soar_edge.specs.declared.status.Status.TheVariants as status
 use Rattle.defs_run.specs.Commands.{CommandOf, commands_of, whole_part}
-use Rattle.defs_soar.specs.Limits.{first_passed}
-use Rattle.defs_run.specs.Session.{State, obeyed, first_state}
-use Rattle.defs_run.specs.Transcript.{run_from, input_run, transcript, usage_text}
+use Rattle.defs_run.specs.Present.{present_transcript}
+use Rattle.defs_run.specs.Sessions.{Session, first_session}
+use Rattle.defs_run.specs.Transcripts.{Transcript, usage_text}
 use Rattle.defs_soar.specs.declared.limit.Which.{Which}
-use Rattle.soar_app.specs.Answers.{IsComplete}
+use Rattle.soar_app.specs.Answers.{Answers, Faults, IsComplete, IsTranscript}
+use Rattle.soar_app.specs.Runs.{reply_to, session_after, run_from, end_status, whole_run}
+use Rattle.soar_app.specs.Telling.{limit_told}
+use Rattle.soar_app.specs.declared.run.End.{End}
+use Rattle.soar_app.specs.declared.run.End.TheVariants as ends
+use Rattle.soar_app.proofs.PresentLemmas.{present_run}
 use Rattle.soar_app.proofs.RunLemmas.{one_command, last_command}
 
 -- what stands for words that are there
 pub prefix_usage : (left old new : Option (List ℕ)) (P : List Filed → Type 0) (words : List (String Global)) → (words ≡ [] → ⊥) → AppendsSome old new usage_text
-    → IfSome left (λ bytes. (stock : List Filed) → P stock → AppendsSome old new (transcript (map string_bytes words) stock bytes).text)
+    → IfSome left (λ bytes. (stock : List Filed) → P stock → AppendsSome old new (present_transcript (map string_bytes words) stock bytes).text)
 prefix_usage None old new P words there h = tt
 prefix_usage (Some bytes) old new P [] there h = absurd (there refl)
 prefix_usage (Some bytes) old new P (word ∷ words) there h = λ stock told. h
 
+-- what holds of the run of an input holds of the transcript without words
+pub told_run : (left : Option (List ℕ)) (P : List Filed → Type 0) (Q : List ℕ → Transcript → Type 0) (words : List (String Global)) (run : Transcript)
+    → words ≡ [] → IfSome left (λ bytes. run ≡ whole_run bytes) → IfSome left (λ bytes. Q bytes run)
+    → IfSome left (λ bytes. (stock : List Filed) → P stock → Q bytes (present_transcript (map string_bytes words) stock bytes))
+told_run None P Q words run none is holds = tt
+told_run (Some bytes) P Q [] run none is holds = λ stock told. subst (Q bytes) (is ∙ sym (present_run stock bytes)) holds
+told_run (Some bytes) P Q (word ∷ words) run none is holds = λ stock told. absurd (cc)
+
+-- ---- the clauses for a run of the commands
+
+always_told : (left : Option (List ℕ)) (P : Type 0) → P → IfSome left (λ bytes. P)
+always_told None P h = tt
+always_told (Some bytes) P h = h
+
+-- the commands of a slice that is this text
+pub transcript_of : (old new : Option (List ℕ)) (answer : Status) (too_long : Bool) (end : End) (slice text : List ℕ)
+    → Appends old new (run_from too_long (first_session 1) false (commands_of slice)).text
+    → end_status too_long end ≡ (run_from too_long (first_session 1) false (commands_of slice)).status
+    → answer ≡ end_status too_long end → slice ≡ text → IsTranscript old new answer (run_from too_long (first_session 1) false (commands_of text))
+transcript_of old new answer too_long end slice text written ends it is = record {
+  text = subst (λ t. Appends old new (run_from too_long (first_session 1) false (commands_of t)).text) is written;
+  status = it ∙ ends ∙ ap (λ t. (run_from too_long (first_session 1) false (commands_of t)).status) is;
+}
+
+pub prefix_of : (old new : Option (List ℕ)) (too_long : Bool) (slice text : List ℕ) → AppendsSome old new (run_from too_long (first_session 1) false (commands_of slice)).text
+    → slice ≡ text → AppendsSome old new (run_from too_long (first_session 1) false (commands_of text)).text
+prefix_of old new too_long slice text some is = subst (λ t. AppendsSome old new (run_from too_long (first_session 1) false (commands_of t)).text) is some
+
+pub headline_run : (left : Option (List ℕ)) (P : List Filed → Type 0) (A B C D : Type 0) (old new : Option (List ℕ)) (answer : Status) (words : List (String Global)) (run : Transcript)
+    → words ≡ [] → IfSome left (λ bytes. run ≡ whole_run bytes) → IsTranscript old new answer run
+    → IfSome left (λ bytes. (stock : List Filed) → P stock → A → B → C → D → IsTranscript old new answer (present_transcript (map string_bytes words) stock bytes))
+headline_run left P A B C D old new answer words run none is it =
+    told_run left P (λ bytes t. A → B → C → D → IsTranscript old new answer t) words run none is (always_told left _ (λ a b c d. it))
+
+pub prefix_run : (left : Option (List ℕ)) (P : List Filed → Type 0) (old new : Option (List ℕ)) (words : List (String Global)) (run : Transcript)
+    → words ≡ [] → IfSome left (λ bytes. run ≡ whole_run bytes) → AppendsSome old new run.text
+    → IfSome left (λ bytes. (stock : List Filed) → P stock → AppendsSome old new (present_transcript (map string_bytes words) stock bytes).text)
+prefix_run left P old new words run none is some = told_run left P (λ bytes t. AppendsSome old new t.text) words run none is (always_told left _ some)
+
+-- the answer of a run whose commands ended so
+answers_end : (before now : Faults) (bytes : List ℕ) (left old new : Option (List ℕ)) (run : Transcript) (too_long : Bool) (end : End)
+    → now ≡ before → (too_long ≡ false → left ≡ Some []) → IsTranscript old new (end_status too_long end) run → Answers before now bytes left old new run (end_status too_long end)
+answers_end before now bytes left old new run true (ends.All refused) calm rest it = (calm, it)
+answers_end before now bytes left old new run false (ends.All true) calm rest it = ((calm, it), rest refl)
+answers_end before now bytes left old new run false (ends.All false) calm rest it = ((calm, it), rest refl)
+answers_end before now bytes left old new run too_long ends.Limit calm rest it = (calm, it)
+
+pub answers_run : (left : Option (List ℕ)) (P : List Filed → Type 0) (before now : Faults) (rest old new : Option (List ℕ)) (answer : Status) (words : List (String Global)) (run : Transcript)
+    → (too_long : Bool) (end : End) → words ≡ [] → IfSome left (λ bytes. run ≡ whole_run bytes)
+    → IsTranscript old new answer run → answer ≡ end_status too_long end → now ≡ before → IfSome left (λ bytes. too_long ≡ false → rest ≡ Some [])
+    → IfSome left (λ bytes. (stock : List Filed) → P stock → Answers before now bytes rest old new (present_transcript (map string_bytes words) stock bytes) answer)
+answers_run left P before now rest old new answer words run too_long end none is it ended calm read =
+    told_run left P (λ bytes t. Answers before now bytes rest old new t answer) words run none is (by left read)
+  where
+    by : (l : Option (List ℕ)) → IfSome l (λ bytes. too_long ≡ false → rest ≡ Some []) → IfSome l (λ bytes. Answers before now bytes rest old new run answer)
+    by None read = tt
+    by (Some bytes) read =
+        subst (Answers before now bytes rest old new run) (sym ended)
+        (answers_end before now bytes rest old new run too_long end calm read (subst (λ a. IsTranscript old new a run) ended it))
+
+pub same_faults : (source source_now shelf sink sink_now : ℕ) → source_now ≡ source → sink_now ≡ sink
+    → (let f : Faults = record { source = source_now; shelf = shelf; sink = sink_now } in f) ≡ record { source = source; shelf = shelf; sink = sink }
+same_faults source source_now shelf sink sink_now same same_sink = cc
+
 -- ---- completeness
 
 -- commands that reach no limit are all carried out
-ends_well : (s : State) (refused : Bool) (commands : List CommandOf) → ((run_from false s refused commands).status ≡ status.Limit → ⊥) → IsComplete (run_from false s refused commands).status
+ends_well : (s : Session) (refused : Bool) (commands : List CommandOf) → ((run_from false s refused commands).status ≡ status.Limit → ⊥) → IsComplete (run_from false s refused commands).status
 ends_well s true [] free = tt
 ends_well s false [] free = tt
-ends_well s refused (c ∷ commands) free = by (first_passed (obeyed s c).drawn) refl (λ next again. ends_well next (refused || again) commands)
+ends_well s refused (c ∷ commands) free = by (limit_told (reply_to c s).told) refl (λ next again. ends_well next (refused || again) commands)
   where
-    by : (o : Option Which) → first_passed (obeyed s c).drawn ≡ o
-        → ((next : State) (again : Bool) → ((run_from false next (refused || again) commands).status ≡ status.Limit → ⊥) → IsComplete (run_from false next (refused || again) commands).status)
+    by : (o : Option Which) → limit_told (reply_to c s).told ≡ o
+        → ((next : Session) (again : Bool) → ((run_from false next (refused || again) commands).status ≡ status.Limit → ⊥) → IsComplete (run_from false next (refused || again) commands).status)
         → IsComplete (run_from false s refused (c ∷ commands)).status
     by None within later =
         let step = ap (λ t. t.status) (one_command false refused s c commands within) in
-        subst IsComplete (sym step) (later (obeyed s c).state (obeyed s c).refused (λ e. free (step ∙ e)))
+        subst IsComplete (sym step) (later (session_after s (reply_to c s)) (reply_to c s).refused (λ e. free (step ∙ e)))
     by (Some limit) passed later = absurd (free (ap (λ t. t.status) (last_command false refused s c commands limit passed)))
 
 test_false : (n m : ℕ) → m ≤ n → nat_lt n m ≡ false
 test_false n m h = grind (arith, common_steps)
 
-input_ends_well : (bytes : List ℕ) → length bytes ≤ 2 ^ 26 → ((input_run bytes).status ≡ status.Limit → ⊥) → IsComplete (input_run bytes).status
+input_ends_well : (bytes : List ℕ) → length bytes ≤ 2 ^ 26 → ((whole_run bytes).status ≡ status.Limit → ⊥) → IsComplete (whole_run bytes).status
 input_ends_well bytes short free =
-    let is : input_run bytes ≡ run_from false first_state false (commands_of bytes) =
-    ap (λ b. if b then run_from true first_state false (commands_of (whole_part (take (2 ^ 26) bytes))) else run_from false first_state false (commands_of bytes)) (test_false (2 ^ 26) (length bytes) short) in
-    subst IsComplete (sym (ap (λ t. t.status) is)) (ends_well first_state false (commands_of bytes) (λ e. free (ap (λ t. t.status) is ∙ e)))
+    let is : whole_run bytes ≡ run_from false (first_session 1) false (commands_of bytes) =
+    ap (λ b. if b then run_from true (first_session 1) false (commands_of (whole_part (take (2 ^ 26) bytes))) else run_from false (first_session 1) false (commands_of bytes)) (test_false (2 ^ 26) (length bytes) short) in
+    subst IsComplete (sym (ap (λ t. t.status) is)) (ends_well (first_session 1) false (commands_of bytes) (λ e. free (ap (λ t. t.status) is ∙ e)))
 
 -- the status of a run of an input that is whole
 pub complete_run : (left : Option (List ℕ)) (P : List Filed → Type 0) (A B C : Type 0) (words : List (String Global)) (too_long : Bool) (text : List ℕ) (answer : Status)
-    → IfSome left (λ bytes. run_from too_long first_state false (commands_of text) ≡ input_run bytes)
-    → answer ≡ (run_from too_long first_state false (commands_of text)).status
-    → IfSome left (λ bytes. (stock : List Filed) → P stock → words ≡ [] → length bytes ≤ 2 ^ 26 → ((transcript (map string_bytes words) stock bytes).status ≡ status.Limit → ⊥) → A → B → C → IsComplete answer)
+    → IfSome left (λ bytes. run_from too_long (first_session 1) false (commands_of text) ≡ whole_run bytes)
+    → answer ≡ (run_from too_long (first_session 1) false (commands_of text)).status
+    → IfSome left (λ bytes. (stock : List Filed) → P stock → words ≡ [] → length bytes ≤ 2 ^ 26 → ((present_transcript (map string_bytes words) stock bytes).status ≡ status.Limit → ⊥) → A → B → C → IsComplete answer)
 complete_run None P A B C words too_long text answer runs is = tt
 complete_run (Some bytes) P A B C [] too_long text answer runs is = λ stock told none short free a b c.
-    subst IsComplete (sym (is ∙ ap (λ t. t.status) runs)) (input_ends_well bytes short free)
+    subst IsComplete (sym (is ∙ ap (λ t. t.status) runs)) (input_ends_well bytes short (λ e. free (ap (λ t. t.status) (present_run stock bytes) ∙ e)))
 complete_run (Some bytes) P A B C (word ∷ words) too_long text answer runs is = λ stock told none short free a b c. absurd (cc)

@@ -1,5 +1,5 @@
 -- Words of tokens, and the table that they joined.
-use Rattle.std.proofs.Common.{◌≡◌, ℕ, zero, suc, ◌+◌, ◌<◌, ◌≤◌, ◌==◌, Bool, true, false, cond, ◌||◌, List, [], ◌∷◌, ◌++◌, length, map, drop, Some, length-append, refl, ap, arith}
+use Rattle.std.proofs.Common.{◌≡◌, ℕ, zero, suc, ◌+◌, ◌<◌, ◌≤◌, Bool, true, false, ◌||◌, List, [], ◌∷◌, ◌++◌, length, map, drop, Some, length-append, refl, ap, arith}
 use Rattle.std.specs.Prelude.{unwrap_or}
 use Rattle.std.specs.List.{list_any, position_from}
 use Rattle.std.specs.Str.{bytes_eq}
@@ -10,9 +10,7 @@ use Rattle.soar_sym.specs.declared.symbol.Sym.TheVariants.{Ident, Word, Int}
 use Rattle.defs_text.specs.Lexing.{Saying, mark, arrow, open_set, close_set, sign, variable_named, integer, word_of, documentation, Spelled}
 use Rattle.defs_text.specs.Numbered.{word_in, kind_in, numbered, texts_before, token_texts, words_after}
 use Rattle.defs_text.specs.declared.token.Token.{Token}
-use Rattle.defs_match.specs.Rules.{RuleOf}
-use Rattle.defs_run.specs.Session.{rule_name}
-use Rattle.soar_app.specs.Known.{IsKindKnown, AreTokensKnown, AreNamesKnown}
+use Rattle.soar_app.specs.Known.{IsKindKnown, AreTokensKnown, IsSayingIn, AreSpelledIn}
 
 -- ---- the table only grows
 
@@ -86,14 +84,7 @@ word_known words text has =
 
 -- ---- tokens
 
--- the table has the text of the token's word or variable
-HasSaying : Texts → Saying → Type 0
-HasSaying words (variable_named name) = has_text words name ≡ true
-HasSaying words (word_of text bare) = has_text words text ≡ true
-HasSaying words other = Unit {0}
-
-kind_known : (words : Texts) (says : Saying) → HasSaying words says → IsKindKnown words (kind_in words says)
-unfolding HasSaying
+kind_known : (words : Texts) (says : Saying) → IsSayingIn words says → IsKindKnown words (kind_in words says)
 kind_known words (mark b) has = tt
 kind_known words arrow has = tt
 kind_known words open_set has = tt
@@ -104,17 +95,11 @@ kind_known words (integer z) has = tt
 kind_known words (word_of text bare) has = word_known words text has
 kind_known words (documentation text) has = tt
 
-AllHave : Texts → List Spelled → Type 0
-AllHave words [] = Unit {0}
-AllHave words (t ∷ tokens) = HasSaying words t.says × AllHave words tokens
-
-all_known : (words : Texts) (tokens : List Spelled) → AllHave words tokens → AreTokensKnown words (map (numbered words) tokens)
-unfolding AllHave
+all_known : (words : Texts) (tokens : List Spelled) → AreSpelledIn words tokens → AreTokensKnown words (map (numbered words) tokens)
 all_known words [] have = tt
 all_known words (t ∷ tokens) have = (kind_known words t.says have.0, all_known words tokens have.1)
 
-one_has : (words : Texts) (says : Saying) (rest : Texts) → HasSaying (with_texts words (texts_before says rest)) says
-unfolding HasSaying
+one_has : (words : Texts) (says : Saying) (rest : Texts) → IsSayingIn (with_texts words (texts_before says rest)) says
 one_has words (mark b) rest = tt
 one_has words arrow rest = tt
 one_has words open_set rest = tt
@@ -125,7 +110,7 @@ one_has words (integer z) rest = tt
 one_has words (word_of text bare) rest = texts_kept (with_text words text) rest text (text_added words text)
 one_has words (documentation text) rest = tt
 
-behind : (words : Texts) (tokens : List Spelled) (says : Saying) → ((table : Texts) → AllHave (words_after table tokens) tokens) → AllHave (with_texts words (texts_before says (token_texts tokens))) tokens
+behind : (words : Texts) (tokens : List Spelled) (says : Saying) → ((table : Texts) → AreSpelledIn (words_after table tokens) tokens) → AreSpelledIn (with_texts words (texts_before says (token_texts tokens))) tokens
 behind words tokens (mark b) later = later words
 behind words tokens arrow later = later words
 behind words tokens open_set later = later words
@@ -136,36 +121,23 @@ behind words tokens (integer z) later = later words
 behind words tokens (word_of text bare) later = later (with_text words text)
 behind words tokens (documentation text) later = later words
 
-all_have : (words : Texts) (tokens : List Spelled) → AllHave (words_after words tokens) tokens
-unfolding AllHave
-all_have words [] = tt
-all_have words (t ∷ tokens) = (one_has words t.says (token_texts tokens), behind words tokens t.says (λ table. all_have table tokens))
+-- once tokens were read, their texts are in the table
+pub tokens_spelled : (words : Texts) (tokens : List Spelled) → AreSpelledIn (words_after words tokens) tokens
+tokens_spelled words [] = tt
+tokens_spelled words (t ∷ tokens) = (one_has words t.says (token_texts tokens), behind words tokens t.says (λ table. tokens_spelled table tokens))
 
--- once tokens were read, their words are in the table
+-- and their words are known
 pub tokens_known : (words : Texts) (tokens : List Spelled) → AreTokensKnown (words_after words tokens) (map (numbered (words_after words tokens)) tokens)
-tokens_known words tokens = all_known (words_after words tokens) tokens (all_have words tokens)
+tokens_known words tokens = all_known (words_after words tokens) tokens (tokens_spelled words tokens)
 
 pub known_behind : (words : Texts) (count : ℕ) (tokens : List Token) → AreTokensKnown words tokens → AreTokensKnown words (drop count tokens)
 known_behind words zero tokens known = known
 known_behind words (suc count) [] known = tt
 known_behind words (suc count) (t ∷ tokens) known = known_behind words count tokens known.1
 
--- ---- rules
+-- ---- symbols
 
 pub symbol_stays : (old new : Texts) (s : Sym) → length old ≤ length new → IsKnown old s → IsKnown new s
 symbol_stays old new (Ident letter number) more known = known
 symbol_stays old new (Int value) more known = known
 symbol_stays old new (Word word) more known = omega arith
-
-pub names_stay : (old new : Texts) (rules : List RuleOf) → length old ≤ length new → AreNamesKnown old rules → AreNamesKnown new rules
-names_stay old new [] more known = tt
-names_stay old new (rule ∷ rules) more known = (symbol_stays old new rule.production.name more known.0, names_stay old new rules more known.1)
-
--- the name of the rule of a number
-pub name_known : (words : Texts) (rules : List RuleOf) (number : ℕ) → AreNamesKnown words rules → IsKnown words (rule_name rules number)
-name_known words [] number known = tt
-name_known words (rule ∷ rules) number known = by (rule.number == number) (name_known words rules number known.1)
-  where
-    by : (b : Bool) → IsKnown words (rule_name rules number) → IsKnown words (cond b rule.production.name (rule_name rules number))
-    by true later = known.0
-    by false later = later

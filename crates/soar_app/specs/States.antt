@@ -1,8 +1,10 @@
--- The state that a session is in.
-use Rattle.std.specs.Prelude.{map}
-use Rattle.defs_match.specs.Rules.{rule_seen}
-use Rattle.defs_run.specs.Session.{State}
-use Rattle.soar_app.specs.declared.state.Session.{Session}
+-- The session of the definitions that the code's session stands for. No label is taken yet.
+use Rattle.std.specs.Prelude.{List, []}
+use Rattle.defs_soar.specs.History.{Past}
+use Rattle.defs_run.specs.Sessions.{Session}
+use Rattle.soar_cycle.specs.Seen.{agent_of}
+use Rattle.soar_app.specs.declared.state.Session.{Session as SessionKept}
 
-abbrev pub state_of : Session → State
-state_of s = record { words = s.table; memory = s.memory; rules = map rule_seen s.rules; last_rule = s.last_rule }
+-- with this history of firings
+abbrev pub session_of : SessionKept → List Past → Session
+session_of s history = record { agent = agent_of s.agent history; labels = []; mid_line = s.mid_line }

@@ -1,34 +1,47 @@
 -- What the answers of the session's calls say.
 use Rattle.std.specs.Prelude.{◌≡◌, ℕ, Bool, List, ◌++◌, Option, Some, None, Result, Ok, Err}
-use Rattle.defs_soar.specs.Limits.{first_passed, limit_of}
+use Rattle.defs_soar.specs.declared.limit.Which.{Which}
 use Rattle.defs_soar.specs.declared.limit.Which.TheVariants as which
-use Rattle.defs_run.specs.Said.{rendered}
-use Rattle.defs_run.specs.Session.{State, Reply}
-use Rattle.defs_run.specs.Transcript.{watch}
+use Rattle.defs_soar.specs.History.{Past}
+use Rattle.defs_soar.specs.Trace.{Written}
 use Rattle.defs_text.specs.declared.token.LexFault.{LexFault}
 use Rattle.defs_text.specs.declared.token.LexFault.TheVariants as fault
-use Rattle.soar_app.specs.Known.{AreNamesKnown}
-use Rattle.soar_app.specs.declared.stop.Stop.{Stop}
-use Rattle.soar_app.specs.declared.stop.Stop.TheVariants as stop
+use Rattle.defs_run.specs.Sessions.{Reply}
+use Rattle.soar_cycle.specs.Seen.{IsSound}
+use Rattle.soar_cycle.specs.declared.stop.Stop.{Stop}
+use Rattle.soar_cycle.specs.declared.stop.Stop.TheVariants as stop
+use Rattle.soar_app.specs.States.{session_of}
+use Rattle.soar_app.specs.Telling.{limit_told, front_told}
+use Rattle.soar_app.specs.declared.state.Session.{Session as SessionKept}
 
--- what a session keeps: the names of its rules are words of its table, and working memory has the limit of a run
-pub record IsKept (s : State) : Type 0 where
-  pub named : AreNamesKnown s.words s.rules
-  pub limit : s.memory.limit ≡ limit_of which.Elements
+-- the level at which the session writes
+abbrev pub watch : ℕ
+watch = 1
+
+-- what a reply writes behind text that ended in the middle of a line or not
+abbrev pub written_of : Bool → Reply → Written
+written_of mid reply = front_told watch mid reply.told
 
 -- the step passed no limit, its lines were appended, and it was refused or not
-pub record Replied (reply : Reply) (new : State) (before after : List ℕ) (answer : Bool) : Type 0 where
-  pub within : first_passed reply.drawn ≡ None
-  pub state : new ≡ reply.state
-  pub text : after ≡ before ++ rendered watch reply.said
+pub record Replied (mid : Bool) (reply : Reply) (new : SessionKept) (before after : List ℕ) (answer : Bool) : Type 0 where
+  pub history : List Past
+  pub session : session_of new history ≡ record reply.session { mid_line = (written_of mid reply).mid_line }
+  pub within : limit_told reply.told ≡ None
+  pub text : after ≡ before ++ (written_of mid reply).text
   pub refused : answer ≡ reply.refused
-  pub kept : IsKept new
+  pub kept : IsSound new.agent
 
--- the limit is the first that the step passes; only want of memory is free
-abbrev pub Obeys : Reply → State → List ℕ → List ℕ → Result Bool Stop → Type 0
-Obeys reply new before after (Ok answer) = Replied reply new before after answer
-Obeys reply new before after (Err (stop.Limit limit)) = first_passed reply.drawn ≡ Some limit
-Obeys reply new before after (Err stop.NoMemory) = Unit {0}
+-- the limit is the first that the step passes, and what it did before was appended
+pub record Stops (mid : Bool) (reply : Reply) (new : SessionKept) (before after : List ℕ) (limit : Which) : Type 0 where
+  pub passed : limit_told reply.told ≡ Some limit
+  pub text : after ≡ before ++ (written_of mid reply).text
+  pub mid_line : new.mid_line ≡ (written_of mid reply).mid_line
+
+-- each answer, exactly where it comes; only want of memory is free
+abbrev pub Obeys : Bool → Reply → SessionKept → List ℕ → List ℕ → Result Bool Stop → Type 0
+Obeys mid reply new before after (Ok answer) = Replied mid reply new before after answer
+Obeys mid reply new before after (Err (stop.Limit limit)) = Stops mid reply new before after limit
+Obeys mid reply new before after (Err stop.NoMemory) = Unit {0}
 
 -- how a fault of a text's tokens stops a session, where it does
 abbrev pub StopsBy : LexFault → Option Stop → Type 0

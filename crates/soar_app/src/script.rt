@@ -1,9 +1,9 @@
 // The part of the input that is run.
 ghost use Rattle.std.specs.Prelude.{◌≡◌, ◌-◌, ◌<◌, ◌≤◌, ◌^◌, [], false, true, length, take, Some, IfSome, IfOk};
 ghost use Rattle.defs_run.specs.Commands.{commands_of, whole_part};
-ghost use Rattle.defs_run.specs.Session.{first_state};
-ghost use Rattle.defs_run.specs.Transcript.{input_run, run_from};
+ghost use Rattle.defs_run.specs.Sessions.{first_session};
 ghost use Rattle.soar_app.specs.Reading.{InputCause};
+ghost use Rattle.soar_app.specs.Runs.{run_from, whole_run};
 
 use crate::read::{InputFault, read_all};
 use soar_edge::Source;
@@ -23,7 +23,7 @@ pub struct Script {
 /// Reads the input, and leaves what is run of it.
 pub fn read_script<I: Source>(alloc: Global, input: &mut I) -> Result<Script, InputFault>
     requires { I.faults input.old < 2 ^ 64 - 1 }
-    ensures commands { IfSome (I.left input.old) (λ left. IfOk result (λ script. run_from script.too_long first_state false (commands_of script.text) ≡ input_run left)) }
+    ensures commands { IfSome (I.left input.old) (λ left. IfOk result (λ script. run_from script.too_long (first_session 1) false (commands_of script.text) ≡ whole_run left)) }
     ensures rest { IfSome (I.left input.old) (λ left. IfOk result (λ script. script.too_long ≡ false → I.left input.new ≡ Some [])) }
     ensures short { IfOk result (λ script. length script.text ≤ 2 ^ 26) }
     ensures cause { InputCause (I.faults input.old) (I.faults input.new) result }

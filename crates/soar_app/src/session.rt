@@ -1,51 +1,40 @@
-ghost use Rattle.std.specs.Prelude.{◌≡◌, ◌+◌, ◌<◌, ◌≤◌, ◌^◌, Err, map, length, IfOk};
+ghost use Rattle.std.specs.Prelude.{◌≡◌, ℕ, ◌≤◌, ◌<◌, ◌^◌, Err, [], List as ListOf, IfOk, codes, length, map, Some, None};
 ghost use Rattle.soar_sym.specs.Words.{Texts};
 ghost use Rattle.soar_lex.specs.Answers.{IsCut};
-ghost use Rattle.defs_run.specs.Commands.{CommandOf};
-ghost use Rattle.soar_sym.specs.Words.{IsKnown};
-ghost use Rattle.defs_match.specs.Rules.{rule_seen};
-ghost use Rattle.defs_run.specs.Loading.{production_of};
-ghost use Rattle.defs_run.specs.Session.{State, added, carried_out, first_state, loaded, matched, obeyed, obeyed_as, order_by, top_triple};
-ghost use Rattle.soar_wm.specs.WorkingMemory.{tag_of};
-ghost use Rattle.defs_text.specs.Lexing.{Lexed, lexed};
-ghost use Rattle.soar_app.specs.Known.{AreTokensKnown};
-ghost use Rattle.soar_app.specs.States.{state_of};
-ghost use Rattle.soar_app.specs.Steps.{IsKept, Obeys, StopsBy};
+ghost use Rattle.defs_text.specs.Lexing.{Spelled, lexed};
+ghost use Rattle.defs_text.specs.Numbered.{numbered};
+ghost use Rattle.defs_soar.specs.History.{Past};
+ghost use Rattle.defs_run.specs.Carrying.{carried_out};
+ghost use Rattle.defs_run.specs.Present.{Form as FormOf, or_not_built, order_by, present_stage, read_by, read_form, run_present};
+ghost use Rattle.defs_run.specs.Runs.{after_reading, obeyed, ordered_by};
+ghost use Rattle.defs_run.specs.Sessions.{first_session};
+ghost use Rattle.soar_cycle.specs.Seen.{IsSound};
+ghost use Rattle.soar_app.specs.Asked.{form_seen, order_seen};
+ghost use Rattle.soar_app.specs.Carries.{Carries, Replies, with_table};
+ghost use Rattle.soar_app.specs.Known.{AreSpelledIn, AreTokensKnown, IsOrderRead};
+ghost use Rattle.soar_app.specs.States.{session_of};
+ghost use Rattle.soar_app.specs.Steps.{Obeys, StopsBy};
 
 use crate::command::first_run;
-use crate::order::{is_command, order_by};
-use crate::production::production;
-use crate::rules;
-use crate::said::{refuse_not_built, refuse_twice, refuse_unknown, say_matches};
-use crate::start::fill;
+use crate::order::{Form, form_of, order_by};
 use crate::state::Session;
-use crate::stop::Stop;
-use crate::token::behind;
-use defs_run::{Addition, Order, Outline};
+use defs_run::Order;
 use defs_soar::Which;
 use defs_text::Token;
-use match_direct::conflict;
+use soar_cycle::{Agent, Stop};
 use soar_lex::{LexFault, lex};
-use soar_sym::{List, NoMemory, Sym, SymTable, Text, Triple};
-use soar_wm::{AddFault, Memory};
+use soar_sym::{List, NoMemory, Text};
 use std::alloc::Global;
-
-/// The most elements of working memory.
-const MOST_ELEMENTS: u32 = 4_000_000;
 
 impl Session {
     /// The top state with its input and output links, and no rule.
     pub fn new(alloc: Global) -> Result<Session, NoMemory>
-        ensures { IfOk result (λ session. state_of session ≡ first_state) }
+        ensures stands { IfOk result (λ s. session_of s [] ≡ first_session 1) }
+        ensures sound { IfOk result (λ s. IsSound s.agent) }
     {
-        let table = SymTable::new(alloc)?;
-        let mut memory = Memory::new(alloc, MOST_ELEMENTS, 0)?;
-        fill(&mut memory)?;
         Ok(Session {
-            table,
-            memory,
-            rules: List::new(alloc),
-            last_rule: 0,
+            agent: Agent::new(alloc)?,
+            mid_line: false,
         })
     }
 
@@ -58,122 +47,105 @@ impl Session {
         out: &mut Text,
     ) -> Result<bool, Stop>
         requires short { length text.now ≤ 2 ^ 26 }
-        requires kept { IsKept (state_of self.old) }
-        ensures { Obeys (obeyed (state_of self.old) (record { line = line; text = text.now })) (state_of self.new) out.old out.new result }
+        requires sound { IsSound self.old.agent }
+        ensures { (history : ListOf Past) → Obeys self.old.mid_line (obeyed present_stage (codes "-") line text.now (session_of self.old history)) self.new out.old out.new result }
     {
-        if is_command(first_run(text)) {
-            self.obey_built(alloc, line, text, out)
-        } else {
-            refuse_unknown(alloc, line, out)
+        match form_of(first_run(text)) {
+            Some(form) => self.obey_form(alloc, line, form, text, out),
+            None => self.refuse_unknown(alloc, line, out),
         }
     }
 
-    /// Carries out a command whose word is built.
-    fn obey_built(
+    /// Refuses a command whose first word is none.
+    fn refuse_unknown(&mut self, alloc: Global, line: u64, out: &mut Text) -> Result<bool, Stop>
+        requires { IsSound self.old.agent }
+        ensures { Replies self.old self.new (λ s. after_reading present_stage (codes "-") line s (read_by self.old.agent.table [] None)) out.old out.new result }
+    {
+        let _within = self.agent.table.word_count();
+        self.refuse(alloc, line, 10, "unknown command", out)
+    }
+
+    /// Carries out a command whose word has a form.
+    fn obey_form(
         &mut self,
         alloc: Global,
         line: u64,
+        form: Form,
         text: &[u8],
         out: &mut Text,
     ) -> Result<bool, Stop>
         requires short { length text.now ≤ 2 ^ 26 }
-        requires kept { IsKept (state_of self.old) }
-        ensures { Obeys (obeyed_as (record { line = line; text = text.now }) (state_of self.old) (lexed text.now)) (state_of self.new) out.old out.new result }
+        requires sound { IsSound self.old.agent }
+        ensures { Replies self.old self.new (λ s. after_reading present_stage (codes "-") line s (read_form self.old.agent.table text.now (form_seen form) (lexed text.now))) out.old out.new result }
     {
-        let word = first_run(text);
-        let text = List::from_slice(alloc, text)?;
-        let _within = self.table.word_count();
-        match lex(alloc, &mut self.table, &text) {
-            Ok(tokens) => self.carry_out(alloc, line, word, behind(tokens.as_slice(), 1), out),
-            Err(fault) => refuse_fault(alloc, line, fault, out),
+        let bytes = List::from_slice(alloc, text)?;
+        let _within = self.agent.table.word_count();
+        match lex(alloc, &mut self.agent.table, &bytes) {
+            Ok(tokens) => self.obey_tokens(alloc, line, form, text, tokens.as_slice(), out),
+            Err(fault) => self.refuse_fault(alloc, line, fault, out),
         }
     }
 
-    /// Carries out what the tokens behind a command's word ask for.
+    /// Carries out what the tokens of a command ask for.
+    fn obey_tokens(
+        &mut self,
+        alloc: Global,
+        line: u64,
+        form: Form,
+        text: &[u8],
+        tokens: &[Token],
+        out: &mut Text,
+    ) -> Result<bool, Stop>
+        requires sound { IsSound self.old.agent }
+        requires known { AreTokensKnown self.old.agent.table tokens.now }
+        requires few { length tokens.now ≤ 2 ^ 27 }
+        ensures { (spelled : ListOf Spelled) → tokens.now ≡ map (numbered self.old.agent.table) spelled → AreSpelledIn self.old.agent.table spelled
+            → Replies self.old self.new (λ s. ordered_by present_stage (codes "-") line s (or_not_built (order_by (form_seen form) self.old.agent.table text.now spelled))) out.old out.new result }
+    {
+        match order_by(alloc, &self.agent.table, form, text, tokens)? {
+            Some(order) => self.carry_out(alloc, line, order, out),
+            None => self.refuse(alloc, line, 18, "not built", out),
+        }
+    }
+
+    /// Carries out an order.
     fn carry_out(
         &mut self,
         alloc: Global,
         line: u64,
-        word: &[u8],
-        tokens: &[Token],
+        order: Order,
         out: &mut Text,
     ) -> Result<bool, Stop>
-        requires known { AreTokensKnown (state_of self.old).words tokens.now }
-        requires few { length tokens.now ≤ 2 ^ 27 }
-        requires kept { IsKept (state_of self.old) }
-        ensures { Obeys (carried_out line (state_of self.old) (order_by (state_of self.old).words word.now tokens.now)) (state_of self.new) out.old out.new result }
+        requires sound { IsSound self.old.agent }
+        requires read { IsOrderRead self.old.agent.table (Some order) }
+        ensures { Carries self.old self.new line (carried_out run_present (order_seen order)) out.old out.new result }
     {
-        match order_by(alloc, &self.table, word, tokens)? {
-            Some(Order::Load(outline)) => self.load(alloc, &outline, out),
-            Some(Order::Add(addition)) => self.add(alloc, line, addition, out),
-            Some(Order::Matches) => self.list_matches(alloc, out),
-            None => refuse_not_built(alloc, line, out),
+        match order {
+            Order::Load(outline) => self.load(alloc, &outline, out),
+            Order::Add(addition) => self.add(alloc, line, addition, out),
+            Order::Remove(tag) => self.remove(alloc, line, tag, out),
+            Order::Run(count) => self.run(alloc, line, count, out),
+            Order::Matches => self.list_matches(alloc, out),
+            Order::Print(symbol) => self.list_elements(alloc, line, symbol, out),
         }
     }
 
-    /// Loads a production under the next rule number.
-    fn load(&mut self, alloc: Global, outline: &Outline, out: &Text) -> Result<bool, Stop>
-        requires known { IsKnown (state_of self.old).words outline.now.name }
-        requires few { length outline.now.conditions + length outline.now.makes ≤ 2 ^ 27 }
-        requires kept { IsKept (state_of self.old) }
-        ensures { Obeys (loaded (production_of outline.now) (state_of self.old)) (state_of self.new) out.now out.now result }
-    {
-        let _ = out;
-        if self.last_rule >= u64::MAX {
-            return Err(Stop::Limit(Which::Counts));
-        }
-        let production = production(alloc, outline)?;
-        rules::load(&mut self.rules, self.last_rule + 1, production)?;
-        self.last_rule += 1;
-        Ok(false)
-    }
-
-    /// Adds an element of the top state.
-    fn add(
+    /// Refuses a command whose text has a fault, where that does not stop the session.
+    fn refuse_fault(
         &mut self,
         alloc: Global,
         line: u64,
-        addition: Addition,
+        fault: LexFault,
         out: &mut Text,
     ) -> Result<bool, Stop>
-        requires { IsKept (state_of self.old) }
-        ensures { Obeys (added (top_triple addition) line (state_of self.old) (tag_of (top_triple addition) (state_of self.old).memory.elements)) (state_of self.new) out.old out.new result }
+        requires { IsSound self.old.agent }
+        ensures { (words : Texts) (bytes : ListOf ℕ) (f : FormOf) → length words < 2 ^ 32 → IsCut words self.old.agent.table (lexed bytes) (Err fault)
+            → Replies (with_table words self.old) self.new (λ s. after_reading present_stage (codes "-") line s (read_form words bytes f (lexed bytes))) out.old out.new result }
     {
-        match self.memory.add(triple_of(addition), true) {
-            Ok(_) => Ok(false),
-            Err(AddFault::Twice(tag)) => refuse_twice(alloc, line, tag, out),
-            Err(AddFault::Full) => Err(Stop::Limit(Which::Elements)),
-            Err(AddFault::TagsSpent) => Err(Stop::Limit(Which::Tags)),
-            Err(AddFault::NoMemory) => Err(Stop::NoMemory),
+        match stop_of(fault) {
+            Some(stop) => Err(stop),
+            None => self.refuse(alloc, line, 18, "not built", out),
         }
-    }
-
-    /// Says the conflict set.
-    fn list_matches(&self, alloc: Global, out: &mut Text) -> Result<bool, Stop>
-        requires { IsKept (state_of self.now) }
-        ensures { Obeys (matched (state_of self.now)) (state_of self.now) out.old out.new result }
-    {
-        let elements = self.memory.all(alloc)?;
-        let instances = conflict(alloc, self.rules.as_slice(), elements.as_slice())?;
-        say_matches(
-            &self.table,
-            self.rules.as_slice(),
-            instances.as_slice(),
-            out,
-        )?;
-        Ok(false)
-    }
-}
-
-/// Refuses a command whose tokens have a fault, where that does not stop the session.
-fn refuse_fault(alloc: Global, line: u64, fault: LexFault, out: &mut Text) -> Result<bool, Stop>
-    ensures { (s : State) (command : CommandOf) (table : Texts) (text : Lexed)
-        → command.line ≡ line → length s.words < 2 ^ 32 → IsKept s → IsCut s.words table text (Err fault)
-        → Obeys (obeyed_as command s text) (record s { words = table }) out.old out.new result }
-{
-    match stop_of(fault) {
-        Some(stop) => Err(stop),
-        None => refuse_not_built(alloc, line, out),
     }
 }
 
@@ -185,19 +157,5 @@ fn stop_of(fault: LexFault) -> Option<Stop>
         LexFault::WordsSpent => Some(Stop::Limit(Which::Words)),
         LexFault::NoMemory => Some(Stop::NoMemory),
         _ => None,
-    }
-}
-
-fn triple_of(addition: Addition) -> Triple
-    ensures { result ≡ top_triple addition }
-{
-    Triple {
-        id: Sym::Ident {
-            letter: b'S',
-            number: 1,
-        },
-        attr: addition.attr,
-        value: addition.value,
-        accept: false,
     }
 }

@@ -1,12 +1,8 @@
-use defs_match::Rule;
-use soar_sym::{List, SymTable};
-use soar_wm::Memory;
+use soar_cycle::Agent;
 
-/// The state of a run between two commands.
+/// The state of a run between two commands: the agent, and whether what was written ends in the middle of a line.
 #[derive(Drop)]
 pub struct Session {
-    pub table: SymTable,
-    pub memory: Memory,
-    pub rules: List<Rule>,
-    pub last_rule: u64,
+    pub agent: Agent,
+    pub mid_line: bool,
 }

@@ -1,14 +1,15 @@
 // One command after another.
-ghost use Rattle.std.specs.Prelude.{◌≡◌, ◌-◌, ◌<◌, ◌≤◌, ◌^◌, length, IfOk, OnOk};
+ghost use Rattle.std.specs.Prelude.{◌≡◌, ◌-◌, ◌<◌, ◌≤◌, ◌^◌, List as ListOf, length, IfOk, OnOk};
 ghost use Rattle.soar_edge.specs.Outside.{Appends, AppendsSome, HasPutCause};
-ghost use Rattle.defs_run.specs.Session.{obeyed};
-ghost use Rattle.soar_app.specs.Runs.{IsAnsweredOk, IsSpoken, step_text};
-ghost use Rattle.soar_app.specs.States.{state_of};
-ghost use Rattle.soar_app.specs.Steps.{IsKept};
+ghost use Rattle.defs_soar.specs.History.{Past};
+ghost use Rattle.soar_cycle.specs.Seen.{IsSound};
+ghost use Rattle.soar_app.specs.Runs.{reply_to, step_text};
+ghost use Rattle.soar_app.specs.Spoken.{IsAnsweredOk, IsSpoken};
+ghost use Rattle.soar_app.specs.States.{session_of};
 
 use crate::said::limit_line;
 use crate::state::Session;
-use crate::stop::Stop;
+use soar_cycle::Stop;
 use soar_edge::{PutFault, Sink, put_all};
 use soar_sym::{NoMemory, Text};
 use std::alloc::Global;
@@ -35,8 +36,9 @@ fn speak(
     command: &[u8],
 ) -> Result<Spoken, NoMemory>
     requires short { length command.now ≤ 2 ^ 26 }
-    requires kept { IsKept (state_of session.old) }
-    ensures { IfOk result (λ spoken. IsSpoken (obeyed (state_of session.old) (record { line = line; text = command.now })) (state_of session.new) spoken) }
+    requires sound { IsSound session.old.agent }
+    ensures { (history : ListOf Past) → let s = session_of session.old history in
+        IfOk result (λ spoken. IsSpoken s (reply_to (record { line = line; text = command.now }) s) session.new spoken) }
 {
     let mut text = Text::new(alloc);
     match session.obey(alloc, line, command, &mut text) {
@@ -44,10 +46,13 @@ fn speak(
             text,
             answer: Answered::Went(refused),
         }),
-        Err(Stop::Limit(limit)) => Ok(Spoken {
-            text: Text::from_string(limit_line(alloc, limit)?),
-            answer: Answered::Stopped,
-        }),
+        Err(Stop::Limit(limit)) => {
+            text.push_str(limit_line(alloc, session.mid_line, limit)?.as_str())?;
+            Ok(Spoken {
+                text,
+                answer: Answered::Stopped,
+            })
+        }
         Err(Stop::NoMemory) => Err(NoMemory),
     }
 }
@@ -61,11 +66,14 @@ pub fn answer<O: Sink>(
     out: &mut O,
 ) -> Result<Answered, PutFault>
     requires short { length command.now ≤ 2 ^ 26 }
-    requires kept { IsKept (state_of session.old) }
+    requires sound { IsSound session.old.agent }
     requires sink { O.faults out.old < 2 ^ 64 - 1 }
-    ensures answer { IsAnsweredOk (obeyed (state_of session.old) (record { line = line; text = command.now })) (state_of session.new) result }
-    ensures written { OnOk result (Appends (O.written out.old) (O.written out.new) (step_text (obeyed (state_of session.old) (record { line = line; text = command.now })))) }
-    ensures prefix { AppendsSome (O.written out.old) (O.written out.new) (step_text (obeyed (state_of session.old) (record { line = line; text = command.now }))) }
+    ensures answer { (history : ListOf Past) → let s = session_of session.old history in
+        IsAnsweredOk s (reply_to (record { line = line; text = command.now }) s) session.new result }
+    ensures written { (history : ListOf Past) → let s = session_of session.old history in
+        OnOk result (Appends (O.written out.old) (O.written out.new) (step_text s (reply_to (record { line = line; text = command.now }) s))) }
+    ensures prefix { (history : ListOf Past) → let s = session_of session.old history in
+        AppendsSome (O.written out.old) (O.written out.new) (step_text s (reply_to (record { line = line; text = command.now }) s)) }
     ensures cause { HasPutCause (O.faults out.old) (O.faults out.new) result }
 {
     match speak(alloc, session, line, command) {

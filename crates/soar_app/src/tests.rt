@@ -7,7 +7,7 @@ use std::alloc::{AllocError, Global};
 use std::test::Fail;
 
 /// Inputs that refuse nothing, with what is written.
-const DONE: [(&str, &str); 9] = [
+const DONE: [(&str, &str); 14] = [
     ("", ""),
     ("matches", "no matches\n"),
     (
@@ -38,10 +38,35 @@ const DONE: [(&str, &str); 9] = [
         "sp {ends (state <s> ^a -9223372036854775808) (<s> ^b 9223372036854775807) --> }\nadd-wme S1 ^a -9223372036854775808\nadd-wme S1 ^b 9223372036854775807\nmatches\n",
         "ends: 6 7\n",
     ),
+    // What a rule makes goes with what its conditions took.
+    (
+        "sp {p (state <s> ^a <x>) --> (<s> ^b <x>)}\nadd-wme S1 ^a 1\nrun 1\nprint S1\nremove-wme 6\nrun 1\nprint S1\n",
+        "3: (S1 ^io I1)\n4: (S1 ^superstate nil)\n5: (S1 ^type state)\n6: (S1 ^a 1)\n7: (S1 ^b 1)\n3: (S1 ^io I1)\n4: (S1 ^superstate nil)\n5: (S1 ^type state)\n",
+    ),
+    // Two actions speak of one new identifier.
+    (
+        "sp {o (state <s> ^a 1) --> (<s> ^b <x>) (<x> ^c 2)}\nadd-wme S1 ^a 1\nrun 1\nprint s1\nprint x1\n",
+        "3: (S1 ^io I1)\n4: (S1 ^superstate nil)\n5: (S1 ^type state)\n6: (S1 ^a 1)\n7: (S1 ^b X1)\n8: (X1 ^c 2)\n",
+    ),
+    // What another match holds up too keeps its tag.
+    (
+        "sp {p (state <s> ^a <x>) --> (<s> ^b 1)}\nadd-wme S1 ^a 1\nadd-wme S1 ^a 2\nrun 1\nremove-wme 6\nrun 1\nprint S1\n",
+        "3: (S1 ^io I1)\n4: (S1 ^superstate nil)\n5: (S1 ^type state)\n7: (S1 ^a 2)\n8: (S1 ^b 1)\n",
+    ),
+    // What nothing reaches any more goes along.
+    (
+        "sp {p (state <s> ^a 1) --> (<s> ^b <x>)}\nsp {q (state <s> ^b <x>) --> (<x> ^c <y>)}\nsp {r (state <s> ^b <x>) (<x> ^c <y>) --> (<y> ^d 2)}\nadd-wme S1 ^a 1\nrun 1\nprint Y1\nremove-wme 6\nrun 1\nprint X1\nprint Y1\n",
+        "9: (Y1 ^d 2)\nno elements\nno elements\n",
+    ),
+    // Each new element makes the rule match anew.
+    (
+        "sp {grow (state <s> ^n <x>) --> (<s> ^n <y>)}\nadd-wme S1 ^n 1\nrun 1\nprint Y100\n",
+        "cut proposal\nno elements\n",
+    ),
 ];
 
 /// Inputs that refuse something, with what is written.
-const REFUSED: [(&str, &str); 5] = [
+const REFUSED: [(&str, &str); 6] = [
     (
         "add-wme S1 ^a 1\nadd-wme S1 ^a 1\nfly\nsp {n -(state <s> ^a 1) --> (<s> ^b 1)}\n",
         "error 35 -:2: already there as 6\nerror 10 -:3: unknown command\nerror 18 -:4: not built\n",
@@ -61,6 +86,10 @@ const REFUSED: [(&str, &str); 5] = [
     (
         "add-wme S1 ^a 9223372036854775808\nadd-wme S1 ^a -9223372036854775809\nadd-wme S1 ^a +9223372036854775807\nadd-wme S1 ^a 9223372036854775807\n",
         "error 18 -:1: not built\nerror 18 -:2: not built\nerror 35 -:4: already there as 6\n",
+    ),
+    (
+        "print Q9\nremove-wme 5\nremove-wme 99\nrun 0\nrun +1\nprint S1 x\nrun\n",
+        "error 31 -:1: unknown identifier Q9\nerror 34 -:2: not an input element 5\nerror 33 -:3: no element 99\nerror 18 -:4: not built\nerror 18 -:5: not built\nerror 18 -:6: not built\nerror 18 -:7: not built\n",
     ),
 ];
 

@@ -1,10 +1,11 @@
 ghost use Rattle.std.specs.Prelude.{◌≡◌, ◌≢◌, ◌-◌, ◌^◌, ◌<◌, ◌≤◌, [], List as ListOf, map, length, string_bytes, ◌⊎◌, Some, IfSome, IfOk, OnOk};
 ghost use Rattle.soar_edge.specs.Outside.{Appends, AppendsSome, Rose, HasPutCause};
 ghost use Rattle.soar_edge.specs.declared.filed.Filed.{Filed};
-ghost use Rattle.defs_run.specs.Transcript.{ended, transcript, usage_text};
+ghost use Rattle.defs_run.specs.Present.{present_transcript};
+ghost use Rattle.defs_run.specs.Transcripts.{usage_text};
 ghost use Rattle.defs_soar.specs.declared.limit.Which.{Which as Limit};
 ghost use Rattle.soar_app.specs.Answers.{Answers, IsComplete, IsTranscript, fault_status};
-ghost use Rattle.soar_app.specs.Runs.{end_status};
+ghost use Rattle.soar_app.specs.Runs.{ended, end_status};
 
 use crate::read::InputFault;
 use crate::run::{End, run_all};
@@ -30,18 +31,18 @@ pub fn run_soar<I: Source, F: Shelf, O: Sink>(
     // Where nothing failed and memory sufficed, the bytes written and the status are the transcript's.
     ensures headline { IfSome (I.left input.old) (λ bytes. (stock : ListOf Filed) → F.files files.old ≡ Some stock
         → I.faults input.new ≡ I.faults input.old → F.faults files.new ≡ F.faults files.old → O.faults out.new ≡ O.faults out.old → result ≢ Status.NoMemory
-        → IsTranscript (O.written out.old) (O.written out.new) result (transcript (map string_bytes words.now.items) stock bytes)) }
+        → IsTranscript (O.written out.old) (O.written out.new) result (present_transcript (map string_bytes words.now.items) stock bytes)) }
     // Each answer has its cause.
     ensures answers { IfSome (I.left input.old) (λ bytes. (stock : ListOf Filed) → F.files files.old ≡ Some stock
         → Answers (record { source = I.faults input.old; shelf = F.faults files.old; sink = O.faults out.old })
         (record { source = I.faults input.new; shelf = F.faults files.new; sink = O.faults out.new })
-        bytes (I.left input.new) (O.written out.old) (O.written out.new) (transcript (map string_bytes words.now.items) stock bytes) result) }
+        bytes (I.left input.new) (O.written out.old) (O.written out.new) (present_transcript (map string_bytes words.now.items) stock bytes) result) }
     // Whatever fails, the bytes written are those at the transcript's front.
     ensures prefix { IfSome (I.left input.old) (λ bytes. (stock : ListOf Filed) → F.files files.old ≡ Some stock
-        → AppendsSome (O.written out.old) (O.written out.new) (transcript (map string_bytes words.now.items) stock bytes).text) }
+        → AppendsSome (O.written out.old) (O.written out.new) (present_transcript (map string_bytes words.now.items) stock bytes).text) }
     // Without words, an input of at most 64 MiB that reaches no limit is carried out whole, unless memory runs out.
     ensures complete { IfSome (I.left input.old) (λ bytes. (stock : ListOf Filed) → F.files files.old ≡ Some stock
-        → words.now.items ≡ [] → length bytes ≤ 2 ^ 26 → (transcript (map string_bytes words.now.items) stock bytes).status ≢ Status.Limit
+        → words.now.items ≡ [] → length bytes ≤ 2 ^ 26 → (present_transcript (map string_bytes words.now.items) stock bytes).status ≢ Status.Limit
         → I.faults input.new ≡ I.faults input.old → F.faults files.new ≡ F.faults files.old → O.faults out.new ≡ O.faults out.old
         → IsComplete result) }
 

@@ -1,4 +1,4 @@
-ghost use Rattle.std.specs.Prelude.{◌≡◌, nat_le};
+ghost use Rattle.std.specs.Prelude.{◌≡◌, if◌then◌else◌, nat_le, Some, None};
 ghost use Rattle.std.specs.List.{list_all};
 ghost use Rattle.defs_text.specs.Bytes.{is_digit, is_run_byte};
 ghost use Rattle.defs_text.specs.Runs.{begins_with, number_from, run_kind};
@@ -48,11 +48,22 @@ pub fn is_identifier_form(text: &[u8]) -> bool
     }
 }
 
-/// A number from 1 to 2^32 - 1 without a zero in front.
+/// Whether a text is a number from 1 to 2^32 - 1 without a zero in front.
 fn is_identifier_number(digits: &[u8]) -> bool
     ensures { result ≡ is_identifier_number digits.now }
 {
-    digits.len() > 0 && !begins_zero(digits) && all_digits(digits) && is_small_number(digits)
+    identifier_number(digits).is_some()
+}
+
+/// The number of an identifier: one from 1 to 2^32 - 1 without a zero in front.
+pub fn identifier_number(digits: &[u8]) -> Option<u32>
+    ensures { result ≡ (if is_identifier_number digits.now then Some (number_from 0 digits.now) else None) }
+{
+    if digits.len() > 0 && !begins_zero(digits) && all_digits(digits) {
+        small_number(digits)
+    } else {
+        None
+    }
 }
 
 fn begins_zero(digits: &[u8]) -> bool
@@ -70,16 +81,16 @@ fn all_digits(bytes: &[u8]) -> bool
     bytes.iter().all(|b| digit(*b))
 }
 
-/// Whether digits are a number of at most 2^32 - 1.
-fn is_small_number(digits: &[u8]) -> bool
-    ensures { result ≡ nat_le (number_from 0 digits.now) 4294967295 }
+/// The number that digits are, where it is at most 2^32 - 1.
+fn small_number(digits: &[u8]) -> Option<u32>
+    ensures { result ≡ (if nat_le (number_from 0 digits.now) 4294967295 then Some (number_from 0 digits.now) else None) }
 {
     let mut value: u64 = 0;
     'digits: for digit in digits {
         value = value * 10 + u64::from(digit.saturating_sub(b'0'));
         if value > MOST_NUMBER {
-            return false;
+            return None;
         }
     }
-    true
+    Some(value as u32)
 }

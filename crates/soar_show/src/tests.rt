@@ -1,6 +1,9 @@
-use crate::{show_instance, show_symbol};
+ghost use Rattle.std.specs.Prelude.{◌≡◌, true};
+
+use crate::{show_element, show_instance, show_symbol};
 use defs_match::Instance;
 use soar_sym::{List, Sym, SymTable, Text};
+use soar_wm::Element;
 use std::test::Fail;
 
 #[test]
@@ -95,5 +98,41 @@ fn instances_are_named_with_their_tags(rt: HostRuntime) -> Result<(), Fail> {
     };
     show_instance(&mut out, &table, &two, barred)?;
     assert!(rt; out.as_str() == "find*block:|B2|: 12 4294967295");
+    Ok(())
+}
+
+/// `(S1 ^operator VALUE)` under a tag.
+fn candidate(tag: u32, value: Sym, accept: bool) -> Element
+    ensures { result ≡ record { tag = tag; id = Sym.Ident 83 1; attr = Sym.Word 7; value = value; accept = accept; of_state = true } }
+{
+    Element {
+        tag,
+        id: Sym::Ident {
+            letter: b'S',
+            number: 1,
+        },
+        attr: Sym::Word(7),
+        value,
+        accept,
+        of_state: true,
+    }
+}
+
+#[test]
+fn elements_are_tagged_triples(rt: HostRuntime) -> Result<(), Fail> {
+    let table = SymTable::new(rt.alloc())?;
+    let mut out = Text::new(rt.alloc());
+    show_element(&mut out, &table, &candidate(6, Sym::Int(-5), false))?;
+    assert!(rt; out.as_str() == "6: (S1 ^operator -5)");
+    Ok(())
+}
+
+#[test]
+fn a_mark_stands_behind_the_value(rt: HostRuntime) -> Result<(), Fail> {
+    let table = SymTable::new(rt.alloc())?;
+    let mut out = Text::new(rt.alloc());
+    let name = Sym::Word(1);
+    show_element(&mut out, &table, &candidate(4_294_967_295, name, true))?;
+    assert!(rt; out.as_str() == "4294967295: (S1 ^operator nil +)");
     Ok(())
 }

@@ -9,3 +9,27 @@ returns-clause-made_and_gone c = refl
 pub returns-clause-not_built_yet : goal.returns-clause-not_built_yet
 unfolding computing
 returns-clause-not_built_yet c = refl
+
+pub returns-clause-one_element_twice : goal.returns-clause-one_element_twice
+unfolding computing
+returns-clause-one_element_twice c = refl
+
+pub returns-clause-replaced_and_barred : goal.returns-clause-replaced_and_barred
+unfolding computing
+returns-clause-replaced_and_barred c = refl
+
+pub returns-clause-joined : goal.returns-clause-joined
+unfolding computing
+returns-clause-joined c = refl
+
+pub returns-clause-forms : goal.returns-clause-forms
+unfolding computing
+returns-clause-forms c = refl
+
+pub returns-clause-empty_input : goal.returns-clause-empty_input
+unfolding computing
+returns-clause-empty_input c = refl
+
+pub returns-clause-words_given : goal.returns-clause-words_given
+unfolding computing
+returns-clause-words_given c = refl

@@ -1,9 +1,9 @@
 use Rattle.std.proofs.Common.{arith, ◌≡◌, Some, false, ap, ◌∙◌}
 use Rattle.std.proofs.lemmas.Grind.{common_steps}
 use Rattle.defs_run.specs.Commands.{commands_of}
-use Rattle.defs_run.specs.Session.{first_state}
-use Rattle.defs_run.specs.Transcript.{run_from}
-use Rattle.soar_app.proofs.TopLemmas.{complete_run, prefix_usage}
+use Rattle.defs_run.specs.Sessions.{first_session}
+use Rattle.soar_app.specs.Runs.{run_from}
+use Rattle.soar_app.proofs.TopLemmas.{answers_run, complete_run, headline_run, prefix_of, prefix_run, prefix_usage, same_faults, transcript_of}
 use Rattle.soar_app.proofs.top.run_soar.Goals as goal
 
 pub returns-in-Ok-clause-prefix : goal.returns-in-Ok-clause-prefix
@@ -14,9 +14,31 @@ pub returns-in-Err-clause-prefix : goal.returns-in-Err-clause-prefix
 returns-in-Err-clause-prefix g c =
     prefix_usage _ _ _ (λ stock. g.F.Shelf.files c.args.files.now ≡ Some stock) c.args.words.now.items (λ e. grind (arith, common_steps)) c.in-Err.ensures.prefix
 
+pub returns-in-Ok-run_all-clause-headline : goal.returns-in-Ok-run_all-clause-headline
+returns-in-Ok-run_all-clause-headline g c =
+    headline_run _ (λ stock. g.F.Shelf.files c.args.files.now ≡ Some stock) _ _ _ _ _ _ _ c.args.words.now.items _ (grind (arith, common_steps)) c.in-Ok-read_script.ensures.commands
+    (transcript_of _ _ _ _ c.in-Ok-run_all.end _ _ c.in-Ok-run_all.ensures.written c.in-Ok-run_all.ensures.status c.end_of.ensures c.as_slice.ensures)
+
+pub returns-in-Ok-run_all-clause-answers : goal.returns-in-Ok-run_all-clause-answers
+returns-in-Ok-run_all-clause-answers g c =
+    answers_run _ (λ stock. g.F.Shelf.files c.args.files.now ≡ Some stock) _ _ _ _ _ _ c.args.words.now.items _ c.in-Ok-read_script.script.too_long c.in-Ok-run_all.end
+    (grind (arith, common_steps)) c.in-Ok-read_script.ensures.commands
+    (transcript_of _ _ _ _ c.in-Ok-run_all.end _ _ c.in-Ok-run_all.ensures.written c.in-Ok-run_all.ensures.status c.end_of.ensures c.as_slice.ensures)
+    c.end_of.ensures (same_faults _ _ _ _ _ c.in-Ok-read_script.ensures.cause.cause c.in-Ok-run_all.ensures.cause.cause) c.in-Ok-read_script.ensures.rest
+
+pub returns-in-Ok-run_all-clause-prefix : goal.returns-in-Ok-run_all-clause-prefix
+returns-in-Ok-run_all-clause-prefix g c =
+    prefix_run _ (λ stock. g.F.Shelf.files c.args.files.now ≡ Some stock) _ _ c.args.words.now.items _ (grind (arith, common_steps)) c.in-Ok-read_script.ensures.commands
+    (prefix_of _ _ _ _ _ c.in-Ok-run_all.ensures.prefix c.as_slice.ensures)
+
+pub returns-in-Ok-read_script-clause-prefix : goal.returns-in-Ok-read_script-clause-prefix
+returns-in-Ok-read_script-clause-prefix g c =
+    prefix_run _ (λ stock. g.F.Shelf.files c.args.files.now ≡ Some stock) _ _ c.args.words.now.items _ (grind (arith, common_steps)) c.in-Ok-read_script.ensures.commands
+    (prefix_of _ _ _ _ _ c.in-Err-run_all.ensures.prefix c.as_slice.ensures)
+
 pub returns-in-Ok-run_all-clause-complete : goal.returns-in-Ok-run_all-clause-complete
 returns-in-Ok-run_all-clause-complete g c =
     complete_run _ (λ stock. g.F.Shelf.files c.args.files.now ≡ Some stock) _ _ _ c.args.words.now.items c.in-Ok-read_script.script.too_long c.in-Ok-read_script.script.text _
     c.in-Ok-read_script.ensures.commands
     (c.end_of.ensures ∙ c.in-Ok-run_all.ensures.status
-    ∙ ap (λ text. (run_from c.in-Ok-read_script.script.too_long first_state false (commands_of text)).status) c.as_slice.ensures)
+    ∙ ap (λ text. (run_from c.in-Ok-read_script.script.too_long (first_session 1) false (commands_of text)).status) c.as_slice.ensures)

@@ -1,34 +1,34 @@
-use Rattle.std.proofs.Common.{◌≡◌, sym, subst, Some, None, true}
-use Rattle.soar_wm.specs.WorkingMemory.{AddsNew, tag_of}
-use Rattle.defs_run.specs.Session.{State, added, top_triple}
-use Rattle.soar_app.specs.States.{state_of}
+use Rattle.std.proofs.Common.{◌≡◌, ◌∙◌, true, List, ℕ, Option, Some, None, option_map, sym, ap, subst}
+use Rattle.std.specs.Prelude.{codes}
+use Rattle.defs_text.specs.Symbols.{symbol_text}
+use Rattle.defs_run.specs.Inputs.{added, first_unknown, spelled, unless_unknown}
+use Rattle.defs_run.specs.Orders.{is_symbol}
+use Rattle.defs_run.specs.Runs.{replied_by}
+use Rattle.defs_run.specs.Sessions.{Session}
+use Rattle.soar_app.specs.Carries.{top}
+use Rattle.soar_app.specs.States.{session_of}
 use Rattle.soar_app.specs.Steps.{Obeys}
-use Rattle.soar_app.proofs.SessionLemmas.{adds, adds_full, adds_spent, adds_twice, no_room, no_tag}
+use Rattle.soar_app.proofs.ReplyLemmas.{unknown_symbols}
 use Rattle.soar_app.proofs.state.Session.add.Goals as goal
 
-pub returns-in-Ok : goal.returns-in-Ok
-returns-in-Ok c =
-    let s : State = state_of c.args.self.now in
-    let new : AddsNew s.memory c.add.new.self (top_triple c.args.addition) true c.in-Ok.field-0 = subst (λ t. AddsNew s.memory c.add.new.self t true c.in-Ok.field-0) c.triple_of.ensures c.in-Ok.ensures.answer in
-    adds s (top_triple c.args.addition) c.args.line c.add.new.self c.args.out.now c.requires new.missing new.room new.left new.added
+pub returns-in-Some : goal.returns-in-Some
+returns-in-Some c = λ history.
+    let s : Session = session_of c.args.self.now history in
+    let unknown : first_unknown true s (is_symbol top) (is_symbol c.args.addition.attr) (is_symbol c.args.addition.value) ≡ Some (symbol_text c.args.self.now.agent.table c.in-Some.symbol) =
+    unknown_symbols c.args.self.now history c.args.addition.attr c.args.addition.value c.requires.sound
+    ∙ ap (option_map (symbol_text c.args.self.now.agent.table)) (sym c.in-Some.ensures) in
+    subst (λ (o : Option (List ℕ)). Obeys c.args.self.now.mid_line
+    (replied_by (codes "-") c.args.line s (unless_unknown o (added (spelled s (is_symbol top) (is_symbol c.args.addition.attr) (is_symbol c.args.addition.value)))))
+    c.refuse_identifier.new.self c.args.out.now c.refuse_identifier.new.out c.refuse_identifier.result)
+    (sym unknown) (c.refuse_identifier.ensures history)
 
-pub returns-in-Err-Twice : goal.returns-in-Err-Twice
-returns-in-Err-Twice c =
-    let s : State = state_of c.args.self.now in
-    let there : tag_of (top_triple c.args.addition) s.memory.elements ≡ Some c.in-Err-Twice.tag =
-    subst (λ t. tag_of t s.memory.elements ≡ Some c.in-Err-Twice.tag) c.triple_of.ensures (adds_twice s.memory c.add.new.self c.triple_of.result true c.in-Err-Twice.field-0 c.in-Err-Twice.tag c.in-Err-Twice.field-0-is c.in-Err-Twice.ensures.answer) in
-    subst (λ m. Obeys (added (top_triple c.args.addition) c.args.line s (tag_of (top_triple c.args.addition) s.memory.elements)) (record s { memory = m }) c.args.out.now c.refuse_twice.new.out c.refuse_twice.result)
-    (sym c.in-Err-Twice.ensures.err)
-    (subst (λ o. Obeys (added (top_triple c.args.addition) c.args.line s o) s c.args.out.now c.refuse_twice.new.out c.refuse_twice.result) (sym there) (c.refuse_twice.ensures s c.requires))
-
-pub returns-in-Err-Full : goal.returns-in-Err-Full
-returns-in-Err-Full c =
-    let s : State = state_of c.args.self.now in
-    let full = adds_full s.memory c.add.new.self c.triple_of.result true c.in-Err-Full.field-0 c.in-Err-Full.field-0-is c.in-Err-Full.ensures.answer in
-    no_room s (top_triple c.args.addition) c.args.line c.requires (subst (λ t. tag_of t s.memory.elements ≡ None) c.triple_of.ensures full.0) full.1
-
-pub returns-in-Err-TagsSpent : goal.returns-in-Err-TagsSpent
-returns-in-Err-TagsSpent c =
-    let s : State = state_of c.args.self.now in
-    let spent = adds_spent s.memory c.add.new.self c.triple_of.result true c.in-Err-TagsSpent.field-0 c.in-Err-TagsSpent.field-0-is c.in-Err-TagsSpent.ensures.answer in
-    no_tag s (top_triple c.args.addition) c.args.line c.requires (subst (λ t. tag_of t s.memory.elements ≡ None) c.triple_of.ensures spent.0) spent.1 spent.2
+pub returns-in-None : goal.returns-in-None
+returns-in-None c = λ history.
+    let s : Session = session_of c.args.self.now history in
+    let unknown : first_unknown true s (is_symbol top) (is_symbol c.args.addition.attr) (is_symbol c.args.addition.value) ≡ None =
+    unknown_symbols c.args.self.now history c.args.addition.attr c.args.addition.value c.requires.sound
+    ∙ ap (option_map (symbol_text c.args.self.now.agent.table)) (sym c.in-None.ensures) in
+    subst (λ (o : Option (List ℕ)). Obeys c.args.self.now.mid_line
+    (replied_by (codes "-") c.args.line s (unless_unknown o (added (spelled s (is_symbol top) (is_symbol c.args.addition.attr) (is_symbol c.args.addition.value)))))
+    c.add_given.new.self c.args.out.now c.add_given.new.out c.add_given.result)
+    (sym unknown) (c.add_given.ensures history)

@@ -1,0 +1,71 @@
+// Commands that look at the agent.
+ghost use Rattle.std.specs.Prelude.{◌≡◌};
+ghost use Rattle.soar_sym.specs.Words.{IsKnown};
+ghost use Rattle.defs_run.specs.Carrying.{carried_out, lists_elements};
+ghost use Rattle.defs_run.specs.Listing.{conflict_lines};
+ghost use Rattle.defs_run.specs.Orders.{is_symbol, print_id};
+ghost use Rattle.defs_run.specs.Present.{run_present};
+ghost use Rattle.defs_run.specs.Sessions.{says};
+ghost use Rattle.soar_cycle.specs.Seen.{IsSound};
+ghost use Rattle.soar_app.specs.Carries.{Carries, Replies};
+
+use crate::adding::is_given;
+use crate::said::{say_elements, say_matches};
+use crate::state::Session;
+use match_direct::conflict;
+use soar_cycle::Stop;
+use soar_sym::{Sym, Text};
+use std::alloc::Global;
+
+impl Session {
+    /// Says the conflict set.
+    pub fn list_matches(&mut self, alloc: Global, out: &mut Text) -> Result<bool, Stop>
+        requires { IsSound self.old.agent }
+        ensures { Replies self.old self.new (λ s. says s (conflict_lines s.agent)) out.old out.new result }
+    {
+        let elements = self.agent.memory.all(alloc)?;
+        let rules = self.agent.rules.as_slice();
+        let instances = conflict(alloc, rules, elements.as_slice())?;
+        say_matches(
+            &self.agent.table,
+            rules,
+            instances.as_slice(),
+            out,
+            &mut self.mid_line,
+        )?;
+        Ok(false)
+    }
+
+    /// Says the elements of an identifier.
+    pub fn list_elements(
+        &mut self,
+        alloc: Global,
+        line: u64,
+        id: Sym,
+        out: &mut Text,
+    ) -> Result<bool, Stop>
+        requires sound { IsSound self.old.agent }
+        requires known { IsKnown self.old.agent.table id }
+        ensures { Carries self.old self.new line (carried_out run_present (print_id (is_symbol id))) out.old out.new result }
+    {
+        if is_given(&self.agent.letters, id) {
+            self.list_given(alloc, id, out)
+        } else {
+            self.refuse_identifier(alloc, line, id, out)
+        }
+    }
+
+    fn list_given(&mut self, alloc: Global, id: Sym, out: &mut Text) -> Result<bool, Stop>
+        requires { IsSound self.old.agent }
+        ensures { Replies self.old self.new (λ s. lists_elements s (is_symbol id)) out.old out.new result }
+    {
+        let elements = self.agent.memory.of_id(alloc, id)?;
+        say_elements(
+            &self.agent.table,
+            elements.as_slice(),
+            out,
+            &mut self.mid_line,
+        )?;
+        Ok(false)
+    }
+}
