@@ -164,7 +164,7 @@ from_differs (condition_and c cs) w h rs k =
     from_differs cs w h (flat_map (rows_after c w) rs)
     (differ_flat_map (positives_in c) (rows_after c w) (λ r. after_differs c w r h) (λ r x i. after_extends c w r x i) rs k)
 
--- Two rows with the same tags are the same row, and each stands there once.
+-- The tags tell a row: each list of tags is that of at most one row, and no row is listed twice.
 pub rows_differ : (cs : Conditions) (w : List Element) → ElementsDiffer w → TagsDiffer (rows cs w)
 rows_differ cs w h = from_differs cs w h (empty_row ∷ []) (one_differs empty_row)
 
