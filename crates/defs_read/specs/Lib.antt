@@ -12,5 +12,6 @@ pub mod ReadingActions
 pub mod ReadingFields
 pub mod ReadingTokens
 pub mod ReadingValues
+pub mod Sayings
 pub mod Spelling
 pub mod Worked

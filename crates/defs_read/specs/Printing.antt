@@ -84,3 +84,8 @@ inner_lines n p =
 unfoldable pub production_text : Texts → ProductionOf → List (List ℕ)
 production_text words p =
     (codes "sp {" ++ symbol_text words p.name) ∷ (map indented (inner_lines (record { words = words; vars = p.vars }) p) ++ (codes "}" ∷ []))
+
+-- lines as they are written, each with a newline behind it
+abbrev pub lines_text : List (List ℕ) → List ℕ
+lines_text [] = []
+lines_text (line ∷ lines) = line ++ (10 ∷ lines_text lines)

@@ -50,7 +50,7 @@ abbrev pub grouped_at : ℕ → Bool → Tokens → ReadOf Part
 grouped_at d negative ts = then_read (group_at d ts) (λ g rest. Ok (grouped negative g, rest))
 
 -- a condition, where so many more brackets may be open
-abbrev pub part_at : ℕ → Tokens → ReadOf Part
+unfoldable pub part_at : ℕ → Tokens → ReadOf Part
 part_at zero ts = then_read (flag (is_sign 8) ts) (λ negative rest. elim (begins opens rest) [ true ↦ Err (deep, length rest) | false ↦ Err (unexpected, length rest) ])
 part_at (suc d) ts =
     then_read (flag (is_sign 8) ts) (λ negative rest. elim (begins (is_mark 40) rest) [ true ↦ grouped_at d negative rest | false ↦ joined_at (part_at d) negative rest ])

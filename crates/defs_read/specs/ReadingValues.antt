@@ -35,9 +35,9 @@ arity_of func.IfEq = exactly 4
 arity_of func.StrLen = exactly 1
 arity_of func.Crlf = exactly 0
 
+-- those that bare words name
 abbrev pub functions : List Func
-functions =
-    func.Plus ∷ func.Times ∷ func.Minus ∷ func.Div ∷ func.Mod ∷ func.Abs ∷ func.Min ∷ func.Max ∷ func.Concat ∷ func.IfEq ∷ func.StrLen ∷ func.Crlf ∷ []
+functions = func.Times ∷ func.Div ∷ func.Mod ∷ func.Abs ∷ func.Min ∷ func.Max ∷ func.Concat ∷ func.IfEq ∷ func.StrLen ∷ func.Crlf ∷ []
 
 abbrev pub function_in : List Func → List ℕ → Option Func
 function_in [] text = None
@@ -80,6 +80,6 @@ abbrev pub single_at : Tokens → ReadOf Term
 single_at ts = then_read (taken as_single ts) (λ s rest. Ok (simple s, rest))
 
 -- a value, where so many more brackets may be open
-abbrev pub term_at : ℕ → Tokens → ReadOf Term
+unfoldable pub term_at : ℕ → Tokens → ReadOf Term
 term_at zero ts = elim (begins (is_mark 40) ts) [ true ↦ Err (deep, length ts) | false ↦ single_at ts ]
 term_at (suc d) ts = elim (begins (is_mark 40) ts) [ true ↦ call_at (term_at d) ts | false ↦ single_at ts ]

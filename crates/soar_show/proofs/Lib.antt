@@ -1,1 +1,5 @@
+pub mod KnownLemmas
+pub mod LineLemmas
+pub mod ListLemmas
+pub mod SampleLemmas
 pub mod WordLemmas

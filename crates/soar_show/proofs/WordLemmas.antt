@@ -2,7 +2,7 @@
 use Rattle.std.proofs.Common.{◌≡◌, ◌≢◌, ℕ, ◌+◌, ◌*◌, ◌-◌, suc, ◌<◌, ◌||◌, Bool, true, false, List, [], ◌∷◌, ◌++◌, length, get_or, drop, refl, ap, sym, ◌∙◌, arith, encode_utf8}
 use Rattle.std.specs.Prelude.{◌==◌, nat_le, if◌then◌else◌}
 use Rattle.std.proofs.lemmas.List.{append-nil}
-use Rattle.std.proofs.lemmas.Str.{encodes-append, inside_one}
+use Rattle.std.proofs.lemmas.Str.{encode_ascii, encodes-append, inside_one}
 use Rattle.std.proofs.lemmas.Bool.{lt-leb}
 use Rattle.std.proofs.lemmas.Bool.Decides.{nat_tests}
 use lib.Utf8.{encodes}
@@ -40,10 +40,24 @@ escaped_plain quote letter (b ∷ bytes) no_quote no_backslash ascii same =
     ∙ ap (λ rest. b ∷ rest) (escaped_plain quote letter bytes no_quote no_backslash ascii (λ k within low. same (suc k) (omega arith) low))
 
 -- a letter that is no quote and no backslash has no such byte
-pub escaped_letter : (quote letter : ℕ) → letter ≢ quote → letter ≢ 92 → quote < 128 → escaped quote (encode_utf8 letter) ≡ encode_utf8 letter
+escaped_letter : (quote letter : ℕ) → letter ≢ quote → letter ≢ 92 → quote < 128 → escaped quote (encode_utf8 letter) ≡ encode_utf8 letter
 escaped_letter quote letter no_quote no_backslash ascii =
     escaped_plain quote letter (encode_utf8 letter) no_quote no_backslash ascii
     (λ k within low. inside_one letter [] (encode_utf8 letter) k (sym (append-nil (encode_utf8 letter))) within low)
+
+-- a quote and a backslash are one byte
+escaped_mark : (quote letter : ℕ) → letter < 128 → ((letter == quote) || (letter == 92)) ≡ true → escaped quote (encode_utf8 letter) ≡ 92 ∷ encode_utf8 letter
+escaped_mark quote letter ascii marked =
+    rw (encode_ascii letter ascii) (ap (λ t. if t then 92 ∷ (letter ∷ []) else letter ∷ []) marked)
+
+-- one letter, with the backslash that stands before it
+pub escaped_one : (quote letter : ℕ) → quote < 128
+    → escaped quote (encode_utf8 letter) ≡ (if (letter == quote) || (letter == 92) then 92 ∷ [] else []) ++ encode_utf8 letter
+escaped_one quote letter ascii = by ((letter == quote) || (letter == 92)) refl
+  where
+    by : (t : Bool) → ((letter == quote) || (letter == 92)) ≡ t → escaped quote (encode_utf8 letter) ≡ (if t then 92 ∷ [] else []) ++ encode_utf8 letter
+    by true marked = escaped_mark quote letter (grind (arith, nat_tests)) marked
+    by false plain = escaped_letter quote letter (grind (arith, nat_tests)) (grind (arith, nat_tests)) ascii
 
 -- a number that one digit more takes beyond the greatest number is no small one
 pub number_too_great : (n i : ℕ) (digits : List ℕ) → i < length digits → 4294967295 < n * 10 + (get_or digits i 0 - 48) → nat_le (number_from n (drop i digits)) 4294967295 ≡ false

@@ -62,7 +62,7 @@ fn push_front(out: &mut Text, table: &SymTable, element: &Element) -> Result<(),
 }
 
 /// Appends the closing bracket, and the mark of an acceptable operator before it.
-fn push_end(out: &mut Text, accept: bool) -> Result<(), AllocError>
+pub fn push_end(out: &mut Text, accept: bool) -> Result<(), AllocError>
     ensures { OnOk result (out.new ≡ out.old ++ (if accept then codes " +)" else codes ")")) }
 {
     if accept {

@@ -1,7 +1,10 @@
 ghost use Rattle.std.specs.Prelude.{◌≡◌, true};
 
-use crate::{show_element, show_instance, show_symbol};
+mod sample;
+
+use crate::{show_element, show_instance, show_production, show_symbol};
 use defs_match::Instance;
+use sample::{empty_sample, sample};
 use soar_sym::{List, Sym, SymTable, Text};
 use soar_wm::Element;
 use std::test::Fail;
@@ -134,5 +137,41 @@ fn a_mark_stands_behind_the_value(rt: HostRuntime) -> Result<(), Fail> {
     let name = Sym::Word(1);
     show_element(&mut out, &table, &candidate(4_294_967_295, name, true))?;
     assert!(rt; out.as_str() == "4294967295: (S1 ^operator nil +)");
+    Ok(())
+}
+
+#[test]
+fn productions_are_written_in_lines(rt: HostRuntime) -> Result<(), Fail> {
+    let table = SymTable::new(rt.alloc())?;
+    let production = sample(rt.alloc())?;
+    let mut out = Text::from_str(rt.alloc(), "x\n")?;
+    show_production(&mut out, &table, &production)?;
+    assert!(rt;
+        out.as_str()
+            == r#"x
+sp {item
+    "a \"b\" \\"
+    :chunk
+    :i-support
+    (state <t> ^operator <nil> +)
+    -(<t> ^tie << nil -5 >>)
+    -{(<nil> ^{ <> <t> type } <=> state) -(|state| ^io { })}
+    -->
+    (<t> ^operator (+ 1 (strlen none)) < <nil>)
+    (write (crlf) <nil>)
+    (halt)
+}
+"#
+    );
+    Ok(())
+}
+
+#[test]
+fn what_a_production_has_not_takes_no_line(rt: HostRuntime) -> Result<(), Fail> {
+    let table = SymTable::new(rt.alloc())?;
+    let production = empty_sample(rt.alloc());
+    let mut out = Text::new(rt.alloc());
+    show_production(&mut out, &table, &production)?;
+    assert!(rt; out.as_str() == "sp {-5\n    -->\n}\n");
     Ok(())
 }

@@ -1,4 +1,4 @@
-ghost use Rattle.std.specs.Prelude.{◌≡◌, ◌++◌, encode_utf8, OnOk};
+ghost use Rattle.std.specs.Prelude.{◌≡◌, ◌==◌, ◌<◌, ◌||◌, [], ◌∷◌, ◌++◌, encode_utf8, if◌then◌else◌, OnOk};
 ghost use Rattle.defs_text.specs.Quotes.{escaped};
 ghost use Rattle.defs_text.specs.Symbols.{barred, word_text};
 
@@ -21,28 +21,37 @@ fn push_barred(out: &mut Text, text: &str) -> Result<(), AllocError>
     ensures { OnOk result (out.new ≡ out.old ++ barred text.now) }
 {
     out.push('|')?;
-    push_escaped(out, text)?;
+    push_escaped(out, '|', text)?;
     out.push('|')
 }
 
-/// Appends a text as it stands between bars.
-fn push_escaped(out: &mut Text, text: &str) -> Result<(), AllocError>
-    ensures { OnOk result (out.new ≡ out.old ++ escaped 124 text.now) }
+/// Appends a text as it stands between two of these ASCII letters.
+pub fn push_escaped(out: &mut Text, quote: char, text: &str) -> Result<(), AllocError>
+    requires { quote < 128 }
+    ensures { OnOk result (out.new ≡ out.old ++ escaped quote text.now) }
 {
     'letters: for letter in text.chars() {
-        push_letter(out, letter)?;
+        push_letter(out, quote, letter)?;
     }
     Ok(())
 }
 
-/// Appends a letter as it stands between bars: a bar and a backslash behind a backslash.
-#[tactic(auto, using(crate::proofs::WordLemmas::escaped_letter))]
-fn push_letter(out: &mut Text, letter: char) -> Result<(), AllocError>
-    ensures { OnOk result (out.new ≡ out.old ++ escaped 124 (encode_utf8 letter)) }
+/// Appends a letter as it stands between two quotes.
+fn push_letter(out: &mut Text, quote: char, letter: char) -> Result<(), AllocError>
+    requires { quote < 128 }
+    ensures { OnOk result (out.new ≡ out.old ++ escaped quote (encode_utf8 letter)) }
 {
-    match letter {
-        '|' => out.push_str("\\|"),
-        '\\' => out.push_str("\\\\"),
-        _ => out.push(letter),
+    push_backslash(out, quote, letter)?;
+    out.push(letter)
+}
+
+/// Appends the backslash that stands before a quote and before a backslash.
+fn push_backslash(out: &mut Text, quote: char, letter: char) -> Result<(), AllocError>
+    ensures { OnOk result (out.new ≡ out.old ++ (if (letter == quote) || (letter == 92) then 92 ∷ [] else [])) }
+{
+    if letter == quote || letter == '\\' {
+        out.push('\\')
+    } else {
+        Ok(())
     }
 }

@@ -6,6 +6,6 @@ use Rattle.soar_show.proofs.word.push_escaped.Goals as goal
 
 pub letters-preserved : goal.letters-preserved
 letters-preserved c =
-    c.in_ok-push_letter.ensures ∙ ap (λ front. front ++ escaped 124 (encode_utf8 c.in-Some.letter)) c.letters.invariant
-    ∙ append_assoc c.args.out.now (escaped 124 (encodes c.letters.yielded)) (escaped 124 (encode_utf8 c.in-Some.letter))
-    ∙ ap (λ text. c.args.out.now ++ text) (sym (escaped_more 124 c.letters.yielded c.in-Some.letter))
+    c.in_ok-push_letter.ensures ∙ ap (λ front. front ++ escaped c.args.quote (encode_utf8 c.in-Some.letter)) c.letters.invariant
+    ∙ append_assoc c.args.out.now (escaped c.args.quote (encodes c.letters.yielded)) (escaped c.args.quote (encode_utf8 c.in-Some.letter))
+    ∙ ap (λ text. c.args.out.now ++ text) (sym (escaped_more c.args.quote c.letters.yielded c.in-Some.letter))

@@ -1,0 +1,21 @@
+//! That the reading of productions is exact against their grammar, and that printed productions are read back.
+#![tactic(auto)]
+
+ghost use Rattle.reading_laws.specs.Laws as laws;
+ghost use Rattle.reading_laws.specs.WayBack as back;
+
+/// What is read of tokens is spelled by them, what is spelled is read, and what is refused is
+/// refused at the first token with which no production goes on.
+pub fn reading_is_exact()
+    ensures spelled { laws.ReadIsSpelled }
+    ensures read { laws.SpelledIsRead }
+    ensures refused { laws.RefusedIsFirst }
+{}
+
+/// The text that a production is printed as is read as that production again, with its variables
+/// under the same numbers, and with no new word but those of its tokens. What was read of a text is
+/// such a production.
+pub fn printing_reads_back()
+    ensures printed { back.PrintedIsRead }
+    ensures printable { back.ReadIsPrintable }
+{}

@@ -1,0 +1,13 @@
+pub mod ActionFits
+pub mod BelowLemmas
+pub mod ConditionFits
+pub mod FieldFits
+pub mod FitLemmas
+pub mod GrownLemmas
+pub mod JoinLemmas
+pub mod KnownLemmas
+pub mod MeaningLemmas
+pub mod NameLemmas
+pub mod TextLemmas
+pub mod UseLemmas
+pub mod ValueLemmas

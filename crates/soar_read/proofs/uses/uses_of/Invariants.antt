@@ -1,0 +1,14 @@
+use Rattle.std.proofs.Common.{◌≡◌, ◌++◌, drop}
+use Rattle.defs_read.specs.Expansion.{names_in}
+use Rattle.defs_read.specs.Sayings.{sayings, AreTokensKnown}
+use Rattle.soar_read.specs.Using.{AreUses}
+use Rattle.soar_read.specs.Words.{texts_of}
+use Rattle.soar_read.proofs.uses.uses_of.Given as goal
+
+abbrev pub invariant-tokens : goal.invariant-tokens
+invariant-tokens l = record {
+  same : l.table ≡ l.initial.table;
+  known : AreTokensKnown l.initial.table (drop l.token-index l.tokens);
+  are : AreUses l.initial.table l.uses;
+  used : texts_of l.initial.table l.uses.used ++ names_in (sayings l.initial.table (drop l.token-index l.tokens)) ≡ names_in (sayings l.initial.table l.tokens);
+}

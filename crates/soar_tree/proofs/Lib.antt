@@ -1,0 +1,3 @@
+pub mod ConditionLaws
+pub mod LoopLaws
+pub mod ValueLaws

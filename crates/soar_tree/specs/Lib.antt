@@ -1,0 +1,5 @@
+pub mod Answers
+pub mod Known
+pub mod Reading
+pub mod Seen
+pub mod Underway
