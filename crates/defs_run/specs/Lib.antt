@@ -4,11 +4,10 @@ pub mod Carrying
 pub mod CommandForms
 pub mod CommandLine
 pub mod Commands
-pub mod Forms
+pub mod FirstForm
 pub mod Fronts
 pub mod Inputs
 pub mod Listing
-pub mod Loading
 pub mod Orders
 pub mod Present
 pub mod RandomReading

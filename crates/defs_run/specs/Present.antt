@@ -1,13 +1,13 @@
 -- The present stage: the commands that are built, what is read of them, and how a cycle goes as long as there is one goal.
-use Rattle.std.specs.Prelude.{ℕ, zero, suc, ◌+◌, Bool, true, false, ◌||◌, List, [], ◌∷◌, ◌++◌, map, drop, Option, Some, None, option_map, option_and_then, Result, Ok, Err, if◌then◌else◌, codes}
+use Rattle.std.specs.Prelude.{ℕ, zero, suc, true, false, List, [], ◌∷◌, map, drop, Option, Some, None, option_map, option_and_then, Result, Ok, Err, if◌then◌else◌, codes}
 use Rattle.std.specs.Str.{bytes_eq}
 use Rattle.soar_sym.specs.Words.{Texts}
 use Rattle.soar_sym.specs.declared.symbol.Sym.TheVariants.{Ident}
-use Rattle.soar_edge.specs.Cutting.{Cut, whole}
+use Rattle.soar_edge.specs.Cutting.{cuts_of, uncommented}
 use Rattle.soar_edge.specs.declared.filed.Filed.{Filed}
-use Rattle.soar_rule.specs.Repeat.{Turn, ends, goes_on, turns}
-use Rattle.defs_text.specs.Lexing.{Lexed, lexed, Spelled}
-use Rattle.defs_text.specs.Numbered.{numbered, words_after}
+use Rattle.soar_rule.specs.Productions.{ProductionOf}
+use Rattle.defs_text.specs.Lexing.{lexed, Spelled}
+use Rattle.defs_text.specs.Numbered.{numbered}
 use Rattle.defs_text.specs.declared.token.Token.{Token}
 use Rattle.defs_soar.specs.Agents.{Agent}
 use Rattle.defs_soar.specs.Cycle.{then_phase, then_course}
@@ -15,40 +15,34 @@ use Rattle.defs_soar.specs.Events.{proposal_phase}
 use Rattle.defs_soar.specs.Limits.{counts_to}
 use Rattle.defs_soar.specs.Phases.{Said, Course, still}
 use Rattle.defs_run.specs.AdditionForms.{addition_at}
-use Rattle.defs_run.specs.Arguments.{Argument, number, argument_in, id_of}
-use Rattle.defs_run.specs.CommandForms.{number_order, tag_order}
-use Rattle.defs_run.specs.Commands.{CommandOf, commands_of, first_run, whole_part}
-use Rattle.defs_run.specs.Forms.{outline_at}
-use Rattle.defs_run.specs.Loading.{production_of}
-use Rattle.defs_run.specs.Orders.{Operand, is_symbol, is_label, Order, load, add_wme, remove_wme, run_cycles, matches, print_id, Refusal, unknown_command, not_built}
+use Rattle.defs_run.specs.Arguments.{Argument, argument_in}
+use Rattle.defs_run.specs.CommandForms.{number_order, tag_order, printing_order}
+use Rattle.defs_run.specs.Commands.{first_run}
+use Rattle.defs_run.specs.FirstForm.{is_first_form}
+use Rattle.defs_run.specs.Orders.{is_symbol, is_label, Order, load, add_wme, remove_wme, run_cycles, matches, print_id, print_name, Refusal, unknown_command, not_built}
 use Rattle.defs_run.specs.Stages.{Reading, Stage}
 use Rattle.defs_run.specs.Transcripts.{Transcript, transcript_at}
-use Rattle.defs_run.specs.declared.form.Outline.{Outline}
+use Rattle.defs_run.specs.WholeReading.{Judge, read_sp, unless_faulty}
 use Rattle.defs_run.specs.declared.form.Addition.{Addition}
 
--- ---- commands: each line that is not blank
+-- ---- productions: what is not of the first form is not built
 
-abbrev pub cut_of_line : CommandOf → Cut
-cut_of_line c = whole c.line c.text
+abbrev pub judged : Judge
+judged words p = if is_first_form p then Ok (load p) else Err not_built
 
--- a line that the stream may still go on with is none yet
-abbrev pub line_cuts : Bool → List ℕ → List Cut
-line_cuts true bytes = map cut_of_line (commands_of bytes)
-line_cuts false bytes = map cut_of_line (commands_of (whole_part bytes))
-
--- ---- the forms, over the tokens behind the command's word; a text with a fault has none
+-- ---- the forms of the other commands, over the tokens behind the command's word
 
 abbrev pub as_addition : Addition → Order
 as_addition a = add_wme (is_symbol (Ident 83 1)) (is_symbol a.attr) (is_symbol a.value)
 
--- an identifier; labels are not taken yet
-abbrev pub as_print : Operand → Option Order
-as_print (is_symbol s) = Some (print_id (is_symbol s))
-as_print (is_label name) = None
+-- an identifier or a name; labels and lists are not built
+abbrev pub built_print : Order → Option Order
+built_print (print_id (is_symbol s)) = Some (print_id (is_symbol s))
+built_print (print_name name) = Some (print_name name)
+built_print other = None
 
-abbrev pub print_order : List Argument → Option Order
-print_order (a ∷ []) = option_and_then as_print (id_of a)
-print_order other = None
+abbrev pub print_order : Texts → List Argument → Option Order
+print_order words arguments = option_and_then built_print (printing_order words arguments)
 
 abbrev pub matches_order : List Token → Option Order
 matches_order [] = Some matches
@@ -57,38 +51,34 @@ matches_order (t ∷ tokens) = None
 -- what a command of this word may ask for
 pub data Form : Type 0 where
   of_tokens : (Texts → List Token → Option Order) → Form
-  of_arguments : (List Argument → Option Order) → Form
+  of_arguments : (Texts → List Argument → Option Order) → Form
 
 abbrev pub form_of : List ℕ → Option Form
 form_of word =
-    if bytes_eq word (codes "sp") then Some (of_tokens (λ words tokens. option_map (λ o. load (production_of o)) (outline_at tokens)))
-    else if bytes_eq word (codes "add-wme") then Some (of_tokens (λ words tokens. option_map as_addition (addition_at words tokens)))
+    if bytes_eq word (codes "add-wme") then Some (of_tokens (λ words tokens. option_map as_addition (addition_at words tokens)))
     else if bytes_eq word (codes "matches") then Some (of_tokens (λ words tokens. matches_order tokens))
-    else if bytes_eq word (codes "run") then Some (of_arguments (number_order 1 1000000 run_cycles))
-    else if bytes_eq word (codes "remove-wme") then Some (of_arguments tag_order)
+    else if bytes_eq word (codes "run") then Some (of_arguments (λ words. number_order 1 1000000 run_cycles))
+    else if bytes_eq word (codes "remove-wme") then Some (of_arguments (λ words. tag_order))
     else if bytes_eq word (codes "print") then Some (of_arguments print_order)
     else None
 
 abbrev pub order_by : Form → Texts → List ℕ → List Spelled → Option Order
 order_by (of_tokens f) words text tokens = f words (drop 1 (map (numbered words) tokens))
-order_by (of_arguments f) words text tokens = f (drop 1 (map (argument_in text) tokens))
+order_by (of_arguments f) words text tokens = f words (drop 1 (map (argument_in text) tokens))
 
 abbrev pub or_not_built : Option Order → Result Order Refusal
 or_not_built (Some order) = Ok order
 or_not_built None = Err not_built
 
--- the words of the tokens up to the first fault join the table
-abbrev pub read_form : Texts → List ℕ → Form → Lexed → Reading
-read_form words text f l =
-    let read = words_after words l.tokens in
-    record { words = read; order = elim (l.fault) [ Some e ↦ Err not_built | None ↦ or_not_built (order_by f read text l.tokens) ] }
+abbrev pub read_order : Form → List ℕ → Texts → List Spelled → Reading
+read_order f text words tokens = record { words = words; order = or_not_built (order_by f words text tokens) }
 
 abbrev pub read_by : Texts → List ℕ → Option Form → Reading
 read_by words text None = record { words = words; order = Err unknown_command }
-read_by words text (Some f) = read_form words text f (lexed text)
+read_by words text (Some f) = unless_faulty words (lexed (uncommented text)) (read_order f text)
 
 abbrev pub read_present : Texts → List ℕ → Reading
-read_present words text = read_by words text (form_of (first_run text))
+read_present words text = if bytes_eq (first_run text) (codes "sp") then read_sp judged words text else read_by words text (form_of (first_run text))
 
 -- ---- a cycle is the proposal phase alone, for the one goal
 
@@ -112,7 +102,7 @@ run_present n a = cycles n (still a)
 -- ---- the stage
 
 abbrev pub present_stage : Stage
-present_stage = record { cuts = line_cuts; read = read_present; run = run_present; takes_words = false }
+present_stage = record { cuts = cuts_of; read = read_present; run = run_present; takes_words = false }
 
 -- the words of the command line, the files by name, and the input
 abbrev pub present_transcript : List (List ℕ) → List Filed → List ℕ → Transcript

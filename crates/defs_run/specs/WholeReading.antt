@@ -54,23 +54,31 @@ abbrev pub place_left : ℕ → List Spelled → ℕ → ℕ
 place_left behind [] left = behind
 place_left behind (t ∷ tokens) left = if length (t ∷ tokens) == left then t.start else place_left t.end tokens left
 
+-- what a production asks for at a stage, or its refusal
+abbrev pub Judge : Type 0
+Judge = Texts → ProductionOf → Result Order Refusal
+
 abbrev pub of_ordered : Texts → ProductionOf → Result ProductionOf Fault → Result Order Refusal
 of_ordered words p (Ok q) = Ok (load q)
 of_ordered words p (Err why) = Err (of_check words p.vars why)
 
+abbrev pub checked : Judge
+checked words p = of_ordered words p (ordered p)
+
 -- the fresh variables of a production join the table
-abbrev pub read_tree : Texts → List Spelled → Result Tree (Stop × ℕ) → Reading
-read_tree words tokens (Err stop) = record { words = words; order = Err (of_stop stop.0 (place_left 0 tokens stop.1)) }
-read_tree words tokens (Ok tree) =
-    let r = production_of words (map (λ t. t.says) tokens) tree in
-    record { words = r.words; order = of_ordered r.words r.production (ordered r.production) }
+abbrev pub read_tree : Judge → Texts → List Spelled → Result Tree (Stop × ℕ) → Reading
+read_tree judge words tokens (Err stop) = record { words = words; order = Err (of_stop stop.0 (place_left 0 tokens stop.1)) }
+read_tree judge words tokens (Ok tree) = let r = production_of words (map (λ t. t.says) tokens) tree in record { words = r.words; order = judge r.words r.production }
 
 -- the words of the tokens up to the first fault join the table
 abbrev pub unless_faulty : Texts → Lexed → (Texts → List Spelled → Reading) → Reading
 unless_faulty words l f = let read = words_after words l.tokens in elim (l.fault) [ Some e ↦ record { words = read; order = Err (of_lexing e) } | None ↦ f read l.tokens ]
 
-abbrev pub read_sp : Texts → List ℕ → Reading
-read_sp words text = unless_faulty words (lexed (uncommented text)) (λ read tokens. read_tree read tokens (tree_of (map (λ t. t.says) tokens)))
+abbrev pub read_tokens : Judge → Texts → List Spelled → Reading
+read_tokens judge words tokens = read_tree judge words tokens (tree_of (map (λ t. t.says) tokens))
+
+abbrev pub read_sp : Judge → Texts → List ℕ → Reading
+read_sp judge words text = unless_faulty words (lexed (uncommented text)) (read_tokens judge)
 
 -- ---- files
 
@@ -126,7 +134,7 @@ by_form words text (Some f) = read_arguments words text (lexed (uncommented text
 unfoldable pub read_whole : Texts → List ℕ → Reading
 read_whole words text =
     let word = first_run text in
-    if bytes_eq word (codes "sp") then read_sp words text
+    if bytes_eq word (codes "sp") then read_sp checked words text
     else if bytes_eq word (codes "source") then read_source words text
     else if bytes_eq word (codes "random") then read_arguments words text (random_lexed 0 0 (uncommented text)) (λ read. random_order)
     else by_form words text (form_in forms word)

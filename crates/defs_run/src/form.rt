@@ -1,28 +1,4 @@
-use soar_sym::{List, Sym};
-
-/// A value of a group: the word of a variable's name, or a constant.
-#[derive(Clone, Copy, Debug, PartialEq, Eq)]
-pub enum Operand {
-    Variable(Sym),
-    Constant(Sym),
-}
-
-/// `(VAR ^WORD VALUE)`, as a condition or an action. `marked` tells that the word `state` stands before the variable.
-#[derive(Clone, Copy, Debug, PartialEq, Eq)]
-pub struct Group {
-    pub marked: bool,
-    pub id: Sym,
-    pub attr: Sym,
-    pub value: Operand,
-}
-
-/// What stands in the braces of `sp {NAME GROUP.. --> MAKE..}`.
-#[derive(Debug, Drop)]
-pub struct Outline {
-    pub name: Sym,
-    pub conditions: List<Group>,
-    pub makes: List<Group>,
-}
+use soar_sym::Sym;
 
 /// The attribute and the value of an element of the top state.
 #[derive(Clone, Copy, Debug, PartialEq, Eq)]
@@ -31,13 +7,15 @@ pub struct Addition {
     pub value: Sym,
 }
 
-/// What a command of the right form asks for. A count of cycles is from 1 to 1,000,000.
-#[derive(Debug, Drop)]
+/// What a command other than `sp` asks for. A count of cycles is from 1 to 1,000,000.
+#[derive(Clone, Copy, Debug, PartialEq, Eq)]
 pub enum Order {
-    Load(Outline),
     Add(Addition),
     Remove(u64),
     Run(u32),
     Matches,
+    /// The elements of an identifier.
     Print(Sym),
+    /// The production of a name.
+    Show(Sym),
 }

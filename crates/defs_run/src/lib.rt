@@ -3,4 +3,4 @@
 
 mod form;
 
-pub use form::{Addition, Group, Operand, Order, Outline};
+pub use form::{Addition, Order};

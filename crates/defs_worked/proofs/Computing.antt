@@ -11,7 +11,9 @@ use Rattle.soar_rule.specs.MatchOrder.{taken_in_order}
 use Rattle.defs_text.specs.Lexing.{lexed}
 use Rattle.defs_read.specs.Expansion.{production_of}
 use Rattle.defs_read.specs.Printing.{production_text}
+use Rattle.defs_read.specs.Reading.{part_at}
 use Rattle.defs_read.specs.ReadingActions.{tree_of}
+use Rattle.defs_read.specs.ReadingValues.{term_at}
 use Rattle.defs_soar.specs.Candidate.{general_form, literal_form}
 use Rattle.defs_soar.specs.CarriedTests.{carried_tests}
 use Rattle.defs_soar.specs.ConditionOrder.{ordered_grounds}
@@ -36,5 +38,5 @@ use Rattle.defs_run.specs.Whole.{whole_transcript}
 use Rattle.defs_run.specs.WholeReading.{read_whole}
 
 unfoldable pub computing : ℕ
-unfolding encode_utf8 digits is_utf8 chars utf8_valid_len cuts_of uncommented canonical ordered taken_in_order lexed production_of production_text tree_of general_form literal_form carried_tests ordered_grounds after_input after_output cycle run decided_by dependency_set with_learning negations_taken_over outcome_of pending_in results_of chain_lines pieces_of trimmed resettled with_firings wave_of phase script_of obeyed whole_transcript read_whole
+unfolding encode_utf8 digits is_utf8 chars utf8_valid_len cuts_of uncommented canonical ordered taken_in_order lexed production_of production_text tree_of part_at term_at general_form literal_form carried_tests ordered_grounds after_input after_output cycle run decided_by dependency_set with_learning negations_taken_over outcome_of pending_in results_of chain_lines pieces_of trimmed resettled with_firings wave_of phase script_of obeyed whole_transcript read_whole
 computing = 0

@@ -18,7 +18,7 @@ MadeAndGone =
 abbrev pub NotBuiltYet : Type 0
 NotBuiltYet =
     WritesNow (codes "add-wme S1 ^a <x>\nsp {n -(state <s> ^a 1) --> (<s> ^b 1)}\nexcise n\nprint n\nprint Q9\nremove-wme 5\nremove-wme 99\nrun 0\nadd-wme S1 ^a 1\nadd-wme S1 ^a 1\n")
-    (codes "error 18 -:1: not built\nerror 18 -:2: not built\nerror 10 -:3: unknown command\nerror 18 -:4: not built\nerror 31 -:5: unknown identifier Q9\nerror 34 -:6: not an input element 5\nerror 33 -:7: no element 99\nerror 18 -:8: not built\nerror 35 -:10: already there as 6\n") status.Refusals
+    (codes "error 18 -:1: not built\nerror 18 -:2: not built\nerror 10 -:3: unknown command\nerror 32 -:4: no production n\nerror 31 -:5: unknown identifier Q9\nerror 34 -:6: not an input element 5\nerror 33 -:7: no element 99\nerror 18 -:8: not built\nerror 35 -:10: already there as 6\n") status.Refusals
 
 -- ---- reading and matching
 
@@ -41,11 +41,23 @@ Joined =
     WritesNow (codes " \nsp {j (state <s> ^a <x>) (<s> ^b <x>) --> (<s> ^c <y>) (<y> ^d 1)}\nadd-wme S1 ^b 2\nadd-wme S1 ^a 2\nadd-wme S1 ^a 1\nadd-wme S1 ^b 1\nadd-wme S1 ^b |2|\nmatches\n")
     (codes "j: 7 6\nj: 8 9\n") status.Done
 
--- what is of no form: an unconnected group, an operator, a comment, more behind, a float, an identifier as value
+-- what is not built: an unconnected group, an operator, more behind, an identifier as value; and a comment, a float, an open brace
 abbrev pub Forms : Type 0
 Forms =
     WritesNow (codes "sp {a (state <s> ^a 1) (<t> ^b 2) --> }\nsp {a (state <s> ^a 1) --> (<s> ^operator 1)}\nmatches #\nmatches now\nadd-wme S1 ^a 1.5\nadd-wme S1 ^a S1\nadd-wme S1 ^a |S1|\nmatches{\nsp")
-    (codes "error 18 -:1: not built\nerror 18 -:2: not built\nerror 18 -:3: not built\nerror 18 -:4: not built\nerror 18 -:5: not built\nerror 18 -:6: not built\nerror 18 -:8: not built\nerror 18 -:9: not built\n") status.Refusals
+    (codes "error 18 -:1: not built\nerror 18 -:2: not built\nno matches\nerror 18 -:4: not built\nerror 13 -:5: floating-point number at byte 14\nerror 18 -:6: not built\nerror 11 -:8: unfinished command\n") status.Refusals
+
+-- an arrow is missing, and a number is too wide
+abbrev pub Syntax : Type 0
+Syntax =
+    WritesNow (codes "\n\nsp {e (state <s> ^a 1) (halt)}\nsp {w (state <s> ^a 9223372036854775808) --> (halt)}\n")
+    (codes "error 16 -:3: unexpected token at byte 29\nerror 14 -:4: number too wide at byte 20\n") status.Refusals
+
+-- a production over several lines, with a path, is printed one triple a line
+abbrev pub Printed : Type 0
+Printed =
+    WritesNow (codes "sp {p # a path\n  (state <s> ^io.input-link <in>)\n  -->\n  (<s> ^in <in>)}\nprint p\nprint q\n")
+    (codes "sp {p\n    (state <s> ^io <$1>)\n    (<$1> ^input-link <in>)\n    -->\n    (<s> ^in <in> +)\n}\nerror 32 -:6: no production q\n") status.Refusals
 
 -- no word of the command line is taken
 abbrev pub WordsGiven : Type 0

@@ -89,5 +89,7 @@ pub fn worked_present()
     ensures replaced_and_barred { present.ReplacedAndBarred }
     ensures joined { present.Joined }
     ensures forms { present.Forms }
+    ensures syntax { present.Syntax }
+    ensures printed { present.Printed }
     ensures words_given { present.WordsGiven }
 {}

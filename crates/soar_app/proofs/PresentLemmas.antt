@@ -1,13 +1,13 @@
 -- The transcript of the present stage is the run of the commands in a row.
-use Rattle.std.proofs.Common.{◌≡◌, ℕ, ◌^◌, ◌||◌, ◌++◌, nat_lt, Bool, true, false, List, [], ◌∷◌, map, take, length, Option, Some, None, refl, sym, ap, ◌∙◌, append_assoc}
+use Rattle.std.proofs.Common.{◌≡◌, ℕ, ◌^◌, ◌||◌, ◌++◌, nat_lt, Bool, true, false, List, [], ◌∷◌, take, length, Option, Some, None, refl, sym, ap, ◌∙◌, append_assoc}
 use Rattle.std.proofs.lemmas.List.{append-nil}
 use Rattle.std.specs.Prelude.{if◌then◌else◌}
+use Rattle.soar_edge.specs.Cutting.{Cut, whole, unfinished, too_long, cuts_of}
 use Rattle.soar_edge.specs.declared.filed.Filed.{Filed}
 use Rattle.soar_edge.specs.declared.status.Status.{Status}
 use Rattle.soar_edge.specs.declared.status.Status.TheVariants as status
 use Rattle.defs_soar.specs.declared.limit.Which.{Which}
-use Rattle.defs_run.specs.Commands.{CommandOf, commands_of, whole_part}
-use Rattle.defs_run.specs.Present.{cut_of_line, present_stage, present_transcript}
+use Rattle.defs_run.specs.Present.{present_stage, present_transcript}
 use Rattle.defs_run.specs.Runs.{Run, Ran, ended_as, ran, behind_text, then_run, Rendered, told_written, limited, after_reply}
 use Rattle.defs_run.specs.Sessions.{Session, Reply, first_session}
 use Rattle.defs_run.specs.Sources.{Obeying, after_sequel, cut_run, cuts_run, obeying}
@@ -23,7 +23,7 @@ use Rattle.soar_app.proofs.TellingLemmas.{told_whole, told_limited}
 abbrev run_at : Session → Bool → Run
 run_at s refused = record { session = s; refused = refused; fetched = 0; ended = None }
 
--- the end of a run whose input was too long, or not
+-- the end of a run whose input goes on, or not
 abbrev closed : Bool → Run → Ran
 closed true r = ran (ended_as status.TooLong r)
 closed false r = ran r
@@ -38,12 +38,12 @@ then_behind text r f = by r.run.ended
     by (Some s) = refl
 
 -- nothing more
-then_nothing : (r : Ran) → transcribed (then_run r ran) ≡ transcribed r
-then_nothing r = by r.run.ended refl
+then_nothing : (r : Ran) → then_run r ran ≡ r
+then_nothing r = by r.run.ended
   where
-    by : (o : Option Status) → r.run.ended ≡ o → transcribed (elim o as (λ _. Ran) [ None ↦ behind_text r.text (ran r.run) | Some s ↦ r ]) ≡ transcribed r
-    by None e = ap (λ t. transcribed (record { run = r.run; text = t })) (append-nil r.text)
-    by (Some s) e = refl
+    by : (o : Option Status) → (elim o as (λ _. Ran) [ None ↦ behind_text r.text (ran r.run) | Some s ↦ r ]) ≡ r
+    by None = ap (λ t. record { run = r.run; text = t }) (append-nil r.text)
+    by (Some s) = refl
 
 -- ---- a command
 
@@ -57,66 +57,76 @@ whole_command refused s reply within =
     })
     (told_whole s.agent.settings.watch s.mid_line reply.told within)
 
--- the rest of a run after a command, if it goes on
+-- the rest of a run after a command
 abbrev behind_command : Bool → (Run → Ran) → Ran → Transcript
-behind_command too_long rest r = transcribed (then_run (then_run (then_run r ran) rest) (closed too_long))
+behind_command goes_on rest r = transcribed (then_run (then_run r rest) (closed goes_on))
 
-goes_on_after : (too_long refused : Bool) (s : Session) (reply : Reply) (rest : Run → Ran) (told : Session → Bool → Transcript)
-    → ((next : Session) (again : Bool) → transcribed (then_run (rest (run_at next again)) (closed too_long)) ≡ told next again)
+-- where the rest of a run tells this
+abbrev Tells : Bool → (Run → Ran) → (Session → Bool → Transcript) → Type 0
+Tells goes_on rest told = (next : Session) (again : Bool) → transcribed (then_run (rest (run_at next again)) (closed goes_on)) ≡ told next again
+
+goes_on_after : (goes_on refused : Bool) (s : Session) (reply : Reply) (rest : Run → Ran) (told : Session → Bool → Transcript) → Tells goes_on rest told
     → limit_told reply.told ≡ None
-    → behind_command too_long rest (after_reply (run_at s refused) reply) ≡ before (step_text s reply) (told (session_after s reply) (refused || reply.refused))
-goes_on_after too_long refused s reply rest told later within =
+    → behind_command goes_on rest (after_reply (run_at s refused) reply) ≡ before (step_text s reply) (told (session_after s reply) (refused || reply.refused))
+goes_on_after goes_on refused s reply rest told later within =
     let next : Session = session_after s reply in
     let again : Bool = refused || reply.refused in
-    let text : List ℕ = (front_of s reply).text ++ [] in
-    ap (behind_command too_long rest) (whole_command refused s reply within)
-    ∙ ap transcribed (then_behind text (rest (run_at next again)) (closed too_long))
+    let text : List ℕ = (front_of s reply).text in
+    ap (behind_command goes_on rest) (whole_command refused s reply within)
+    ∙ ap transcribed (then_behind text (rest (run_at next again)) (closed goes_on))
     ∙ ap (before text) (later next again)
-    ∙ ap (λ o. before ((front_of s reply).text ++ limit_line (front_of s reply).mid_line o) (told next again)) (sym within)
+    ∙ ap (λ t. before t (told next again)) (sym (append-nil text))
+    ∙ ap (λ o. before (text ++ limit_line (front_of s reply).mid_line o) (told next again)) (sym within)
 
-stops_after : (too_long refused : Bool) (s : Session) (reply : Reply) (rest : Run → Ran) (limit : Which) → limit_told reply.told ≡ Some limit
-    → behind_command too_long rest (after_reply (run_at s refused) reply) ≡ record { text = step_text s reply; status = status.Limit }
-stops_after too_long refused s reply rest limit passed =
+stops_after : (goes_on refused : Bool) (s : Session) (reply : Reply) (rest : Run → Ran) (limit : Which) → limit_told reply.told ≡ Some limit
+    → behind_command goes_on rest (after_reply (run_at s refused) reply) ≡ record { text = step_text s reply; status = status.Limit }
+stops_after goes_on refused s reply rest limit passed =
     let w : Rendered = told_written s.agent.settings.watch s.mid_line reply.told in
     let r : Run = record { session = record reply.session { mid_line = w.written.mid_line }; refused = refused || reply.refused; fetched = 0; ended = None } in
     let it = told_limited s.agent.settings.watch s.mid_line reply.told limit passed in
-    ap (λ o. behind_command too_long rest (record { run = limited r o; text = w.written.text })) it.0
+    ap (λ o. behind_command goes_on rest (record { run = limited r o; text = w.written.text })) it.0
     ∙ ap (λ text. record { text = text; status = status.Limit })
     (it.1 ∙ ap (λ o. (front_of s reply).text ++ limit_line (front_of s reply).mid_line o) (sym passed))
 
--- one command, and the rest
-one_command : (inner : Option Obeying) (files : List Filed) (too_long refused : Bool) (s : Session) (c : CommandOf) (rest : Run → Ran) (told : Session → Bool → Transcript)
-    → ((next : Session) (again : Bool) → transcribed (then_run (rest (run_at next again)) (closed too_long)) ≡ told next again)
-    → transcribed (then_run (then_run (cut_run present_stage inner files standard_input (cut_of_line c) (run_at s refused)) rest) (closed too_long))
-    ≡ next_after s (reply_to c s) (λ next again. told next (refused || again)) (limit_told (reply_to c s).told)
-one_command inner files too_long refused s c rest told later = sequel ∙ by (limit_told reply.told) refl
+-- a reply, and the rest
+one_reply : (goes_on refused : Bool) (s : Session) (reply : Reply) (rest : Run → Ran) (told : Session → Bool → Transcript) → Tells goes_on rest told
+    → behind_command goes_on rest (after_reply (run_at s refused) reply) ≡ next_after s reply (λ next again. told next (refused || again)) (limit_told reply.told)
+one_reply goes_on refused s reply rest told later = by (limit_told reply.told) refl
   where
-    reply : Reply
-    reply = reply_to c s
-
-    sequel : transcribed (then_run (then_run (cut_run present_stage inner files standard_input (cut_of_line c) (run_at s refused)) rest) (closed too_long))
-        ≡ behind_command too_long rest (after_reply (run_at s refused) reply)
-    sequel = ap (λ q. transcribed (then_run (then_run (then_run (after_reply (run_at s refused) reply) (after_sequel inner files standard_input c.line q)) rest) (closed too_long)))
-        (command_goes_on standard_input c.line c.text s)
-
     by : (o : Option Which) → limit_told reply.told ≡ o
-        → behind_command too_long rest (after_reply (run_at s refused) reply) ≡ next_after s reply (λ next again. told next (refused || again)) o
-    by None within = goes_on_after too_long refused s reply rest told later within
-    by (Some limit) passed = stops_after too_long refused s reply rest limit passed
+        → behind_command goes_on rest (after_reply (run_at s refused) reply) ≡ next_after s reply (λ next again. told next (refused || again)) o
+    by None within = goes_on_after goes_on refused s reply rest told later within
+    by (Some limit) passed = stops_after goes_on refused s reply rest limit passed
+
+-- a command asks for no file, and does not end the run
+one_command : (inner : Option Obeying) (files : List Filed) (goes_on refused : Bool) (s : Session) (number : ℕ) (text : List ℕ) (rest : Run → Ran) (told : Session → Bool → Transcript)
+    → Tells goes_on rest told
+    → behind_command goes_on rest (cut_run present_stage inner files standard_input (whole number text) (run_at s refused))
+    ≡ next_after s (reply_to (whole number text) s) (λ next again. told next (refused || again)) (limit_told (reply_to (whole number text) s).told)
+one_command inner files goes_on refused s number text rest told later =
+    let reply : Reply = reply_to (whole number text) s in
+    let r : Ran = after_reply (run_at s refused) reply in
+    ap (λ q. behind_command goes_on rest (then_run r (after_sequel inner files standard_input number q))) (command_goes_on standard_input number text s)
+    ∙ ap (behind_command goes_on rest) (then_nothing r)
+    ∙ one_reply goes_on refused s reply rest told later
 
 -- ---- commands in a row
 
-none_left : (too_long : Bool) (s : Session) (refused : Bool) → transcribed (then_run (ran (run_at s refused)) (closed too_long)) ≡ run_from too_long s refused []
+none_left : (goes_on : Bool) (s : Session) (refused : Bool) → transcribed (then_run (ran (run_at s refused)) (closed goes_on)) ≡ run_from goes_on s refused []
 none_left true s refused = refl
 none_left false s true = refl
 none_left false s false = refl
 
-commands_run : (inner : Option Obeying) (files : List Filed) (too_long : Bool) (s : Session) (refused : Bool) (commands : List CommandOf)
-    → transcribed (then_run (cuts_run present_stage inner files standard_input (map cut_of_line commands) (run_at s refused)) (closed too_long)) ≡ run_from too_long s refused commands
-commands_run inner files too_long s refused [] = none_left too_long s refused
-commands_run inner files too_long s refused (c ∷ commands) =
-    one_command inner files too_long refused s c (cuts_run present_stage inner files standard_input (map cut_of_line commands)) (λ next again. run_from too_long next again commands)
-    (λ next again. commands_run inner files too_long next again commands)
+commands_run : (inner : Option Obeying) (files : List Filed) (goes_on : Bool) (s : Session) (refused : Bool) (cuts : List Cut)
+    → transcribed (then_run (cuts_run present_stage inner files standard_input cuts (run_at s refused)) (closed goes_on)) ≡ run_from goes_on s refused cuts
+commands_run inner files goes_on s refused [] = none_left goes_on s refused
+commands_run inner files goes_on s refused (too_long ∷ cuts) = refl
+commands_run inner files goes_on s refused (unfinished number ∷ cuts) =
+    one_reply goes_on refused s (reply_to (unfinished number) s) (cuts_run present_stage inner files standard_input cuts) (λ next again. run_from goes_on next again cuts)
+    (λ next again. commands_run inner files goes_on next again cuts)
+commands_run inner files goes_on s refused (whole number text ∷ cuts) =
+    one_command inner files goes_on refused s number text (cuts_run present_stage inner files standard_input cuts) (λ next again. run_from goes_on next again cuts)
+    (λ next again. commands_run inner files goes_on next again cuts)
 
 -- ---- the whole
 
@@ -128,11 +138,11 @@ input_told files input = by (nat_lt (2 ^ 26) (length input))
 
     by : (b : Bool) → transcribed (if b then then_run (obeying present_stage files 16 standard_input false (take (2 ^ 26) input) start) (λ next. ran (ended_as status.TooLong next))
         else obeying present_stage files 16 standard_input true input start)
-        ≡ (if b then run_from true (first_session 1) false (commands_of (whole_part (take (2 ^ 26) input))) else run_from false (first_session 1) false (commands_of input))
-    by true = commands_run (Some (obeying present_stage files 15)) files true (first_session 1) false (commands_of (whole_part (take (2 ^ 26) input)))
+        ≡ (if b then run_from true (first_session 1) false (cuts_of false (take (2 ^ 26) input)) else run_from false (first_session 1) false (cuts_of true input))
+    by true = commands_run (Some (obeying present_stage files 15)) files true (first_session 1) false (cuts_of false (take (2 ^ 26) input))
     by false =
-        sym (then_nothing (obeying present_stage files 16 standard_input true input start))
-        ∙ commands_run (Some (obeying present_stage files 15)) files false (first_session 1) false (commands_of input)
+        sym (ap transcribed (then_nothing (obeying present_stage files 16 standard_input true input start)))
+        ∙ commands_run (Some (obeying present_stage files 15)) files false (first_session 1) false (cuts_of true input)
 
 -- no words: the commands of the input
 pub present_run : (files : List Filed) (input : List ℕ) → present_transcript [] files input ≡ whole_run input

@@ -3,28 +3,37 @@ use Rattle.std.proofs.Common.{◌≡◌, ℕ, ◌&&◌, not, nat_le, Bool, true,
 use Rattle.std.specs.Prelude.{option_map, option_and_then, if◌then◌else◌, codes}
 use Rattle.std.specs.Str.{bytes_eq}
 use Rattle.soar_sym.specs.Words.{Texts}
+use Rattle.soar_sym.specs.declared.symbol.Sym.{Sym}
 use Rattle.soar_sym.specs.declared.symbol.Sym.TheVariants.{Ident}
+use Rattle.soar_edge.specs.Cutting.{uncommented}
+use Rattle.soar_rule.specs.Productions.{ProductionOf}
 use Rattle.soar_wm.specs.declared.element.Element.{Element}
 use Rattle.soar_wm.specs.WorkingMemory.{triple_of, tag_of, element_of}
 use Rattle.defs_text.specs.Lexing.{Lexed, lexed, Spelled, Fault}
 use Rattle.defs_text.specs.Numbered.{numbered, words_after}
 use Rattle.defs_text.specs.declared.token.Token.{Token}
+use Rattle.defs_match.specs.Rules.{RuleOf}
+use Rattle.defs_read.specs.Expansion.{production_of}
+use Rattle.defs_read.specs.Grammar.{Tree}
+use Rattle.defs_read.specs.Readers.{Stop}
+use Rattle.defs_read.specs.ReadingActions.{tree_of}
 use Rattle.defs_soar.specs.Agents.{Agent}
 use Rattle.defs_soar.specs.Phases.{Course}
 use Rattle.defs_soar.specs.Values.{has_triple_among}
 use Rattle.defs_run.specs.AdditionForms.{addition_at}
-use Rattle.defs_run.specs.Arguments.{Argument, number, argument_in, id_of}
-use Rattle.defs_run.specs.Carrying.{carried_out}
-use Rattle.defs_run.specs.CommandForms.{number_order, tag_order}
+use Rattle.defs_run.specs.Arguments.{Argument, number, argument_in}
+use Rattle.defs_run.specs.Carrying.{carried_out, rule_named}
+use Rattle.defs_run.specs.CommandForms.{number_order, tag_order, printing_order}
 use Rattle.defs_run.specs.Commands.{first_run}
-use Rattle.defs_run.specs.Forms.{outline_at}
-use Rattle.defs_run.specs.Inputs.{Carried, refuses, Spelled as Resolved, spelled, unless_unknown, first_unknown, is_top_level, is_reserved, unless_there, added, removed}
-use Rattle.defs_run.specs.Loading.{production_of}
-use Rattle.defs_run.specs.Orders.{Operand, is_symbol, is_label, Order, load, add_wme, remove_wme, run_cycles, print_id, Refusal, not_built, no_element}
-use Rattle.defs_run.specs.Present.{Form, of_tokens, of_arguments, form_of, as_addition, as_print, print_order, matches_order, or_not_built, order_by, read_by, read_present, present_stage}
+use Rattle.defs_run.specs.FirstForm.{is_first_form}
+use Rattle.defs_run.specs.Inputs.{Carried, does, refuses, Spelled as Resolved, spelled, unless_unknown, first_unknown, is_top_level, is_reserved, unless_there, added, removed}
+use Rattle.defs_run.specs.Listing.{production_lines}
+use Rattle.defs_run.specs.Orders.{Operand, is_symbol, Order, load, add_wme, remove_wme, run_cycles, print_id, print_name, Refusal, not_built, no_element, no_production}
+use Rattle.defs_run.specs.Present.{Form, of_tokens, of_arguments, form_of, as_addition, built_print, judged, matches_order, or_not_built, read_by, read_order, read_present, present_stage}
 use Rattle.defs_run.specs.Runs.{replied_by, ordered_by, obeyed}
-use Rattle.defs_run.specs.Sessions.{Session, goes_on, unknown_in}
+use Rattle.defs_run.specs.Sessions.{Session, goes_on, says, unknown_in}
 use Rattle.defs_run.specs.Stages.{Reading}
+use Rattle.defs_run.specs.WholeReading.{of_lexing, read_sp, read_tokens, read_tree, unless_faulty}
 
 -- ---- orders
 
@@ -73,6 +82,14 @@ run_plain n = λ run s. either s.agent.halted _ _ (λ from place t. refl) (λ fr
 print_plain : (id : Operand) → IsPlain (print_id id)
 print_plain id = λ run s. unless (unknown_in s id) _ (λ from place t. refl)
 
+show_plain : (name : Sym) → IsPlain (print_name name)
+show_plain name = λ run s. by s (rule_named s.agent.program.rules name)
+  where
+    by : (s : Session) (o : Option RuleOf)
+        → GoesOn (elim o as (λ _. Carried) [ None ↦ refuses (no_production s.agent.names.words name) | Some rule ↦ does (says s (production_lines s.agent rule)) ])
+    by s None = λ from place t. refl
+    by s (Some rule) = λ from place t. refl
+
 -- ---- forms
 
 -- an order, where there is one
@@ -82,7 +99,7 @@ IsPlainOrder None = Unit {0}
 
 abbrev IsPlainForm : Form → Type 0
 IsPlainForm (of_tokens f) = (words : Texts) (tokens : List Token) → IsPlainOrder (f words tokens)
-IsPlainForm (of_arguments f) = (arguments : List Argument) → IsPlainOrder (f arguments)
+IsPlainForm (of_arguments f) = (words : Texts) (arguments : List Argument) → IsPlainOrder (f words arguments)
 
 abbrev ArePlain : Option Form → Type 0
 ArePlain (Some form) = IsPlainForm form
@@ -109,14 +126,14 @@ tag_plain : (arguments : List Argument) → IsPlainOrder (tag_order arguments)
 tag_plain (number n ∷ []) = remove_plain n
 tag_plain other = tt
 
-printed_plain : (o : Option Operand) → IsPlainOrder (option_and_then as_print o)
-printed_plain (Some (is_symbol s)) = print_plain (is_symbol s)
-printed_plain (Some (is_label name)) = tt
-printed_plain None = tt
+built_plain : (order : Order) → IsPlainOrder (built_print order)
+built_plain (print_id (is_symbol s)) = print_plain (is_symbol s)
+built_plain (print_name name) = show_plain name
+built_plain other = tt
 
-prints_plain : (arguments : List Argument) → IsPlainOrder (print_order arguments)
-prints_plain (a ∷ []) = printed_plain (id_of a)
-prints_plain other = tt
+printed_plain : (o : Option Order) → IsPlainOrder (option_and_then built_print o)
+printed_plain (Some order) = built_plain order
+printed_plain None = tt
 
 choice : (b : Bool) (x y : Option Form) → ArePlain x → ArePlain y → ArePlain (if b then x else y)
 choice true x y this that = this
@@ -124,12 +141,11 @@ choice false x y this that = that
 
 forms_plain : (word : List ℕ) → ArePlain (form_of word)
 forms_plain word =
-    choice (bytes_eq word (codes "sp")) _ _ (λ words tokens. made_plain (λ o. load (production_of o)) (outline_at tokens) (λ o run s from place t. refl))
-    (choice (bytes_eq word (codes "add-wme")) _ _ (λ words tokens. made_plain as_addition (addition_at words tokens) (λ a. add_plain (is_symbol (Ident 83 1)) (is_symbol a.attr) (is_symbol a.value)))
+    choice (bytes_eq word (codes "add-wme")) _ _ (λ words tokens. made_plain as_addition (addition_at words tokens) (λ a. add_plain (is_symbol (Ident 83 1)) (is_symbol a.attr) (is_symbol a.value)))
     (choice (bytes_eq word (codes "matches")) _ _ (λ words tokens. matches_plain tokens)
-    (choice (bytes_eq word (codes "run")) _ _ number_plain
-    (choice (bytes_eq word (codes "remove-wme")) _ _ tag_plain
-    (choice (bytes_eq word (codes "print")) _ _ prints_plain tt)))))
+    (choice (bytes_eq word (codes "run")) _ _ (λ words arguments. number_plain arguments)
+    (choice (bytes_eq word (codes "remove-wme")) _ _ (λ words arguments. tag_plain arguments)
+    (choice (bytes_eq word (codes "print")) _ _ (λ words arguments. printed_plain (printing_order words arguments)) tt))))
 
 -- ---- commands
 
@@ -142,17 +158,44 @@ or_plain : (o : Option Order) → IsPlainOrder o → IsPlainRead (or_not_built o
 or_plain (Some order) plain = plain
 or_plain None plain = tt
 
-order_plain : (f : Form) (words : Texts) (text : List ℕ) (tokens : List Spelled) → IsPlainForm f → IsPlainOrder (order_by f words text tokens)
-order_plain (of_tokens f) words text tokens plain = plain words (drop 1 (map (numbered words) tokens))
-order_plain (of_arguments f) words text tokens plain = plain (drop 1 (map (argument_in text) tokens))
-
-read_plain : (words : Texts) (text : List ℕ) (o : Option Form) → ArePlain o → IsPlainRead (read_by words text o).order
-read_plain words text None plain = tt
-read_plain words text (Some f) plain = by (lexed text) (lexed text).fault
+-- what is read of a text without a fault
+unless_plain : (words : Texts) (l : Lexed) (f : Texts → List Spelled → Reading) → ((read : Texts) (tokens : List Spelled) → IsPlainRead (f read tokens).order)
+    → IsPlainRead (unless_faulty words l f).order
+unless_plain words l f plain = by l.fault
   where
-    by : (l : Lexed) (o : Option Fault) → IsPlainRead (elim o as (λ _. Result Order Refusal) [ Some e ↦ Err not_built | None ↦ or_not_built (order_by f (words_after words l.tokens) text l.tokens) ])
-    by l (Some e) = tt
-    by l None = or_plain _ (order_plain f (words_after words l.tokens) text l.tokens plain)
+    by : (o : Option Fault) → IsPlainRead (elim o as (λ _. Reading) [ Some e ↦ record { words = words_after words l.tokens; order = Err (of_lexing e) } | None ↦ f (words_after words l.tokens) l.tokens ]).order
+    by (Some e) = tt
+    by None = plain (words_after words l.tokens) l.tokens
+
+order_plain : (f : Form) (text : List ℕ) → IsPlainForm f → (words : Texts) (tokens : List Spelled) → IsPlainRead (read_order f text words tokens).order
+order_plain (of_tokens f) text plain words tokens = or_plain _ (plain words (drop 1 (map (numbered words) tokens)))
+order_plain (of_arguments f) text plain words tokens = or_plain _ (plain words (drop 1 (map (argument_in text) tokens)))
+
+by_plain : (words : Texts) (text : List ℕ) (o : Option Form) → ArePlain o → IsPlainRead (read_by words text o).order
+by_plain words text None plain = tt
+by_plain words text (Some f) plain = unless_plain words (lexed (uncommented text)) (read_order f text) (order_plain f text plain)
+
+-- a production of the first form is loaded, and another refused
+judged_plain : (words : Texts) (p : ProductionOf) → IsPlainRead (judged words p)
+judged_plain words p = by (is_first_form p)
+  where
+    by : (b : Bool) → IsPlainRead (if b then Ok (load p) else Err not_built)
+    by true = λ run s from place t. refl
+    by false = tt
+
+tree_plain : (words : Texts) (tokens : List Spelled) (o : Result Tree (Stop × ℕ)) → IsPlainRead (read_tree judged words tokens o).order
+tree_plain words tokens (Err stop) = tt
+tree_plain words tokens (Ok tree) = let r = production_of words (map (λ t. t.says) tokens) tree in judged_plain r.words r.production
+
+production_plain : (words : Texts) (text : List ℕ) → IsPlainRead (read_sp judged words text).order
+production_plain words text = unless_plain words (lexed (uncommented text)) (read_tokens judged) (λ read tokens. tree_plain read tokens (tree_of (map (λ t. t.says) tokens)))
+
+read_plain : (words : Texts) (text : List ℕ) → IsPlainRead (read_present words text).order
+read_plain words text = by (bytes_eq (first_run text) (codes "sp"))
+  where
+    by : (b : Bool) → IsPlainRead (if b then read_sp judged words text else read_by words text (form_of (first_run text))).order
+    by true = production_plain words text
+    by false = by_plain words text (form_of (first_run text)) (forms_plain (first_run text))
 
 ordered_plain : (from : List ℕ) (place : ℕ) (s : Session) (r : Result Order Refusal) → IsPlainRead r → (ordered_by present_stage from place s r).sequel ≡ goes_on
 ordered_plain from place s (Ok order) plain = plain present_stage.run s from place s
@@ -166,4 +209,4 @@ command_goes_on from place text s =
     let r : Reading = read_present words text in
     let a : Agent = s.agent in
     ordered_plain from place (record s { agent = record a { names = record a.names { words = r.words } } }) r.order
-    (read_plain words text (form_of (first_run text)) (forms_plain (first_run text)))
+    (read_plain words text)

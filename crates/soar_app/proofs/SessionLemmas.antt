@@ -1,10 +1,10 @@
 -- What the answers of the session's calls come to, reply by reply.
-use Rattle.std.proofs.Common.{◌≡◌, ℕ, zero, suc, ◌+◌, ◌-◌, ◌^◌, ◌<◌, ◌≤◌, Bool, true, false, cond, nat_lt, List, [], ◌∷◌, ◌++◌, length, map, Option, Some, None, Result, Ok, Err, refl, sym, ap, subst, ◌∙◌, arith, append-nil, length-append}
+use Rattle.std.proofs.Common.{◌≡◌, ℕ, zero, suc, ◌+◌, ◌-◌, ◌^◌, ◌<◌, ◌≤◌, Bool, true, false, cond, nat_lt, List, [], ◌∷◌, ◌++◌, length, map, Some, None, Result, Ok, Err, refl, sym, ap, subst, ◌∙◌, arith, append-nil, length-append}
 use Rattle.std.proofs.lemmas.Bool.Decides.{nat_tests}
 use Rattle.std.proofs.lemmas.List.{length-map}
 use Rattle.std.specs.Prelude.{codes}
 use Rattle.soar_sym.specs.Words.{Texts}
-use Rattle.defs_text.specs.Lexing.{Lexed, Piece, token, nothing, fault, front_at, piece_of, with_token, lexed_from, lexed, Fault}
+use Rattle.defs_text.specs.Lexing.{Lexed, Piece, token, nothing, fault, front_at, piece_of, with_token, lexed_from, lexed}
 use Rattle.defs_text.specs.Numbered.{numbered, words_after}
 use Rattle.defs_text.specs.declared.token.Token.{Token}
 use Rattle.defs_text.specs.declared.token.LexFault.{LexFault}
@@ -15,17 +15,15 @@ use Rattle.defs_soar.specs.declared.limit.Which.TheVariants as which
 use Rattle.defs_soar.specs.History.{Past}
 use Rattle.defs_soar.specs.Limits.{Drawn, words_to, limit_of, passes, or_else, first_passed}
 use Rattle.defs_soar.specs.Trace.{Written, followed_by, line_text}
-use Rattle.defs_run.specs.Orders.{Order, Refusal, not_built, refusal_text}
-use Rattle.defs_run.specs.Present.{Form, or_not_built, order_by, present_stage, read_form}
-use Rattle.defs_run.specs.Runs.{after_reading, ordered_by}
+use Rattle.defs_run.specs.Orders.{Refusal, refusal_text}
 use Rattle.defs_run.specs.Sessions.{Session, Reply, refused_by, says, draws}
 use Rattle.soar_cycle.specs.Seen.{IsSound}
 use Rattle.soar_cycle.specs.declared.stop.Stop.{Stop}
 use Rattle.soar_cycle.specs.declared.stop.Stop.TheVariants as stop
-use Rattle.soar_app.specs.Carries.{with_table}
-use Rattle.soar_app.specs.Known.{AreTokensKnown, AreSpelledIn}
+use Rattle.defs_read.specs.Sayings.{AreTokensKnown}
+use Rattle.soar_app.specs.Known.{AreSpelledIn}
 use Rattle.soar_app.specs.States.{session_of}
-use Rattle.soar_app.specs.Steps.{Obeys, StopsBy, watch}
+use Rattle.soar_app.specs.Steps.{Obeys, watch}
 use Rattle.soar_app.specs.Telling.{limit_told, front_told}
 use Rattle.soar_app.specs.declared.state.Session.{Session as SessionKept}
 use Rattle.soar_app.proofs.WordLemmas.{tokens_known, tokens_spelled, words_more}
@@ -142,8 +140,11 @@ pub cut_few : (old new : Texts) (bytes : List ℕ) (tokens : List Token) → Cut
 cut_few old new bytes tokens cut =
     omega (arith, ap length cut.tokens_are, length-map (lexed bytes).tokens (numbered new), tokens_few bytes)
 
-gained_few : (old new : Texts) (text : Lexed) → length old < 2 ^ 32 → Gained old new text → length (words_after old text.tokens) < 2 ^ 32
+pub gained_few : (old new : Texts) (text : Lexed) → length old < 2 ^ 32 → Gained old new text → length (words_after old text.tokens) < 2 ^ 32
 gained_few old new text small gained = grind (arith, ap length gained.words, words_more old text.tokens, gained.few)
+
+pub cut_small : (old new : Texts) (text : Lexed) (tokens : List Token) → length old < 2 ^ 32 → CutWhole old new text tokens → length new < 2 ^ 32
+cut_small old new text tokens small cut = omega (arith, ap length cut.gained.words, gained_few old new text small cut.gained)
 
 pub gained_more : (old new : Texts) (text : Lexed) → Gained old new text → length old ≤ length new
 gained_more old new text gained = omega (arith, ap length gained.words, words_more old text.tokens)
@@ -159,66 +160,3 @@ fault_more old new text (faults.WideNumber place) cut = gained_more old new text
 fault_more old new text (faults.FloatNumber place) cut = gained_more old new text cut.1
 fault_more old new text faults.WordsSpent cut = grown_more old new cut.1
 fault_more old new text faults.NoMemory cut = grown_more old new cut
-
--- ---- the words of a command first
-
-abbrev order_read : Form → Texts → List ℕ → Lexed → Option Fault → Result Order Refusal
-order_read f words text l o = elim o as (λ _. Result Order Refusal) [ Some e ↦ Err not_built | None ↦ or_not_built (order_by f words text l.tokens) ]
-
--- the order, or its refusal, in the session that has read the words
-reads : (s new : SessionKept) (line : ℕ) (text : List ℕ) (f : Form) (l : Lexed) (table : Texts) (r : Result Order Refusal) (history : List Past) (before after : List ℕ) (result : Result Bool Stop)
-    → length s.agent.table < 2 ^ 32 → Gained s.agent.table table l → order_read f table text l l.fault ≡ r
-    → Obeys s.mid_line (ordered_by present_stage (codes "-") line (session_of (with_table table s) history) r) new before after result
-    → Obeys s.mid_line (after_reading present_stage (codes "-") line (session_of s history) (read_form s.agent.table text f l)) new before after result
-reads s new line text f l table r history before after result small gained is obeys =
-    let read : Texts → Reply = λ words. ordered_by present_stage (codes "-") line (session_of (with_table words s) history) (order_read f words text l l.fault) in
-    let after_words : Obeys s.mid_line (read (words_after s.agent.table l.tokens)) new before after result =
-    subst (λ words. Obeys s.mid_line (read words) new before after result) gained.words
-    (subst (λ o. Obeys s.mid_line (ordered_by present_stage (codes "-") line (session_of (with_table table s) history) o) new before after result) (sym is) obeys) in
-    obeys_same s.mid_line (draws (words_to (length (words_after s.agent.table l.tokens)) ∷ []) (read (words_after s.agent.table l.tokens))) (read (words_after s.agent.table l.tokens)) new before after result
-    (drawn_same (words_to (length (words_after s.agent.table l.tokens)) ∷ []) (read (words_after s.agent.table l.tokens)) (words_fit _ (gained_few s.agent.table table l small gained)))
-    after_words
-
--- a whole text, and what its order did
-pub reads_whole : (s new : SessionKept) (line : ℕ) (text : List ℕ) (f : Form) (l : Lexed) (table : Texts) (tokens : List Token) (history : List Past) (before after : List ℕ) (result : Result Bool Stop)
-    → length s.agent.table < 2 ^ 32 → CutWhole s.agent.table table l tokens
-    → Obeys s.mid_line (ordered_by present_stage (codes "-") line (session_of (with_table table s) history) (or_not_built (order_by f table text l.tokens))) new before after result
-    → Obeys s.mid_line (after_reading present_stage (codes "-") line (session_of s history) (read_form s.agent.table text f l)) new before after result
-reads_whole s new line text f l table tokens history before after result small cut obeys =
-    reads s new line text f l table (or_not_built (order_by f table text l.tokens)) history before after result small cut.gained (ap (order_read f table text l) cut.fault) obeys
-
--- a fault that is no cause to stop
-refused_text : (old new : Texts) (l : Lexed) (reason : LexFault) → IsCut old new l (Err reason) → StopsBy reason None → ((e : Fault) × (l.fault ≡ Some e)) × Gained old new l
-refused_text old new l (faults.BadByte place) cut none = ((_, cut.0), cut.1)
-refused_text old new l (faults.OpenString place) cut none = ((_, cut.0), cut.1)
-refused_text old new l (faults.WideNumber place) cut none = ((_, cut.0), cut.1)
-refused_text old new l (faults.FloatNumber place) cut none = ((_, cut.0), cut.1)
-refused_text old new l faults.WordsSpent cut none = absurd (cc)
-refused_text old new l faults.NoMemory cut none = absurd (cc)
-
--- a text with a fault, which is refused
-pub reads_faulty : (s new : SessionKept) (line : ℕ) (text : List ℕ) (f : Form) (l : Lexed) (table : Texts) (reason : LexFault) (history : List Past) (before after : List ℕ) (result : Result Bool Stop)
-    → length s.agent.table < 2 ^ 32 → IsCut s.agent.table table l (Err reason) → StopsBy reason None
-    → Obeys s.mid_line (refused_by not_built (codes "-") line (session_of (with_table table s) history)) new before after result
-    → Obeys s.mid_line (after_reading present_stage (codes "-") line (session_of s history) (read_form s.agent.table text f l)) new before after result
-reads_faulty s new line text f l table reason history before after result small cut none obeys =
-    let read : ((e : Fault) × (l.fault ≡ Some e)) × Gained s.agent.table table l = refused_text s.agent.table table l reason cut none in
-    reads s new line text f l table (Err not_built) history before after result small read.1 (ap (order_read f table text l) read.0.1) obeys
-
--- a text with a fault that stops the session
-pub reads_stopped : (s new : SessionKept) (line : ℕ) (text : List ℕ) (f : Form) (l : Lexed) (table : Texts) (reason : LexFault) (why : Stop) (history : List Past) (said : List ℕ)
-    → IsCut s.agent.table table l (Err reason) → StopsBy reason (Some why) → new.mid_line ≡ s.mid_line
-    → Obeys s.mid_line (after_reading present_stage (codes "-") line (session_of s history) (read_form s.agent.table text f l)) new said said (Err why)
-reads_stopped s new line text f l table (faults.BadByte place) why history said cut stops same = absurd (cc)
-reads_stopped s new line text f l table (faults.OpenString place) why history said cut stops same = absurd (cc)
-reads_stopped s new line text f l table (faults.WideNumber place) why history said cut stops same = absurd (cc)
-reads_stopped s new line text f l table (faults.FloatNumber place) why history said cut stops same = absurd (cc)
-reads_stopped s new line text f l table faults.WordsSpent why history said cut stops same =
-    let e : stop.Limit which.Words ≡ why = cc in
-    subst (λ o. Obeys s.mid_line (after_reading present_stage (codes "-") line (session_of s history) (read_form s.agent.table text f l)) new said said (Err o)) e
-    (drawn_stops s.mid_line (words_to (length (words_after s.agent.table l.tokens)) ∷ [])
-    (ordered_by present_stage (codes "-") line (session_of (with_table (words_after s.agent.table l.tokens) s) history) (order_read f (words_after s.agent.table l.tokens) text l l.fault))
-    new said which.Words (words_spent _ cut.0) same)
-reads_stopped s new line text f l table faults.NoMemory why history said cut stops same =
-    let e : stop.NoMemory ≡ why = cc in
-    subst (λ o. Obeys s.mid_line (after_reading present_stage (codes "-") line (session_of s history) (read_form s.agent.table text f l)) new said said (Err o)) e tt

@@ -1,5 +1,6 @@
--- What a command writes that passes a limit.
+-- What a command writes, as a text of its own.
 use Rattle.std.proofs.Common.{◌≡◌, ℕ, Bool, List, [], ◌++◌, Err, sym, ap, subst, ◌∙◌}
+use Rattle.std.proofs.lemmas.List.{append-nil}
 use Rattle.defs_soar.specs.History.{Past}
 use Rattle.defs_soar.specs.Limits.{limit_text}
 use Rattle.defs_soar.specs.Trace.{Written, line_text}
@@ -9,8 +10,18 @@ use Rattle.soar_cycle.specs.declared.stop.Stop.{Stop}
 use Rattle.soar_cycle.specs.declared.stop.Stop.TheVariants as stop
 use Rattle.soar_app.specs.Runs.{limit_line, step_text}
 use Rattle.soar_app.specs.States.{session_of}
-use Rattle.soar_app.specs.Steps.{Obeys, Stops, written_of}
+use Rattle.soar_app.specs.Steps.{Obeys, Replied, Stops, written_of}
 use Rattle.soar_app.specs.declared.state.Session.{Session as SessionKept}
+
+-- where it passes no limit
+pub said_whole : (old new : SessionKept) (history : List Past) (reply : Reply) (before text : List ℕ) (answer : Bool)
+    → before ≡ [] → Replied old.mid_line reply new before text answer → text ≡ step_text (session_of old history) reply
+said_whole old new history reply before text answer none replied =
+    let front : Written = written_of old.mid_line reply in
+    replied.text
+    ∙ ap (λ t. t ++ front.text) none
+    ∙ sym (append-nil front.text)
+    ∙ ap (λ o. front.text ++ limit_line front.mid_line o) (sym replied.within)
 
 pub stops_at : (mid : Bool) (reply : Reply) (new : SessionKept) (before after : List ℕ) (why : Stop) (limit : Which) → why ≡ stop.Limit limit
     → Obeys mid reply new before after (Err why) → Stops mid reply new before after limit

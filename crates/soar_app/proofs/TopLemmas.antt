@@ -1,12 +1,12 @@
 -- What the top call owes for words that are there.
-use Rattle.std.proofs.Common.{◌≡◌, ℕ, ◌^◌, ◌≤◌, ◌||◌, ◌∙◌, Bool, true, false, nat_lt, List, [], ◌∷◌, length, take, Option, Some, None, map, String, Global, string_bytes, refl, sym, ap, subst, arith}
+use Rattle.std.proofs.Common.{◌≡◌, ℕ, ◌^◌, ◌≤◌, ◌||◌, ◌∙◌, not, Bool, true, false, nat_lt, List, [], ◌∷◌, length, take, Option, Some, None, map, String, Global, string_bytes, refl, sym, ap, subst, arith}
 use Rattle.std.specs.Prelude.{IfSome, if◌then◌else◌}
 use Rattle.std.proofs.lemmas.Grind.{common_steps}
+use Rattle.soar_edge.specs.Cutting.{Cut, too_long, cuts_of}
 use Rattle.soar_edge.specs.Outside.{Appends, AppendsSome}
 use Rattle.soar_edge.specs.declared.filed.Filed.{Filed}
 use Rattle.soar_edge.specs.declared.status.Status.{Status}
 use Rattle.soar_edge.specs.declared.status.Status.TheVariants as status
-use Rattle.defs_run.specs.Commands.{CommandOf, commands_of, whole_part}
 use Rattle.defs_run.specs.Present.{present_transcript}
 use Rattle.defs_run.specs.Sessions.{Session, first_session}
 use Rattle.defs_run.specs.Transcripts.{Transcript, usage_text}
@@ -40,19 +40,21 @@ always_told : (left : Option (List ℕ)) (P : Type 0) → P → IfSome left (λ 
 always_told None P h = tt
 always_told (Some bytes) P h = h
 
+-- the run of the bytes that are run, of which the input has more or not
+abbrev pub run_of : Bool → List ℕ → Transcript
+run_of goes_on bytes = run_from goes_on (first_session 1) false (cuts_of (not goes_on) bytes)
+
 -- the commands of a slice that is this text
-pub transcript_of : (old new : Option (List ℕ)) (answer : Status) (too_long : Bool) (end : End) (slice text : List ℕ)
-    → Appends old new (run_from too_long (first_session 1) false (commands_of slice)).text
-    → end_status too_long end ≡ (run_from too_long (first_session 1) false (commands_of slice)).status
-    → answer ≡ end_status too_long end → slice ≡ text → IsTranscript old new answer (run_from too_long (first_session 1) false (commands_of text))
-transcript_of old new answer too_long end slice text written ends it is = record {
-  text = subst (λ t. Appends old new (run_from too_long (first_session 1) false (commands_of t)).text) is written;
-  status = it ∙ ends ∙ ap (λ t. (run_from too_long (first_session 1) false (commands_of t)).status) is;
+pub transcript_of : (old new : Option (List ℕ)) (answer : Status) (goes_on : Bool) (end : End) (slice text : List ℕ) → Appends old new (run_of goes_on slice).text
+    → end_status goes_on end ≡ (run_of goes_on slice).status → answer ≡ end_status goes_on end → slice ≡ text → IsTranscript old new answer (run_of goes_on text)
+transcript_of old new answer goes_on end slice text written ends it is = record {
+  text = subst (λ t. Appends old new (run_of goes_on t).text) is written;
+  status = it ∙ ends ∙ ap (λ t. (run_of goes_on t).status) is;
 }
 
-pub prefix_of : (old new : Option (List ℕ)) (too_long : Bool) (slice text : List ℕ) → AppendsSome old new (run_from too_long (first_session 1) false (commands_of slice)).text
-    → slice ≡ text → AppendsSome old new (run_from too_long (first_session 1) false (commands_of text)).text
-prefix_of old new too_long slice text some is = subst (λ t. AppendsSome old new (run_from too_long (first_session 1) false (commands_of t)).text) is some
+pub prefix_of : (old new : Option (List ℕ)) (goes_on : Bool) (slice text : List ℕ) → AppendsSome old new (run_of goes_on slice).text
+    → slice ≡ text → AppendsSome old new (run_of goes_on text).text
+prefix_of old new goes_on slice text some is = subst (λ t. AppendsSome old new (run_of goes_on t).text) is some
 
 pub headline_run : (left : Option (List ℕ)) (P : List Filed → Type 0) (A B C D : Type 0) (old new : Option (List ℕ)) (answer : Status) (words : List (String Global)) (run : Transcript)
     → words ≡ [] → IfSome left (λ bytes. run ≡ whole_run bytes) → IsTranscript old new answer run
@@ -66,25 +68,26 @@ pub prefix_run : (left : Option (List ℕ)) (P : List Filed → Type 0) (old new
 prefix_run left P old new words run none is some = told_run left P (λ bytes t. AppendsSome old new t.text) words run none is (always_told left _ some)
 
 -- the answer of a run whose commands ended so
-answers_end : (before now : Faults) (bytes : List ℕ) (left old new : Option (List ℕ)) (run : Transcript) (too_long : Bool) (end : End)
-    → now ≡ before → (too_long ≡ false → left ≡ Some []) → IsTranscript old new (end_status too_long end) run → Answers before now bytes left old new run (end_status too_long end)
+answers_end : (before now : Faults) (bytes : List ℕ) (left old new : Option (List ℕ)) (run : Transcript) (goes_on : Bool) (end : End)
+    → now ≡ before → (goes_on ≡ false → left ≡ Some []) → IsTranscript old new (end_status goes_on end) run → Answers before now bytes left old new run (end_status goes_on end)
 answers_end before now bytes left old new run true (ends.All refused) calm rest it = (calm, it)
 answers_end before now bytes left old new run false (ends.All true) calm rest it = ((calm, it), rest refl)
 answers_end before now bytes left old new run false (ends.All false) calm rest it = ((calm, it), rest refl)
-answers_end before now bytes left old new run too_long ends.Limit calm rest it = (calm, it)
+answers_end before now bytes left old new run goes_on ends.Limit calm rest it = (calm, it)
+answers_end before now bytes left old new run goes_on ends.TooLong calm rest it = (calm, it)
 
 pub answers_run : (left : Option (List ℕ)) (P : List Filed → Type 0) (before now : Faults) (rest old new : Option (List ℕ)) (answer : Status) (words : List (String Global)) (run : Transcript)
-    → (too_long : Bool) (end : End) → words ≡ [] → IfSome left (λ bytes. run ≡ whole_run bytes)
-    → IsTranscript old new answer run → answer ≡ end_status too_long end → now ≡ before → IfSome left (λ bytes. too_long ≡ false → rest ≡ Some [])
+    → (goes_on : Bool) (end : End) → words ≡ [] → IfSome left (λ bytes. run ≡ whole_run bytes)
+    → IsTranscript old new answer run → answer ≡ end_status goes_on end → now ≡ before → IfSome left (λ bytes. goes_on ≡ false → rest ≡ Some [])
     → IfSome left (λ bytes. (stock : List Filed) → P stock → Answers before now bytes rest old new (present_transcript (map string_bytes words) stock bytes) answer)
-answers_run left P before now rest old new answer words run too_long end none is it ended calm read =
+answers_run left P before now rest old new answer words run goes_on end none is it ended calm read =
     told_run left P (λ bytes t. Answers before now bytes rest old new t answer) words run none is (by left read)
   where
-    by : (l : Option (List ℕ)) → IfSome l (λ bytes. too_long ≡ false → rest ≡ Some []) → IfSome l (λ bytes. Answers before now bytes rest old new run answer)
+    by : (l : Option (List ℕ)) → IfSome l (λ bytes. goes_on ≡ false → rest ≡ Some []) → IfSome l (λ bytes. Answers before now bytes rest old new run answer)
     by None read = tt
     by (Some bytes) read =
         subst (Answers before now bytes rest old new run) (sym ended)
-        (answers_end before now bytes rest old new run too_long end calm read (subst (λ a. IsTranscript old new a run) ended it))
+        (answers_end before now bytes rest old new run goes_on end calm read (subst (λ a. IsTranscript old new a run) ended it))
 
 pub same_faults : (source source_now shelf sink sink_now : ℕ) → source_now ≡ source → sink_now ≡ sink
     → (let f : Faults = record { source = source_now; shelf = shelf; sink = sink_now } in f) ≡ record { source = source; shelf = shelf; sink = sink }
@@ -92,35 +95,42 @@ same_faults source source_now shelf sink sink_now same same_sink = cc
 
 -- ---- completeness
 
--- commands that reach no limit are all carried out
-ends_well : (s : Session) (refused : Bool) (commands : List CommandOf) → ((run_from false s refused commands).status ≡ status.Limit → ⊥) → IsComplete (run_from false s refused commands).status
+-- a run that ends so is not cut short
+abbrev IsFree : Status → Type 0
+IsFree s = (s ≡ status.Limit → ⊥) × (s ≡ status.TooLong → ⊥)
+
+-- commands that reach no limit, none of them too long, are all carried out
+ends_well : (s : Session) (refused : Bool) (cuts : List Cut) → IsFree (run_from false s refused cuts).status → IsComplete (run_from false s refused cuts).status
 ends_well s true [] free = tt
 ends_well s false [] free = tt
-ends_well s refused (c ∷ commands) free = by (limit_told (reply_to c s).told) refl (λ next again. ends_well next (refused || again) commands)
+ends_well s refused (too_long ∷ cuts) free = absurd (free.1 refl)
+ends_well s refused (c ∷ cuts) free = by (limit_told (reply_to c s).told) refl (λ next again. ends_well next (refused || again) cuts)
   where
     by : (o : Option Which) → limit_told (reply_to c s).told ≡ o
-        → ((next : Session) (again : Bool) → ((run_from false next (refused || again) commands).status ≡ status.Limit → ⊥) → IsComplete (run_from false next (refused || again) commands).status)
-        → IsComplete (run_from false s refused (c ∷ commands)).status
+        → ((next : Session) (again : Bool) → IsFree (run_from false next (refused || again) cuts).status → IsComplete (run_from false next (refused || again) cuts).status)
+        → IsComplete (run_from false s refused (c ∷ cuts)).status
     by None within later =
-        let step = ap (λ t. t.status) (one_command false refused s c commands within) in
-        subst IsComplete (sym step) (later (session_after s (reply_to c s)) (reply_to c s).refused (λ e. free (step ∙ e)))
-    by (Some limit) passed later = absurd (free (ap (λ t. t.status) (last_command false refused s c commands limit passed)))
+        let step = ap (λ t. t.status) (one_command false refused s c cuts tt within) in
+        subst IsComplete (sym step) (later (session_after s (reply_to c s)) (reply_to c s).refused (subst IsFree step free))
+    by (Some limit) passed later = absurd (free.0 (ap (λ t. t.status) (last_command false refused s c cuts limit tt passed)))
 
 test_false : (n m : ℕ) → m ≤ n → nat_lt n m ≡ false
 test_false n m h = grind (arith, common_steps)
 
-input_ends_well : (bytes : List ℕ) → length bytes ≤ 2 ^ 26 → ((whole_run bytes).status ≡ status.Limit → ⊥) → IsComplete (whole_run bytes).status
+input_ends_well : (bytes : List ℕ) → length bytes ≤ 2 ^ 26 → IsFree (whole_run bytes).status → IsComplete (whole_run bytes).status
 input_ends_well bytes short free =
-    let is : whole_run bytes ≡ run_from false (first_session 1) false (commands_of bytes) =
-    ap (λ b. if b then run_from true (first_session 1) false (commands_of (whole_part (take (2 ^ 26) bytes))) else run_from false (first_session 1) false (commands_of bytes)) (test_false (2 ^ 26) (length bytes) short) in
-    subst IsComplete (sym (ap (λ t. t.status) is)) (ends_well (first_session 1) false (commands_of bytes) (λ e. free (ap (λ t. t.status) is ∙ e)))
+    let is : (whole_run bytes).status ≡ (run_of false bytes).status =
+    ap (λ b. (if b then run_of true (take (2 ^ 26) bytes) else run_of false bytes).status) (test_false (2 ^ 26) (length bytes) short) in
+    subst IsComplete (sym is) (ends_well (first_session 1) false (cuts_of true bytes) (subst IsFree is free))
 
 -- the status of a run of an input that is whole
-pub complete_run : (left : Option (List ℕ)) (P : List Filed → Type 0) (A B C : Type 0) (words : List (String Global)) (too_long : Bool) (text : List ℕ) (answer : Status)
-    → IfSome left (λ bytes. run_from too_long (first_session 1) false (commands_of text) ≡ whole_run bytes)
-    → answer ≡ (run_from too_long (first_session 1) false (commands_of text)).status
-    → IfSome left (λ bytes. (stock : List Filed) → P stock → words ≡ [] → length bytes ≤ 2 ^ 26 → ((present_transcript (map string_bytes words) stock bytes).status ≡ status.Limit → ⊥) → A → B → C → IsComplete answer)
-complete_run None P A B C words too_long text answer runs is = tt
-complete_run (Some bytes) P A B C [] too_long text answer runs is = λ stock told none short free a b c.
-    subst IsComplete (sym (is ∙ ap (λ t. t.status) runs)) (input_ends_well bytes short (λ e. free (ap (λ t. t.status) (present_run stock bytes) ∙ e)))
-complete_run (Some bytes) P A B C (word ∷ words) too_long text answer runs is = λ stock told none short free a b c. absurd (cc)
+pub complete_run : (left : Option (List ℕ)) (P : List Filed → Type 0) (A B C : Type 0) (words : List (String Global)) (goes_on : Bool) (text : List ℕ) (answer : Status)
+    → IfSome left (λ bytes. run_of goes_on text ≡ whole_run bytes)
+    → answer ≡ (run_of goes_on text).status
+    → IfSome left (λ bytes. (stock : List Filed) → P stock → words ≡ [] → length bytes ≤ 2 ^ 26
+    → ((present_transcript (map string_bytes words) stock bytes).status ≡ status.Limit → ⊥)
+    → ((present_transcript (map string_bytes words) stock bytes).status ≡ status.TooLong → ⊥) → A → B → C → IsComplete answer)
+complete_run None P A B C words goes_on text answer runs is = tt
+complete_run (Some bytes) P A B C [] goes_on text answer runs is = λ stock told none short unlimited fits a b c.
+    subst IsComplete (sym (is ∙ ap (λ t. t.status) runs)) (input_ends_well bytes short (subst IsFree (ap (λ t. t.status) (present_run stock bytes)) (unlimited, fits)))
+complete_run (Some bytes) P A B C (word ∷ words) goes_on text answer runs is = λ stock told none short unlimited fits a b c. absurd (cc)

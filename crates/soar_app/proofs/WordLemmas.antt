@@ -1,16 +1,19 @@
 -- Words of tokens, and the table that they joined.
-use Rattle.std.proofs.Common.{◌≡◌, ℕ, zero, suc, ◌+◌, ◌<◌, ◌≤◌, Bool, true, false, ◌||◌, List, [], ◌∷◌, ◌++◌, length, map, drop, Some, length-append, refl, ap, arith}
-use Rattle.std.specs.Prelude.{unwrap_or}
+use Rattle.std.proofs.Common.{◌≡◌, ℕ, zero, suc, ◌+◌, ◌<◌, ◌≤◌, ◌==◌, nat_lt, Bool, true, false, ◌||◌, ◌&&◌, List, [], ◌∷◌, ◌++◌, length, map, drop, Option, Some, None, length-append, refl, sym, ap, ◌∙◌, arith}
+use Rattle.std.proofs.lemmas.Bool.{eq-eqb}
+use Rattle.std.proofs.lemmas.Bool.Decides.{nat_tests}
+use Rattle.std.specs.Prelude.{unwrap_or, slice_get}
 use Rattle.std.specs.List.{list_any, position_from}
 use Rattle.std.specs.Str.{bytes_eq}
 use Rattle.std.proofs.lemmas.Slice.Eq.{bytes_eq-Decides}
-use Rattle.soar_sym.specs.Words.{Texts, has_text, with_text, with_texts, place_of, IsKnown}
+use Rattle.soar_sym.specs.Words.{Texts, has_text, with_text, with_texts, place_of, text_of, IsKnown}
 use Rattle.soar_sym.specs.declared.symbol.Sym.{Sym}
 use Rattle.soar_sym.specs.declared.symbol.Sym.TheVariants.{Ident, Word, Int}
 use Rattle.defs_text.specs.Lexing.{Saying, mark, arrow, open_set, close_set, sign, variable_named, integer, word_of, documentation, Spelled}
 use Rattle.defs_text.specs.Numbered.{word_in, kind_in, numbered, texts_before, token_texts, words_after}
 use Rattle.defs_text.specs.declared.token.Token.{Token}
-use Rattle.soar_app.specs.Known.{IsKindKnown, AreTokensKnown, IsSayingIn, AreSpelledIn}
+use Rattle.defs_read.specs.Sayings.{is_place, is_word_known, IsWordKnown, IsKindKnown, AreTokensKnown}
+use Rattle.soar_app.specs.Known.{IsSayingIn, AreSpelledIn}
 
 -- ---- the table only grows
 
@@ -64,23 +67,60 @@ text_added words text = by (has_text words text) refl
 
 -- ---- a text that the table has is a word of it
 
-found_within : (text : List ℕ) (from : ℕ) (words : Texts) → has_text words text ≡ true → (n : ℕ) × (position_from (bytes_eq text) from words ≡ Some n) × (n < from + length words)
-found_within text from [] has = absurd (cc)
-found_within text from (word ∷ words) has = by (bytes_eq text word) refl has (found_within text (from + 1) words)
+-- the place of a text, and the text at that place
+found_at : (text : List ℕ) (from : ℕ) (words : Texts) → has_text words text ≡ true
+    → (n : ℕ) × (position_from (bytes_eq text) from words ≡ Some (from + n)) × (n < length words) × (unwrap_or (slice_get words n) [] ≡ text)
+found_at text from [] has = absurd (cc)
+found_at text from (word ∷ words) has = by (bytes_eq text word) refl has (found_at text (from + 1) words)
   where
     by : (b : Bool) → bytes_eq text word ≡ b → (bytes_eq text word || has_text words text) ≡ true
-        → (has_text words text ≡ true → (n : ℕ) × (position_from (bytes_eq text) (from + 1) words ≡ Some n) × (n < from + 1 + length words))
-        → (n : ℕ) × (position_from (bytes_eq text) from (word ∷ words) ≡ Some n) × (n < from + length (word ∷ words))
-    by true e has later = (from, rw e refl, omega arith)
+        → (has_text words text ≡ true → (n : ℕ) × (position_from (bytes_eq text) (from + 1) words ≡ Some (from + 1 + n)) × (n < length words) × (unwrap_or (slice_get words n) [] ≡ text))
+        → (n : ℕ) × (position_from (bytes_eq text) from (word ∷ words) ≡ Some (from + n)) × (n < length (word ∷ words)) × (unwrap_or (slice_get (word ∷ words) n) [] ≡ text)
+    by true e has later = let at : from ≡ from + 0 = omega arith in (0, rw e (ap Some at), omega arith, sym ((bytes_eq-Decides text word).0 e))
     by false e has later =
-        let more : (n : ℕ) × (position_from (bytes_eq text) (from + 1) words ≡ Some n) × (n < from + 1 + length words) = later (rw e at has) in
-        (more.0, rw e more.1, omega (arith, more.2))
+        let more : (n : ℕ) × (position_from (bytes_eq text) (from + 1) words ≡ Some (from + 1 + n)) × (n < length words) × (unwrap_or (slice_get words n) [] ≡ text) = later (rw e at has) in
+        let at : from + 1 + more.0 ≡ from + suc more.0 = omega arith in
+        (suc more.0, rw e (more.1 ∙ ap Some at), omega (arith, more.2), more.3)
 
-word_known : (words : Texts) (text : List ℕ) → has_text words text ≡ true → IsKnown words (word_in words text)
+found : (words : Texts) (text : List ℕ) → has_text words text ≡ true → (n : ℕ) × (place_of words text ≡ Some n) × (n < length words) × (text_of words n ≡ text)
+found words text has =
+    let at : (n : ℕ) × (place_of words text ≡ Some (0 + n)) × (n < length words) × (text_of words n ≡ text) = found_at text 0 words has in
+    let same : 0 + at.0 ≡ at.0 = omega arith in
+    (at.0, at.1 ∙ ap Some same, at.2, at.3)
+
+-- the text of the word of a text that the table has
+pub text_in : (words : Texts) (text : List ℕ) → has_text words text ≡ true → text_of words (unwrap_or (place_of words text) 0) ≡ text
+text_in words text has =
+    let at : (n : ℕ) × (place_of words text ≡ Some n) × (n < length words) × (text_of words n ≡ text) = found words text has in
+    ap (λ o. text_of words (unwrap_or o 0)) at.1 ∙ at.3
+
+place_is : (words : Texts) (text : List ℕ) (n : ℕ) → place_of words text ≡ Some n → text_of words n ≡ text → is_place words n ≡ true
+place_is words text n place is =
+    ap (λ o. elim o as (λ _. Bool) [ Some m ↦ m == n | None ↦ false ]) (ap (place_of words) is ∙ place) ∙ eq-eqb n n refl
+
+word_known : (words : Texts) (text : List ℕ) → has_text words text ≡ true → IsWordKnown words (word_in words text)
 word_known words text has =
-    let found : (n : ℕ) × (place_of words text ≡ Some n) × (n < 0 + length words) = found_within text 0 words has in
-    let is : unwrap_or (place_of words text) 0 ≡ found.0 = ap (λ o. unwrap_or o 0) found.1 in
-    omega (arith, is, found.2)
+    let at : (n : ℕ) × (place_of words text ≡ Some n) × (n < length words) × (text_of words n ≡ text) = found words text has in
+    let within : nat_lt at.0 (length words) ≡ true = grind (arith, nat_tests, at.2) in
+    ap (λ o. is_word_known words (Word (unwrap_or o 0))) at.1 ∙ (ap (λ b. b && is_place words at.0) within ∙ place_is words text at.0 at.1 at.3)
+
+pub both_true : (a b : Bool) → (a && b) ≡ true → (a ≡ true) × (b ≡ true)
+both_true true b is = (refl, is)
+both_true false b is = absurd (cc)
+
+-- a word of a token is a word of the table, and the word of its own text
+pub known_word : (words : Texts) (word : ℕ) → IsWordKnown words (Word word) → word < length words
+known_word words word known = let within = (both_true (nat_lt word (length words)) (is_place words word) known).0 in grind (arith, nat_tests)
+
+pub word_of_text : (words : Texts) (word : ℕ) → IsWordKnown words (Word word) → word_in words (text_of words word) ≡ Word word
+word_of_text words word known = by (place_of words (text_of words word)) refl (both_true (nat_lt word (length words)) (is_place words word) known).1
+  where
+    by : (o : Option ℕ) → place_of words (text_of words word) ≡ o → is_place words word ≡ true → word_in words (text_of words word) ≡ Word word
+    by (Some n) e is =
+        let same : (n == word) ≡ true = sym (ap (λ o. elim o as (λ _. Bool) [ Some m ↦ m == word | None ↦ false ]) e) ∙ is in
+        let it : n ≡ word = grind (arith, nat_tests) in
+        ap (λ o. Word (unwrap_or o 0)) e ∙ ap Word it
+    by None e is = absurd (let no : false ≡ true = sym (ap (λ o. elim o as (λ _. Bool) [ Some m ↦ m == word | None ↦ false ]) e) ∙ is in cc)
 
 -- ---- tokens
 

@@ -1,12 +1,12 @@
 -- What the answers of the session's calls say.
-use Rattle.std.specs.Prelude.{◌≡◌, ℕ, Bool, List, ◌++◌, Option, Some, None, Result, Ok, Err}
+use Rattle.std.specs.Prelude.{◌≡◌, ℕ, ◌≤◌, Bool, List, ◌++◌, length, Some, None, Result, Ok, Err}
+use Rattle.soar_sym.specs.Words.{Texts}
 use Rattle.defs_soar.specs.declared.limit.Which.{Which}
-use Rattle.defs_soar.specs.declared.limit.Which.TheVariants as which
 use Rattle.defs_soar.specs.History.{Past}
 use Rattle.defs_soar.specs.Trace.{Written}
-use Rattle.defs_text.specs.declared.token.LexFault.{LexFault}
-use Rattle.defs_text.specs.declared.token.LexFault.TheVariants as fault
+use Rattle.defs_text.specs.Lexing.{Spelled}
 use Rattle.defs_run.specs.Sessions.{Reply}
+use Rattle.defs_run.specs.Stages.{Reading}
 use Rattle.soar_cycle.specs.Seen.{IsSound}
 use Rattle.soar_cycle.specs.declared.stop.Stop.{Stop}
 use Rattle.soar_cycle.specs.declared.stop.Stop.TheVariants as stop
@@ -43,8 +43,6 @@ Obeys mid reply new before after (Ok answer) = Replied mid reply new before afte
 Obeys mid reply new before after (Err (stop.Limit limit)) = Stops mid reply new before after limit
 Obeys mid reply new before after (Err stop.NoMemory) = Unit {0}
 
--- how a fault of a text's tokens stops a session, where it does
-abbrev pub StopsBy : LexFault → Option Stop → Type 0
-StopsBy fault.WordsSpent answer = answer ≡ Some (stop.Limit which.Words)
-StopsBy fault.NoMemory answer = answer ≡ Some stop.NoMemory
-StopsBy other answer = answer ≡ None
+-- whatever is read of tokens leaves the table with the words that it had
+abbrev pub GrowsOnly : (Texts → List Spelled → Reading) → Type 0
+GrowsOnly f = (words : Texts) (tokens : List Spelled) → length words ≤ length (f words tokens).words

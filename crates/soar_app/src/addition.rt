@@ -4,7 +4,7 @@ ghost use Rattle.soar_sym.specs.Words.{text_of};
 ghost use Rattle.std.specs.Str.{bytes_eq};
 ghost use Rattle.defs_text.specs.Symbols.{is_identifier_form};
 ghost use Rattle.defs_run.specs.AdditionForms.{addition_at, addition_if, attribute_at, begins_top, constant_at, constant_kind, is_addition, is_plain_word, is_top_kind, plain_word};
-ghost use Rattle.soar_app.specs.Known.{AreTokensKnown, IsKindKnown};
+ghost use Rattle.defs_read.specs.Sayings.{AreTokensKnown, IsKindKnown};
 
 use crate::token::{begins_mark, behind};
 use defs_run::Addition;

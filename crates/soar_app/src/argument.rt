@@ -6,7 +6,7 @@ ghost use Rattle.defs_text.specs.Runs.{begins_digit};
 ghost use Rattle.defs_text.specs.Symbols.{is_identifier_form};
 ghost use Rattle.defs_run.specs.Arguments.{as_integer, as_mark, identifier_of, is_small_form};
 ghost use Rattle.soar_app.specs.Behind.{argument_at, argument_seen, label_argument, word_argument};
-ghost use Rattle.soar_app.specs.Known.{IsKindKnown};
+ghost use Rattle.defs_read.specs.Sayings.{IsKindKnown};
 
 use defs_text::{Token, TokenKind};
 use soar_lex::{capital, digit};

@@ -1,17 +1,20 @@
 // Commands that look at the agent.
-ghost use Rattle.std.specs.Prelude.{◌≡◌};
+ghost use Rattle.std.specs.Prelude.{◌≡◌, map, option_map};
 ghost use Rattle.soar_sym.specs.Words.{IsKnown};
-ghost use Rattle.defs_run.specs.Carrying.{carried_out, lists_elements};
+ghost use Rattle.defs_match.specs.Rules.{rule_seen};
+ghost use Rattle.defs_run.specs.Carrying.{carried_out, lists_elements, rule_named};
 ghost use Rattle.defs_run.specs.Listing.{conflict_lines};
-ghost use Rattle.defs_run.specs.Orders.{is_symbol, print_id};
+ghost use Rattle.defs_run.specs.Orders.{is_symbol, print_id, print_name};
 ghost use Rattle.defs_run.specs.Present.{run_present};
 ghost use Rattle.defs_run.specs.Sessions.{says};
 ghost use Rattle.soar_cycle.specs.Seen.{IsSound};
 ghost use Rattle.soar_app.specs.Carries.{Carries, Replies};
 
 use crate::adding::is_given;
-use crate::said::{say_elements, say_matches};
+use crate::loading::is_named;
+use crate::said::{say_elements, say_matches, say_production};
 use crate::state::Session;
+use defs_match::Rule;
 use match_direct::conflict;
 use soar_cycle::Stop;
 use soar_sym::{Sym, Text};
@@ -68,4 +71,37 @@ impl Session {
         )?;
         Ok(false)
     }
+
+    /// Says the production of a name.
+    pub fn show_rule(
+        &mut self,
+        alloc: Global,
+        line: u64,
+        name: Sym,
+        out: &mut Text,
+    ) -> Result<bool, Stop>
+        requires sound { IsSound self.old.agent }
+        requires known { IsKnown self.old.agent.table name }
+        ensures { Carries self.old self.new line (carried_out run_present (print_name name)) out.old out.new result }
+    {
+        match rule_named(self.agent.rules.as_slice(), name) {
+            Some(rule) => {
+                say_production(&self.agent.table, &rule.production, out, &mut self.mid_line)?;
+                Ok(false)
+            }
+            None => self.refuse_production(alloc, line, name, out),
+        }
+    }
+}
+
+/// The rule of a name.
+fn rule_named(rules: &[Rule], name: Sym) -> Option<&Rule>
+    ensures { option_map (λ rule. rule_seen rule.now) result ≡ rule_named (map rule_seen rules.now) name }
+{
+    'rules: for rule in rules {
+        if is_named(name, rule) {
+            return Some(rule);
+        }
+    }
+    None
 }

@@ -1,35 +1,32 @@
 // Loading a production.
-ghost use Rattle.std.specs.Prelude.{◌≡◌, ◌++◌, ◌∷◌, [], filter, map, not, suc, OnOk, OnErr};
+ghost use Rattle.std.specs.Prelude.{◌≡◌, ◌++◌, ◌∷◌, [], true, filter, map, not, suc, OnOk, OnErr};
 ghost use Rattle.soar_rule.specs.Productions.{production_seen};
+ghost use Rattle.soar_rule.specs.Symbols.{AreKnown, symbols_of};
 ghost use Rattle.defs_match.specs.Rules.{rule_seen};
 ghost use Rattle.defs_run.specs.Carrying.{is_named, loaded};
-ghost use Rattle.defs_run.specs.Loading.{production_of};
+ghost use Rattle.defs_run.specs.FirstForm.{is_first_form};
 ghost use Rattle.soar_cycle.specs.Seen.{IsSound};
 ghost use Rattle.soar_app.specs.Carries.{Replies, rules_without, rules_with};
-ghost use Rattle.soar_app.specs.Known.{IsOutlineRead};
 
-use crate::production::production;
 use crate::state::Session;
 use defs_match::Rule;
-use defs_run::Outline;
 use defs_soar::Which;
 use soar_cycle::Stop;
 use soar_rule::Production;
 use soar_sym::{List, NoMemory, Sym, Text, is_symbol};
-use std::alloc::Global;
 
 impl Session {
     /// Loads a production under the next rule number, in the place of that of its name.
-    pub fn load(&mut self, alloc: Global, outline: &Outline, out: &Text) -> Result<bool, Stop>
+    pub fn load(&mut self, production: Production, out: &Text) -> Result<bool, Stop>
         requires sound { IsSound self.old.agent }
-        requires read { IsOutlineRead self.old.agent.table outline.now }
-        ensures { Replies self.old self.new (loaded (production_of outline.now)) out.now out.now result }
+        requires known { AreKnown self.old.agent.table (symbols_of (production_seen production)) }
+        requires form { is_first_form (production_seen production) ≡ true }
+        ensures { Replies self.old self.new (loaded (production_seen production)) out.now out.now result }
     {
         let _ = out;
         if self.agent.last_rule == u64::MAX {
             return Err(Stop::Limit(Which::Counts));
         }
-        let production = production(alloc, outline)?;
         put_rule(&mut self.agent.rules, self.agent.last_rule + 1, production)?;
         self.agent.last_rule += 1;
         Ok(false)
@@ -59,7 +56,8 @@ fn drop_named(rules: &mut List<Rule>, name: Sym)
     }
 }
 
-fn is_named(name: Sym, rule: &Rule) -> bool
+/// Whether a rule has this name.
+pub fn is_named(name: Sym, rule: &Rule) -> bool
     ensures { result ≡ is_named name (rule_seen rule.now) }
 {
     is_symbol(rule.production.name, name)

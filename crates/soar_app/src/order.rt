@@ -1,34 +1,33 @@
 // What the tokens of a command ask for.
-ghost use Rattle.std.specs.Prelude.{◌≡◌, ◌≤◌, ◌^◌, List as ListOf, length, map, option_map, IfOk};
+ghost use Rattle.std.specs.Prelude.{◌≡◌, ℕ, ◌≤◌, ◌^◌, [], ◌∷◌, List as ListOf, length, map, option_map, IfOk};
 ghost use Rattle.std.specs.Str.{bytes_eq};
+ghost use Rattle.soar_sym.specs.Words.{text_of};
 ghost use Rattle.defs_text.specs.Lexing.{Spelled};
 ghost use Rattle.defs_text.specs.Numbered.{numbered};
+ghost use Rattle.defs_read.specs.Sayings.{AreTokensKnown, IsKindKnown, IsWordKnown};
 ghost use Rattle.defs_run.specs.AdditionForms.{addition_at};
+ghost use Rattle.defs_run.specs.Arguments.{bare};
 ghost use Rattle.defs_run.specs.CommandForms.{number_order, tag_order};
-ghost use Rattle.defs_run.specs.Forms.{outline_at};
-ghost use Rattle.defs_run.specs.Loading.{production_of};
-ghost use Rattle.defs_run.specs.Orders.{load, run_cycles};
+ghost use Rattle.defs_run.specs.Orders.{run_cycles};
 ghost use Rattle.defs_run.specs.Present.{as_addition, form_of, matches_order, order_by, print_order};
-ghost use Rattle.soar_app.specs.Asked.{form_seen, order_at, order_seen};
-ghost use Rattle.soar_app.specs.Behind.{argument_at, argument_seen, only};
-ghost use Rattle.soar_app.specs.Known.{AreSpelledIn, AreTokensKnown, IsOrderRead};
+ghost use Rattle.soar_app.specs.Asked.{form_seen, is_listing, order_at, order_seen};
+ghost use Rattle.soar_app.specs.Behind.{argument_at, argument_seen, kind_argument, only};
+ghost use Rattle.soar_app.specs.Known.{AreSpelledIn, IsOrderRead};
 
 use crate::addition::addition_at;
 use crate::argument::{Argument, argument_at, identifier_of};
-use crate::outline::outline_at;
 use crate::token::behind;
 use defs_run::Order;
-use defs_text::Token;
-use soar_sym::{NoMemory, SymTable};
+use defs_text::{Token, TokenKind};
+use soar_sym::{NoMemory, Sym, SymTable};
 use std::alloc::Global;
 
 /// The most cycles of one command.
 const MOST_CYCLES: u64 = 1_000_000;
 
-/// What a command's word says that the command does.
+/// What a command's word, other than `sp`, says that the command does.
 #[derive(Clone, Copy, Debug, PartialEq, Eq)]
 pub enum Form {
-    Load,
     Add,
     Matches,
     Run,
@@ -40,9 +39,7 @@ pub enum Form {
 pub fn form_of(word: &[u8]) -> Option<Form>
     ensures { option_map form_seen result ≡ form_of word.now }
 {
-    if is_word(word, b"sp") {
-        Some(Form::Load)
-    } else if is_word(word, b"add-wme") {
+    if is_word(word, b"add-wme") {
         Some(Form::Add)
     } else if is_word(word, b"matches") {
         Some(Form::Matches)
@@ -57,7 +54,8 @@ pub fn form_of(word: &[u8]) -> Option<Form>
     }
 }
 
-fn is_word(word: &[u8], name: &[u8]) -> bool
+/// Whether a command's word is this one.
+pub fn is_word(word: &[u8], name: &[u8]) -> bool
     ensures { result ≡ bytes_eq word.now name.now }
 {
     word == name
@@ -95,25 +93,11 @@ fn order_at(
     ensures read { IfOk result (λ order. IsOrderRead table.now order) }
 {
     match form {
-        Form::Load => load_of(alloc, table, tokens),
         Form::Add => Ok(addition_of(table, tokens)),
         Form::Matches => Ok(matches_of(tokens)),
         Form::Run => Ok(run_of(table, text, tokens)),
         Form::Remove => Ok(removal_of(table, text, tokens)),
-        Form::Print => Ok(print_of(table, text, tokens)),
-    }
-}
-
-fn load_of(alloc: Global, table: &SymTable, tokens: &[Token]) -> Result<Option<Order>, NoMemory>
-    requires known { AreTokensKnown table.now tokens.now }
-    requires few { length tokens.now ≤ 2 ^ 27 }
-    ensures order { IfOk result (λ order. option_map order_seen order ≡ option_map (λ o. load (production_of o)) (outline_at tokens.now)) }
-    ensures read { IfOk result (λ order. IsOrderRead table.now order) }
-{
-    let _ = table;
-    match outline_at(alloc, tokens)? {
-        Some(outline) => Ok(Some(Order::Load(outline))),
-        None => Ok(None),
+        Form::Print => Ok(print_of(table, tokens)),
     }
 }
 
@@ -163,16 +147,53 @@ fn removal_of(table: &SymTable, text: &[u8], tokens: &[Token]) -> Option<Order>
     }
 }
 
-#[tactic(auto, using(crate::proofs::OrderLemmas::only_is, crate::proofs::OrderLemmas::no_print))]
-fn print_of(table: &SymTable, text: &[u8], tokens: &[Token]) -> Option<Order>
+#[tactic(auto, using(crate::proofs::OrderLemmas::no_print))]
+fn print_of(table: &SymTable, tokens: &[Token]) -> Option<Order>
     requires { AreTokensKnown table.now tokens.now }
-    ensures order { option_map order_seen result ≡ print_order (map (argument_at table.now text.now) tokens.now) }
+    ensures order { (text : ListOf ℕ) → option_map order_seen result ≡ print_order table.now (map (argument_at table.now text) tokens.now) }
     ensures read { IsOrderRead table.now result }
 {
-    match only_argument(table, text, tokens)? {
-        Argument::Bare(text) => Some(Order::Print(identifier_of(text.as_bytes())?)),
+    match tokens.split_first() {
+        Some((token, rest)) if rest.is_empty() => print_alone(table, &token.kind),
         _ => None,
     }
+}
+
+/// What a token asks for that stands alone behind `print`.
+fn print_alone(table: &SymTable, kind: &TokenKind) -> Option<Order>
+    requires { IsKindKnown table.now kind.now }
+    ensures order { (bytes : ListOf ℕ) → option_map order_seen result ≡ print_order table.now (kind_argument table.now bytes kind.now ∷ []) }
+    ensures read { IsOrderRead table.now result }
+{
+    match kind {
+        TokenKind::Word(Sym::Word(word), bare) if *bare => print_bare(table, *word),
+        TokenKind::Word(Sym::Word(word), _) => Some(Order::Show(Sym::Word(*word))),
+        _ => None,
+    }
+}
+
+/// What a bare word asks for: the elements of an identifier, whose letter may be small, or the production of a name.
+#[tactic(auto, using(crate::proofs::PrintLemmas::no_listing))]
+fn print_bare(table: &SymTable, word: u32) -> Option<Order>
+    requires { IsWordKnown table.now (Sym.Word word) }
+    ensures order { option_map order_seen result ≡ print_order table.now (bare (text_of table.now word) ∷ []) }
+    ensures read { IsOrderRead table.now result }
+{
+    let text = table.text(word);
+    if is_listing(text) {
+        return None;
+    }
+    match identifier_of(text.as_bytes()) {
+        Some(id) => Some(Order::Print(id)),
+        None => Some(Order::Show(Sym::Word(word))),
+    }
+}
+
+/// Whether a word asks for all elements, rules or chunks, which are not listed yet.
+fn is_listing(text: &str) -> bool
+    ensures { result ≡ is_listing text.now }
+{
+    text == "--wm" || text == "--rules" || text == "--chunks"
 }
 
 /// The argument of a token that stands alone.

@@ -2,7 +2,7 @@
 ghost use Rattle.std.specs.Prelude.{◌≡◌, codes};
 ghost use Rattle.soar_sym.specs.Words.{IsKnown};
 ghost use Rattle.defs_text.specs.Symbols.{symbol_text};
-ghost use Rattle.defs_run.specs.Orders.{unknown_identifier};
+ghost use Rattle.defs_run.specs.Orders.{at_byte, no_production, unknown_identifier};
 ghost use Rattle.defs_run.specs.Sessions.{refused_by};
 ghost use Rattle.soar_cycle.specs.Seen.{IsSound};
 ghost use Rattle.soar_app.specs.Carries.{Replies};
@@ -46,5 +46,39 @@ impl Session {
         let mut reason = Text::from_str(alloc, "unknown identifier ")?;
         show_symbol(&mut reason, &self.agent.table, symbol)?;
         self.refuse(alloc, line, 31, reason.as_str(), out)
+    }
+
+    /// Refuses a command whose text shows a fault at a byte.
+    pub fn refuse_at(
+        &mut self,
+        alloc: Global,
+        line: u64,
+        number: u64,
+        reason: &str,
+        place: u32,
+        out: &mut Text,
+    ) -> Result<bool, Stop>
+        requires { IsSound self.old.agent }
+        ensures { Replies self.old self.new (refused_by (at_byte number reason.now place) (codes "-") line) out.old out.new result }
+    {
+        let text = format!(in alloc; "{reason} at byte {place}")?;
+        self.refuse(alloc, line, number, text.as_str(), out)
+    }
+
+    /// Refuses a command that names a production that is not loaded.
+    pub fn refuse_production(
+        &mut self,
+        alloc: Global,
+        line: u64,
+        name: Sym,
+        out: &mut Text,
+    ) -> Result<bool, Stop>
+        requires sound { IsSound self.old.agent }
+        requires known { IsKnown self.old.agent.table name }
+        ensures { Replies self.old self.new (refused_by (no_production self.old.agent.table name) (codes "-") line) out.old out.new result }
+    {
+        let mut reason = Text::from_str(alloc, "no production ")?;
+        show_symbol(&mut reason, &self.agent.table, name)?;
+        self.refuse(alloc, line, 32, reason.as_str(), out)
     }
 }

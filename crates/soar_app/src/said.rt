@@ -1,7 +1,10 @@
 // What a session says.
 ghost use Rattle.std.specs.Prelude.{◌≡◌, [], ◌++◌, ◌∷◌, if◌then◌else◌, codes, false, map, string_bytes, OnOk, IfOk};
 ghost use Rattle.soar_sym.specs.Words.{IsKnown};
+ghost use Rattle.soar_rule.specs.Productions.{production_seen};
+ghost use Rattle.soar_rule.specs.Symbols.{AreKnown, symbols_of};
 ghost use Rattle.defs_match.specs.Rules.{rule_seen};
+ghost use Rattle.defs_read.specs.Printing.{production_text};
 ghost use Rattle.defs_soar.specs.Limits.{limit_of, limit_text, name_of};
 ghost use Rattle.defs_soar.specs.Texts.{tagged_text};
 ghost use Rattle.defs_soar.specs.Trace.{line_text};
@@ -12,7 +15,8 @@ ghost use Rattle.soar_app.specs.Saying.{Says, instance_line, match_lines};
 
 use defs_match::{Instance, Rule};
 use defs_soar::Which;
-use soar_show::{show_element, show_instance};
+use soar_rule::Production;
+use soar_show::{show_element, show_instance, show_production};
 use soar_sym::{NoMemory, Sym, SymTable, Text};
 use soar_wm::Element;
 use std::alloc::{AllocError, Global};
@@ -157,6 +161,22 @@ fn name_of(rules: &[Rule], number: u64) -> Sym
         }
     }
     Sym::Int(0)
+}
+
+/// Says the lines of a production.
+pub fn say_production(
+    table: &SymTable,
+    production: &Production,
+    out: &mut Text,
+    mid_line: &mut bool,
+) -> Result<(), NoMemory>
+    requires { AreKnown table.now (symbols_of (production_seen production.now)) }
+    ensures { OnOk result (Says (production_text table.now (production_seen production.now)) mid_line.old out.old mid_line.new out.new) }
+{
+    begin_line(out, *mid_line)?;
+    show_production(out, table, production)?;
+    *mid_line = false;
+    Ok(())
 }
 
 /// Says elements, or that there are none.

@@ -1,6 +1,7 @@
 // One command after another.
 ghost use Rattle.std.specs.Prelude.{◌≡◌, ◌-◌, ◌<◌, ◌≤◌, ◌^◌, List as ListOf, length, IfOk, OnOk};
 ghost use Rattle.soar_edge.specs.Outside.{Appends, AppendsSome, HasPutCause};
+ghost use Rattle.soar_edge.specs.Cutting.{unfinished, whole};
 ghost use Rattle.defs_soar.specs.History.{Past};
 ghost use Rattle.soar_cycle.specs.Seen.{IsSound};
 ghost use Rattle.soar_app.specs.Runs.{reply_to, step_text};
@@ -38,7 +39,7 @@ fn speak(
     requires short { length command.now ≤ 2 ^ 26 }
     requires sound { IsSound session.old.agent }
     ensures { (history : ListOf Past) → let s = session_of session.old history in
-        IfOk result (λ spoken. IsSpoken s (reply_to (record { line = line; text = command.now }) s) session.new spoken) }
+        IfOk result (λ spoken. IsSpoken s (reply_to (whole line command.now) s) session.new spoken) }
 {
     let mut text = Text::new(alloc);
     match session.obey(alloc, line, command, &mut text) {
@@ -69,11 +70,11 @@ pub fn answer<O: Sink>(
     requires sound { IsSound session.old.agent }
     requires sink { O.faults out.old < 2 ^ 64 - 1 }
     ensures answer { (history : ListOf Past) → let s = session_of session.old history in
-        IsAnsweredOk s (reply_to (record { line = line; text = command.now }) s) session.new result }
+        IsAnsweredOk s (reply_to (whole line command.now) s) session.new result }
     ensures written { (history : ListOf Past) → let s = session_of session.old history in
-        OnOk result (Appends (O.written out.old) (O.written out.new) (step_text s (reply_to (record { line = line; text = command.now }) s))) }
+        OnOk result (Appends (O.written out.old) (O.written out.new) (step_text s (reply_to (whole line command.now) s))) }
     ensures prefix { (history : ListOf Past) → let s = session_of session.old history in
-        AppendsSome (O.written out.old) (O.written out.new) (step_text s (reply_to (record { line = line; text = command.now }) s)) }
+        AppendsSome (O.written out.old) (O.written out.new) (step_text s (reply_to (whole line command.now) s)) }
     ensures cause { HasPutCause (O.faults out.old) (O.faults out.new) result }
 {
     match speak(alloc, session, line, command) {
@@ -82,5 +83,39 @@ pub fn answer<O: Sink>(
             Ok(spoken.answer)
         }
         Err(_) => Err(PutFault::NoMemory),
+    }
+}
+
+/// Refuses a command of a line that has no end, and writes that.
+pub fn answer_unfinished<O: Sink>(
+    alloc: Global,
+    session: &mut Session,
+    line: u64,
+    out: &mut O,
+) -> Result<(), PutFault>
+    requires sound { IsSound session.old.agent }
+    requires sink { O.faults out.old < 2 ^ 64 - 1 }
+    ensures written { (history : ListOf Past) → let s = session_of session.old history in
+        OnOk result (Appends (O.written out.old) (O.written out.new) (step_text s (reply_to (unfinished line) s))) }
+    ensures prefix { (history : ListOf Past) → let s = session_of session.old history in
+        AppendsSome (O.written out.old) (O.written out.new) (step_text s (reply_to (unfinished line) s)) }
+    ensures cause { HasPutCause (O.faults out.old) (O.faults out.new) result }
+{
+    match refuse_unfinished(alloc, session, line) {
+        Ok(text) => put_all(out, text.as_str().as_bytes()),
+        Err(_) => Err(PutFault::NoMemory),
+    }
+}
+
+/// Refuses a command of a line that has no end, and gives what is written then.
+fn refuse_unfinished(alloc: Global, session: &mut Session, line: u64) -> Result<Text, NoMemory>
+    requires { IsSound session.old.agent }
+    ensures { (history : ListOf Past) → let s = session_of session.old history in
+        IfOk result (λ text. text ≡ step_text s (reply_to (unfinished line) s)) }
+{
+    let mut text = Text::new(alloc);
+    match session.refuse(alloc, line, 11, "unfinished command", &mut text) {
+        Ok(_) => Ok(text),
+        Err(_) => Err(NoMemory),
     }
 }

@@ -7,7 +7,7 @@ use std::alloc::{AllocError, Global};
 use std::test::Fail;
 
 /// Inputs that refuse nothing, with what is written.
-const DONE: [(&str, &str); 14] = [
+const DONE: [(&str, &str); 15] = [
     ("", ""),
     ("matches", "no matches\n"),
     (
@@ -63,10 +63,15 @@ const DONE: [(&str, &str); 14] = [
         "sp {grow (state <s> ^n <x>) --> (<s> ^n <y>)}\nadd-wme S1 ^n 1\nrun 1\nprint Y100\n",
         "cut proposal\nno elements\n",
     ),
+    // A production over several lines, with a path and a comment, is printed one triple a line.
+    (
+        "sp {p # a path\n  (state <s> ^io.input-link <in>)\n  -->\n  (<s> ^in <in>)}\nrun 1\nprint p\n",
+        "sp {p\n    (state <s> ^io <$1>)\n    (<$1> ^input-link <in>)\n    -->\n    (<s> ^in <in> +)\n}\n",
+    ),
 ];
 
 /// Inputs that refuse something, with what is written.
-const REFUSED: [(&str, &str); 6] = [
+const REFUSED: [(&str, &str); 7] = [
     (
         "add-wme S1 ^a 1\nadd-wme S1 ^a 1\nfly\nsp {n -(state <s> ^a 1) --> (<s> ^b 1)}\n",
         "error 35 -:2: already there as 6\nerror 10 -:3: unknown command\nerror 18 -:4: not built\n",
@@ -77,19 +82,23 @@ const REFUSED: [(&str, &str); 6] = [
     ),
     (
         "sp {a (state <s> ^a 1) (<t> ^b 2) --> }\nsp {a (state <s> ^a 1) --> (<s> ^operator 1)}\nsp {a (state <s> ^a 1) --> (<y> ^d 1) (<s> ^c <y>)}\nsp {a (<s> ^type state) --> }\nsp\nmatches\n",
-        "error 18 -:1: not built\nerror 18 -:2: not built\nerror 18 -:3: not built\nerror 18 -:4: not built\nerror 18 -:5: not built\nno matches\n",
+        "error 18 -:1: not built\nerror 18 -:2: not built\nerror 18 -:3: not built\nerror 18 -:4: not built\nerror 16 -:5: unexpected token at byte 2\nno matches\n",
     ),
     (
-        "matches #\nmatches now\nmatches{\nadd-wme S1 ^a 1.5\nadd-wme S1 ^a S1\nadd-wme |S1| ^a 1\nadd-wme S1 ^operator 1\nadd-wme S1 ^a |S1|\nadd-wme S1 ^a 1\nadd-wme S1 ^a 1\n",
-        "error 18 -:1: not built\nerror 18 -:2: not built\nerror 18 -:3: not built\nerror 18 -:4: not built\nerror 18 -:5: not built\nerror 18 -:6: not built\nerror 18 -:7: not built\nerror 35 -:10: already there as 7\n",
+        "matches #\nmatches now\nmatches{}\nadd-wme S1 ^a 1.5\nadd-wme S1 ^a S1\nadd-wme |S1| ^a 1\nadd-wme S1 ^operator 1\nadd-wme S1 ^a |S1|\nadd-wme S1 ^a 1\nadd-wme S1 ^a 1\n",
+        "no matches\nerror 18 -:2: not built\nerror 18 -:3: not built\nerror 13 -:4: floating-point number at byte 14\nerror 18 -:5: not built\nerror 18 -:6: not built\nerror 18 -:7: not built\nerror 35 -:10: already there as 7\n",
     ),
     (
         "add-wme S1 ^a 9223372036854775808\nadd-wme S1 ^a -9223372036854775809\nadd-wme S1 ^a +9223372036854775807\nadd-wme S1 ^a 9223372036854775807\n",
-        "error 18 -:1: not built\nerror 18 -:2: not built\nerror 35 -:4: already there as 6\n",
+        "error 14 -:1: number too wide at byte 14\nerror 14 -:2: number too wide at byte 14\nerror 35 -:4: already there as 6\n",
     ),
     (
         "print Q9\nremove-wme 5\nremove-wme 99\nrun 0\nrun +1\nprint S1 x\nrun\n",
         "error 31 -:1: unknown identifier Q9\nerror 34 -:2: not an input element 5\nerror 33 -:3: no element 99\nerror 18 -:4: not built\nerror 18 -:5: not built\nerror 18 -:6: not built\nerror 18 -:7: not built\n",
+    ),
+    (
+        "# a comment\nsp {e (state <s> ^a 1) (halt)}\nadd-wme S1 ^a |b\\c|\nprint e\nadd-wme S1 ^a |b\n",
+        "error 16 -:2: unexpected token at byte 29\nerror 12 -:3: bad byte at byte 16\nerror 32 -:4: no production e\nerror 11 -:5: unfinished command\n",
     ),
 ];
 

@@ -1,4 +1,4 @@
-ghost use Rattle.std.specs.Prelude.{◌≡◌, ◌≢◌, ◌-◌, ◌^◌, ◌<◌, ◌≤◌, [], List as ListOf, map, length, string_bytes, ◌⊎◌, Some, IfSome, IfOk, OnOk};
+ghost use Rattle.std.specs.Prelude.{◌≡◌, ◌≢◌, ◌-◌, ◌^◌, ◌<◌, ◌≤◌, [], List as ListOf, map, length, string_bytes, ◌⊎◌, Some, IfSome, OnOk};
 ghost use Rattle.soar_edge.specs.Outside.{Appends, AppendsSome, Rose, HasPutCause};
 ghost use Rattle.soar_edge.specs.declared.filed.Filed.{Filed};
 ghost use Rattle.defs_run.specs.Present.{present_transcript};
@@ -40,9 +40,10 @@ pub fn run_soar<I: Source, F: Shelf, O: Sink>(
     // Whatever fails, the bytes written are those at the transcript's front.
     ensures prefix { IfSome (I.left input.old) (λ bytes. (stock : ListOf Filed) → F.files files.old ≡ Some stock
         → AppendsSome (O.written out.old) (O.written out.new) (present_transcript (map string_bytes words.now.items) stock bytes).text) }
-    // Without words, an input of at most 64 MiB that reaches no limit is carried out whole, unless memory runs out.
+    // Without words, an input of at most 64 MiB that reaches no limit and has no command of more than 1 MiB is carried out whole, unless memory runs out.
     ensures complete { IfSome (I.left input.old) (λ bytes. (stock : ListOf Filed) → F.files files.old ≡ Some stock
         → words.now.items ≡ [] → length bytes ≤ 2 ^ 26 → (present_transcript (map string_bytes words.now.items) stock bytes).status ≢ Status.Limit
+        → (present_transcript (map string_bytes words.now.items) stock bytes).status ≢ Status.TooLong
         → I.faults input.new ≡ I.faults input.old → F.faults files.new ≡ F.faults files.old → O.faults out.new ≡ O.faults out.old
         → IsComplete result) }
 
@@ -85,6 +86,7 @@ fn end_of(too_long: bool, end: End) -> Status
     match end {
         End::All(refused) => ended(too_long, refused),
         End::Limit => Status::Limit,
+        End::TooLong => Status::TooLong,
     }
 }
 

@@ -33,3 +33,11 @@ returns-clause-empty_input c = refl
 pub returns-clause-words_given : goal.returns-clause-words_given
 unfolding computing
 returns-clause-words_given c = refl
+
+pub returns-clause-syntax : goal.returns-clause-syntax
+unfolding computing
+returns-clause-syntax c = refl
+
+pub returns-clause-printed : goal.returns-clause-printed
+unfolding computing
+returns-clause-printed c = refl

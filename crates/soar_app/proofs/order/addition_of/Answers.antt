@@ -1,5 +1,5 @@
 use Rattle.std.proofs.Common.{◌∙◌, sym}
-use Rattle.soar_app.proofs.OutlineLemmas.{addition_known}
+use Rattle.soar_app.proofs.AdditionLemmas.{addition_known}
 use Rattle.soar_app.proofs.order.addition_of.Goals as goal
 
 pub returns-in-Some-clause-read : goal.returns-in-Some-clause-read

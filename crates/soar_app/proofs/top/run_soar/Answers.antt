@@ -1,9 +1,6 @@
-use Rattle.std.proofs.Common.{arith, ◌≡◌, Some, false, ap, ◌∙◌}
+use Rattle.std.proofs.Common.{arith, ◌≡◌, Some, ap, ◌∙◌}
 use Rattle.std.proofs.lemmas.Grind.{common_steps}
-use Rattle.defs_run.specs.Commands.{commands_of}
-use Rattle.defs_run.specs.Sessions.{first_session}
-use Rattle.soar_app.specs.Runs.{run_from}
-use Rattle.soar_app.proofs.TopLemmas.{answers_run, complete_run, headline_run, prefix_of, prefix_run, prefix_usage, same_faults, transcript_of}
+use Rattle.soar_app.proofs.TopLemmas.{answers_run, complete_run, headline_run, prefix_of, prefix_run, prefix_usage, run_of, same_faults, transcript_of}
 use Rattle.soar_app.proofs.top.run_soar.Goals as goal
 
 pub returns-in-Ok-clause-prefix : goal.returns-in-Ok-clause-prefix
@@ -40,5 +37,4 @@ pub returns-in-Ok-run_all-clause-complete : goal.returns-in-Ok-run_all-clause-co
 returns-in-Ok-run_all-clause-complete g c =
     complete_run _ (λ stock. g.F.Shelf.files c.args.files.now ≡ Some stock) _ _ _ c.args.words.now.items c.in-Ok-read_script.script.too_long c.in-Ok-read_script.script.text _
     c.in-Ok-read_script.ensures.commands
-    (c.end_of.ensures ∙ c.in-Ok-run_all.ensures.status
-    ∙ ap (λ text. (run_from c.in-Ok-read_script.script.too_long (first_session 1) false (commands_of text)).status) c.as_slice.ensures)
+    (c.end_of.ensures ∙ c.in-Ok-run_all.ensures.status ∙ ap (λ text. (run_of c.in-Ok-read_script.script.too_long text).status) c.as_slice.ensures)

@@ -6,10 +6,6 @@ use Rattle.soar_app.specs.Asked.{order_seen}
 use Rattle.soar_app.specs.Carries.{Carries}
 use Rattle.soar_app.proofs.state.Session.carry_out.Goals as goal
 
-pub returns-in-Load : goal.returns-in-Load
-returns-in-Load c =
-    subst (λ (o : Order). Carries c.args.self.now c.load.new.self c.args.line (carried_out run_present (order_seen o)) c.args.out.now c.args.out.now c.load.result) (sym c.in-Load.is) c.load.ensures
-
 pub returns-in-Add : goal.returns-in-Add
 returns-in-Add c =
     subst (λ (o : Order). Carries c.args.self.now c.add.new.self c.args.line (carried_out run_present (order_seen o)) c.args.out.now c.add.new.out c.add.result) (sym c.in-Add.is) c.add.ensures
@@ -29,3 +25,7 @@ returns-in-Matches c =
 pub returns-in-Print : goal.returns-in-Print
 returns-in-Print c =
     subst (λ (o : Order). Carries c.args.self.now c.list_elements.new.self c.args.line (carried_out run_present (order_seen o)) c.args.out.now c.list_elements.new.out c.list_elements.result) (sym c.in-Print.is) c.list_elements.ensures
+
+pub returns-in-Show : goal.returns-in-Show
+returns-in-Show c =
+    subst (λ (o : Order). Carries c.args.self.now c.show_rule.new.self c.args.line (carried_out run_present (order_seen o)) c.args.out.now c.show_rule.new.out c.show_rule.result) (sym c.in-Show.is) c.show_rule.ensures
