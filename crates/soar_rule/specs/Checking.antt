@@ -1,5 +1,5 @@
 -- What is wrong with a production, and else its conditions in match order (the faults and their order are this engine's).
-use Rattle.std.specs.Prelude.{ℕ, suc, Bool, true, false, ◌&&◌, ◌||◌, nat_lt, not, List, [], ◌∷◌, ◌++◌, length, flat_map, Option, Some, None, Result, Ok, Err, if◌then◌else◌, option_map}
+use Rattle.std.specs.Prelude.{ℕ, suc, Bool, true, false, ◌&&◌, ◌||◌, nat_lt, min, not, List, [], ◌∷◌, ◌++◌, length, flat_map, Option, Some, None, Result, Ok, Err, if◌then◌else◌, option_map}
 use Rattle.std.specs.List.{list_any}
 use Rattle.soar_sym.specs.Equality.{symbol_eq}
 use Rattle.soar_sym.specs.declared.symbol.Sym.TheVariants.{Word}
@@ -18,6 +18,10 @@ pub data Fault : Type 0 where
   too_many : ℕ → Fault
   too_deep : Fault
   bad_preference : Fault
+
+-- a number that is told stands at 4,294,967,295 where it would be greater
+abbrev pub told : ℕ → ℕ
+told n = min n 4294967295
 
 -- ---- conditions
 
@@ -47,7 +51,7 @@ place_left (condition_and (conjunctive inside) cs) place taken = place_left cs (
 abbrev pub stop_of : Conditions → Taken → Option Fault
 stop_of cs taken =
     or_else (option_map unbound (lack_of_linked cs 0 taken))
-    (or_else (option_map unconnected (place_left cs 0 taken)) (option_map unbound (first_lack cs false false (plain_outside cs) 0 taken)))
+    (or_else (option_map (λ k. unconnected (told k)) (place_left cs 0 taken)) (option_map unbound (first_lack cs false false (plain_outside cs) 0 taken)))
 
 -- ---- actions
 
@@ -96,7 +100,7 @@ fault_of_actions bound actions = option_map unbound (first_unbound bound (linked
 -- at most 1,000 conditions and 2,000 variables
 abbrev pub fault_of_number : ℕ → ℕ → Option Fault
 fault_of_number conditions variables =
-    if nat_lt 1000 conditions then Some (too_many conditions) else if nat_lt 2000 variables then Some (too_many variables) else None
+    if nat_lt 1000 conditions then Some (too_many (told conditions)) else if nat_lt 2000 variables then Some (too_many (told variables)) else None
 
 -- ---- preferences
 

@@ -28,7 +28,7 @@ impl Production {
     }
 }
 
-fn copy_doc(doc: &Option<Text>, alloc: Global) -> Result<Option<Text>, NoMemory>
+pub fn copy_doc(doc: &Option<Text>, alloc: Global) -> Result<Option<Text>, NoMemory>
     ensures { IfOk result (λ copy. copy ≡ doc.now) }
 {
     match doc {
@@ -61,7 +61,7 @@ fn copy_cond(cond: &Cond, alloc: Global) -> Result<Cond, NoMemory>
     }
 }
 
-fn copy_pattern(pattern: &Pattern, alloc: Global) -> Result<Pattern, NoMemory>
+pub(crate) fn copy_pattern(pattern: &Pattern, alloc: Global) -> Result<Pattern, NoMemory>
     ensures { IfOk result (λ copy. copy ≡ pattern.now) }
 {
     let id = copy_field(&pattern.id, alloc)?;
@@ -106,7 +106,7 @@ fn copy_test(test: &Test, alloc: Global) -> Result<Test, NoMemory>
 
 // ---- actions
 
-fn copy_actions(actions: &[Action], alloc: Global) -> Result<List<Action>, NoMemory>
+pub fn copy_actions(actions: &[Action], alloc: Global) -> Result<List<Action>, NoMemory>
     ensures { IfOk result (λ copy. copy ≡ actions.now) }
 {
     let mut out = List::new(alloc);
