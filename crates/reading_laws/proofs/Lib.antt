@@ -47,3 +47,11 @@ pub mod GivenConditions
 pub mod GivenActions
 pub mod GivenMakes
 pub mod PrintableLaws
+pub mod PlaceLaws
+pub mod ReorderedLaws
+pub mod RenumberedText
+pub mod RenumberedPrintable
+pub mod BracketLaws
+pub mod InOrderLaws
+pub mod InOrderPrintable
+pub mod CheckedLaws

@@ -1,3 +1,4 @@
+pub mod InOrder
 pub mod Lawful
 pub mod Brackets
 pub mod Refusals

@@ -1,6 +1,7 @@
 -- That what is printed is read back.
 use Rattle.std.specs.Prelude.{◌≡◌, ◌≤◌, ◌<◌, ◌^◌, ℕ, List, ◌++◌, length, map, None, Ok}
 use Rattle.soar_sym.specs.Words.{Texts, architecture}
+use Rattle.soar_rule.specs.Checking.{ordered}
 use Rattle.soar_rule.specs.Productions.{ProductionOf}
 use Rattle.defs_text.specs.Lexing.{Lexed, lexed}
 use Rattle.defs_text.specs.Numbered.{words_after}
@@ -10,6 +11,7 @@ use Rattle.defs_read.specs.Printing.{production_text, lines_text}
 use Rattle.defs_read.specs.ReadingActions.{most_open, tree_of}
 use Rattle.defs_read.specs.Spelling.{Tokens}
 use Rattle.reading_laws.specs.Brackets.{brackets}
+use Rattle.reading_laws.specs.InOrder.{in_text_order}
 use Rattle.reading_laws.specs.Printable.{IsPrintable}
 use Rattle.reading_laws.specs.TreeBack.{tree_back}
 
@@ -38,3 +40,12 @@ meaning words l tree = production_of (words_after words l.tokens) (tokens_in l) 
 abbrev pub ReadIsPrintable : Type 0
 ReadIsPrintable = (words more : Texts) (text : List ℕ) (tree : Tree) → words ≡ architecture ++ more → length text < 2 ^ 32 → tree_of (tokens_in (lexed text)) ≡ Ok tree
     → length (meaning words (lexed text) tree).production.vars < 2 ^ 32 → IsPrintable (meaning words (lexed text) tree).words (meaning words (lexed text) tree).production
+
+-- what was checked is printed as a text that is read to it, its variables compared by name, and what is read there is checked already
+pub record IsBack (words : Texts) (q : ProductionOf) : Type 0 where
+  pub read : ReadsBack words (in_text_order q) (lexed (printed words q))
+  pub checked : ordered (in_text_order q) ≡ Ok (in_text_order q)
+
+-- what the check gives for what was read comes back
+abbrev pub CheckedIsRead : Type 0
+CheckedIsRead = (words : Texts) (p q : ProductionOf) → IsPrintable words p → ordered p ≡ Ok q → IsBack words q

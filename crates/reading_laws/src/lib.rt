@@ -4,6 +4,8 @@
 ghost use Rattle.reading_laws.specs.Laws as laws;
 ghost use Rattle.reading_laws.specs.WayBack as back;
 
+use rule_laws::checked_is_in_order;
+
 /// What is read of tokens is spelled by them, what is spelled is read, and what is refused is
 /// refused at the first token with which no production goes on.
 pub fn reading_is_exact()
@@ -14,8 +16,12 @@ pub fn reading_is_exact()
 
 /// The text that a production is printed as is read as that production again, with its variables
 /// under the same numbers, and with no new word but those of its tokens. What was read of a text is
-/// such a production.
+/// such a production. What was checked after that is printed as a text that is read and checked to it,
+/// its variables compared by name.
 pub fn printing_reads_back()
     ensures printed { back.PrintedIsRead }
     ensures printable { back.ReadIsPrintable }
-{}
+    ensures checked { back.CheckedIsRead }
+{
+    checked_is_in_order();
+}

@@ -1,0 +1,1 @@
+-- Nothing is defined here: the laws are stated over the definitions of soar_rule.
