@@ -1,14 +1,12 @@
-pub mod AdditionForms
 pub mod Arguments
 pub mod Carrying
 pub mod CommandForms
 pub mod CommandLine
 pub mod Commands
-pub mod FirstForm
-pub mod Fronts
 pub mod Inputs
 pub mod Listing
 pub mod Orders
+pub mod PlainActions
 pub mod Present
 pub mod RandomReading
 pub mod Runs

@@ -1,70 +1,61 @@
 -- The present stage: the commands that are built, what is read of them, and how a cycle goes as long as there is one goal.
-use Rattle.std.specs.Prelude.{ℕ, zero, suc, true, false, List, [], ◌∷◌, map, drop, Option, Some, None, option_map, option_and_then, Result, Ok, Err, if◌then◌else◌, codes}
+use Rattle.std.specs.Prelude.{ℕ, zero, suc, true, false, List, [], ◌∷◌, map, drop, Option, Some, None, option_and_then, Result, Ok, Err, if◌then◌else◌, codes}
 use Rattle.std.specs.Str.{bytes_eq}
 use Rattle.soar_sym.specs.Words.{Texts}
-use Rattle.soar_sym.specs.declared.symbol.Sym.TheVariants.{Ident}
 use Rattle.soar_edge.specs.Cutting.{cuts_of, uncommented}
 use Rattle.soar_edge.specs.declared.filed.Filed.{Filed}
+use Rattle.soar_rule.specs.Checking.{ordered}
 use Rattle.soar_rule.specs.Productions.{ProductionOf}
 use Rattle.defs_text.specs.Lexing.{lexed, Spelled}
-use Rattle.defs_text.specs.Numbered.{numbered}
-use Rattle.defs_text.specs.declared.token.Token.{Token}
 use Rattle.defs_soar.specs.Agents.{Agent}
 use Rattle.defs_soar.specs.Cycle.{then_phase, then_course}
 use Rattle.defs_soar.specs.Events.{proposal_phase}
 use Rattle.defs_soar.specs.Limits.{counts_to}
 use Rattle.defs_soar.specs.Phases.{Said, Course, still}
-use Rattle.defs_run.specs.AdditionForms.{addition_at}
 use Rattle.defs_run.specs.Arguments.{Argument, argument_in}
-use Rattle.defs_run.specs.CommandForms.{number_order, tag_order, printing_order}
+use Rattle.defs_run.specs.CommandForms.{alone, number_order, printing_order, tag_order, triple_order}
 use Rattle.defs_run.specs.Commands.{first_run}
-use Rattle.defs_run.specs.FirstForm.{is_first_form}
-use Rattle.defs_run.specs.Orders.{is_symbol, is_label, Order, load, add_wme, remove_wme, run_cycles, matches, print_id, print_name, Refusal, unknown_command, not_built}
+use Rattle.defs_run.specs.Orders.{Order, load, add_wme, run_cycles, matches, print_id, print_name, Refusal, unknown_command, not_built}
+use Rattle.defs_run.specs.PlainActions.{is_plain}
 use Rattle.defs_run.specs.Stages.{Reading, Stage}
 use Rattle.defs_run.specs.Transcripts.{Transcript, transcript_at}
-use Rattle.defs_run.specs.WholeReading.{Judge, read_sp, unless_faulty}
-use Rattle.defs_run.specs.declared.form.Addition.{Addition}
+use Rattle.defs_run.specs.WholeReading.{Judge, of_check, read_sp, unless_faulty}
 
--- ---- productions: what is not of the first form is not built
+-- ---- productions: actions other than plain makes are not built
 
+abbrev pub if_plain : ProductionOf → Result Order Refusal
+if_plain p = if is_plain p then Ok (load p) else Err not_built
+
+-- its faults come first
 abbrev pub judged : Judge
-judged words p = if is_first_form p then Ok (load p) else Err not_built
+judged words p = elim (ordered p) [ Ok q ↦ if_plain q | Err why ↦ Err (of_check words p.vars why) ]
 
--- ---- the forms of the other commands, over the tokens behind the command's word
+-- ---- the forms of the other commands, over the arguments behind the command's word
 
-abbrev pub as_addition : Addition → Order
-as_addition a = add_wme (is_symbol (Ident 83 1)) (is_symbol a.attr) (is_symbol a.value)
-
--- an identifier or a name; labels and lists are not built
+-- an identifier, a label or a name; lists are not built
 abbrev pub built_print : Order → Option Order
-built_print (print_id (is_symbol s)) = Some (print_id (is_symbol s))
+built_print (print_id id) = Some (print_id id)
 built_print (print_name name) = Some (print_name name)
 built_print other = None
 
 abbrev pub print_order : Texts → List Argument → Option Order
 print_order words arguments = option_and_then built_print (printing_order words arguments)
 
-abbrev pub matches_order : List Token → Option Order
-matches_order [] = Some matches
-matches_order (t ∷ tokens) = None
-
 -- what a command of this word may ask for
-pub data Form : Type 0 where
-  of_tokens : (Texts → List Token → Option Order) → Form
-  of_arguments : (Texts → List Argument → Option Order) → Form
+abbrev pub Form : Type 0
+Form = Texts → List Argument → Option Order
 
 abbrev pub form_of : List ℕ → Option Form
 form_of word =
-    if bytes_eq word (codes "add-wme") then Some (of_tokens (λ words tokens. option_map as_addition (addition_at words tokens)))
-    else if bytes_eq word (codes "matches") then Some (of_tokens (λ words tokens. matches_order tokens))
-    else if bytes_eq word (codes "run") then Some (of_arguments (λ words. number_order 1 1000000 run_cycles))
-    else if bytes_eq word (codes "remove-wme") then Some (of_arguments (λ words. tag_order))
-    else if bytes_eq word (codes "print") then Some (of_arguments print_order)
+    if bytes_eq word (codes "add-wme") then Some (λ words. triple_order words add_wme)
+    else if bytes_eq word (codes "matches") then Some (λ words. alone matches)
+    else if bytes_eq word (codes "run") then Some (λ words. number_order 1 1000000 run_cycles)
+    else if bytes_eq word (codes "remove-wme") then Some (λ words. tag_order)
+    else if bytes_eq word (codes "print") then Some print_order
     else None
 
 abbrev pub order_by : Form → Texts → List ℕ → List Spelled → Option Order
-order_by (of_tokens f) words text tokens = f words (drop 1 (map (numbered words) tokens))
-order_by (of_arguments f) words text tokens = f words (drop 1 (map (argument_in text) tokens))
+order_by f words text tokens = f words (drop 1 (map (argument_in text) tokens))
 
 abbrev pub or_not_built : Option Order → Result Order Refusal
 or_not_built (Some order) = Ok order

@@ -1,21 +1,29 @@
-use soar_sym::Sym;
+use soar_sym::{Sym, Text};
 
-/// The attribute and the value of an element of the top state.
-#[derive(Clone, Copy, Debug, PartialEq, Eq)]
+/// A symbol, or a label by its name without brackets.
+#[derive(Debug, Drop)]
+pub enum Operand {
+    Symbol(Sym),
+    Label(Text),
+}
+
+/// The identifier, the attribute and the value of an element.
+#[derive(Debug, Drop)]
 pub struct Addition {
-    pub attr: Sym,
-    pub value: Sym,
+    pub id: Operand,
+    pub attr: Operand,
+    pub value: Operand,
 }
 
 /// What a command other than `sp` asks for. A count of cycles is from 1 to 1,000,000.
-#[derive(Clone, Copy, Debug, PartialEq, Eq)]
+#[derive(Debug, Drop)]
 pub enum Order {
     Add(Addition),
     Remove(u64),
     Run(u32),
     Matches,
     /// The elements of an identifier.
-    Print(Sym),
+    Print(Operand),
     /// The production of a name.
     Show(Sym),
 }

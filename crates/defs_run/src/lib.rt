@@ -3,4 +3,4 @@
 
 mod form;
 
-pub use form::{Addition, Order};
+pub use form::{Addition, Operand, Order};

@@ -17,7 +17,7 @@ MadeAndGone =
 -- what is not built yet, and elements that are not there or no inputs
 abbrev pub NotBuiltYet : Type 0
 NotBuiltYet =
-    WritesNow (codes "add-wme S1 ^a <x>\nsp {n -(state <s> ^a 1) --> (<s> ^b 1)}\nexcise n\nprint n\nprint Q9\nremove-wme 5\nremove-wme 99\nrun 0\nadd-wme S1 ^a 1\nadd-wme S1 ^a 1\n")
+    WritesNow (codes "add-wme S1 ^<a> x\nsp {n (state <s> ^a 1) --> (halt)}\nexcise n\nprint n\nprint Q9\nremove-wme 5\nremove-wme 99\nrun 0\nadd-wme S1 ^a 1\nadd-wme S1 ^a 1\n")
     (codes "error 18 -:1: not built\nerror 18 -:2: not built\nerror 10 -:3: unknown command\nerror 32 -:4: no production n\nerror 31 -:5: unknown identifier Q9\nerror 34 -:6: not an input element 5\nerror 33 -:7: no element 99\nerror 18 -:8: not built\nerror 35 -:10: already there as 6\n") status.Refusals
 
 -- ---- reading and matching
@@ -41,11 +41,11 @@ Joined =
     WritesNow (codes " \nsp {j (state <s> ^a <x>) (<s> ^b <x>) --> (<s> ^c <y>) (<y> ^d 1)}\nadd-wme S1 ^b 2\nadd-wme S1 ^a 2\nadd-wme S1 ^a 1\nadd-wme S1 ^b 1\nadd-wme S1 ^b |2|\nmatches\n")
     (codes "j: 7 6\nj: 8 9\n") status.Done
 
--- what is not built: an unconnected group, an operator, more behind, an identifier as value; and a comment, a float, an open brace
+-- what is not built: an operator, more behind; and an unconnected group, a comment, a float, an open brace
 abbrev pub Forms : Type 0
 Forms =
-    WritesNow (codes "sp {a (state <s> ^a 1) (<t> ^b 2) --> }\nsp {a (state <s> ^a 1) --> (<s> ^operator 1)}\nmatches #\nmatches now\nadd-wme S1 ^a 1.5\nadd-wme S1 ^a S1\nadd-wme S1 ^a |S1|\nmatches{\nsp")
-    (codes "error 18 -:1: not built\nerror 18 -:2: not built\nno matches\nerror 18 -:4: not built\nerror 13 -:5: floating-point number at byte 14\nerror 18 -:6: not built\nerror 11 -:8: unfinished command\n") status.Refusals
+    WritesNow (codes "sp {a (state <s> ^a 1) (<t> ^b 2) --> }\nsp {a (state <s> ^a 1) --> (<s> ^operator 1)}\nmatches #\nmatches now\nadd-wme S1 ^a 1.5\nadd-wme S1 ^a S1 1\nadd-wme S1 ^a |S1|\nmatches{\nsp")
+    (codes "error 22 -:1: unconnected condition 2\nerror 18 -:2: not built\nno matches\nerror 18 -:4: not built\nerror 13 -:5: floating-point number at byte 14\nerror 18 -:6: not built\nerror 11 -:8: unfinished command\n") status.Refusals
 
 -- an arrow is missing, and a number is too wide
 abbrev pub Syntax : Type 0
@@ -58,6 +58,38 @@ abbrev pub Printed : Type 0
 Printed =
     WritesNow (codes "sp {p # a path\n  (state <s> ^io.input-link <in>)\n  -->\n  (<s> ^in <in>)}\nprint p\nprint q\n")
     (codes "sp {p\n    (state <s> ^io <$1>)\n    (<$1> ^input-link <in>)\n    -->\n    (<s> ^in <in> +)\n}\nerror 32 -:6: no production q\n") status.Refusals
+
+-- ---- tests, negations and labels
+
+-- the second value is of the same kind as the first, and another
+abbrev pub SameKindNow : Type 0
+SameKindNow =
+    WritesNow (codes "sp {k (state <s> ^a <x> ^b { <y> <=> <x> <> <x> }) --> (<s> ^c 1)}\nadd-wme S1 ^a 1\nadd-wme S1 ^b 1\nadd-wme S1 ^b 2\nadd-wme S1 ^b w\nmatches\n")
+    (codes "k: 6 8\n") status.Done
+
+-- a negation in a negation in a negation
+abbrev pub NestedNow : Type 0
+NestedNow =
+    WritesNow (codes "sp {nest (state <s> ^superstate nil) -{(<s> ^a <x>) -{(<x> ^b <y>) -(<y> ^c 1)}} --> (<s> ^ok yes)}\nmatches\nadd-wme S1 ^a <x>\nmatches\nadd-wme <x> ^b <y>\nmatches\nadd-wme <y> ^c 1\nmatches\nremove-wme 8\nmatches\n")
+    (codes "nest: 4\nno matches\nnest: 4\nno matches\nnest: 4\n") status.Done
+
+-- six productions, each with another fault
+abbrev pub RefusedNow : Type 0
+RefusedNow =
+    WritesNow (codes "sp {n (<s> ^a 1) --> (halt)}\nsp {u (state <s> ^a > <x>) --> (<s> ^b 1)}\nsp {c (state <s> ^a 1) (<z> ^b 2) --> (halt)}\nsp {b (state <s> ^a 1) --> (<s> ^b 1 !)}\nsp {e (state <s> ^a 1) (halt)}\nsp {w (state <s> ^a 9223372036854775808) --> (halt)}\n")
+    (codes "error 20 -:1: no state condition\nerror 21 -:2: unbound variable <x>\nerror 22 -:3: unconnected condition 2\nerror 25 -:4: preference for an ordinary attribute\nerror 16 -:5: unexpected token at byte 29\nerror 14 -:6: number too wide at byte 20\n") status.Refusals
+
+-- a label is made once it is used in a command that is not refused, and names its identifier from then on
+abbrev pub Labelled : Type 0
+Labelled =
+    WritesNow (codes "add-wme <n> ^a 1\nadd-wme S1 ^a <n>\nadd-wme S1 ^b <m>\nadd-wme <n> ^next <m>\nadd-wme S1 ^a <n>\nadd-wme S1 ^operator <k>\nadd-wme S1 ^c <k>\nadd-wme N1 ^operator w\nadd-wme S1 ^c Q3\nprint <n>\nprint <new>\nremove-wme 6\nadd-wme <n> ^a 1\n")
+    (codes "error 31 -:1: unknown identifier <n>\nerror 35 -:5: already there as 6\nerror 36 -:6: reserved attribute\nerror 31 -:9: unknown identifier Q3\n8: (N1 ^next M1)\n10: (N1 ^operator w)\nno elements\nerror 31 -:13: unknown identifier N1\n") status.Refusals
+
+-- conditions are loaded in match order, those inside a negation too
+abbrev pub InMatchOrder : Type 0
+InMatchOrder =
+    WritesNow (codes "sp {o (<x> ^b > <y>) -{(<y> ^d <z>) (<x> ^c <z>)} (<s> ^a <x>) (state <s> ^n <y>) --> (<s> ^ok <x>)}\nprint o\n")
+    (codes "sp {o\n    (state <s> ^n <y>)\n    (<s> ^a <x>)\n    (<x> ^b > <y>)\n    -{(<y> ^d <z>) (<x> ^c <z>)}\n    -->\n    (<s> ^ok <x> +)\n}\n") status.Done
 
 -- no word of the command line is taken
 abbrev pub WordsGiven : Type 0

@@ -91,5 +91,10 @@ pub fn worked_present()
     ensures forms { present.Forms }
     ensures syntax { present.Syntax }
     ensures printed { present.Printed }
+    ensures same_kind { present.SameKindNow }
+    ensures nested { present.NestedNow }
+    ensures refused { present.RefusedNow }
+    ensures labelled { present.Labelled }
+    ensures in_match_order { present.InMatchOrder }
     ensures words_given { present.WordsGiven }
 {}

@@ -36,7 +36,7 @@ mid_last mid (x ∷ y ∷ bytes) b e =
 
 pub phase_goes : (s : SessionKept) (a : AgentKept) (mid : Bool) (text : List ℕ) (history : List Past) (before after : List ℕ) (result : Result Bool Stop)
     → ProposesFrom s.agent a history result → ProposesText s.agent history [] text result → after ≡ before ++ text → mid ≡ is_mid_after s.mid_line text
-    → GoesPhase s.mid_line (phase true (agent_of s.agent history)) (record { agent = a; mid_line = mid }) before after result
+    → GoesPhase s.mid_line (phase true (agent_of s.agent history)) (record s { agent = a; mid_line = mid }) before after result
 phase_goes s a mid text history before after (Ok cut) from wrote appended ends =
     let steps : List Said = (phase true (agent_of s.agent history)).course.steps in
     let front : front_said s.mid_line steps ≡ record { text = written_within steps; mid_line = is_mid_after s.mid_line (written_within steps) } =

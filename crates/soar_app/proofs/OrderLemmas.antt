@@ -1,15 +1,15 @@
 -- Arguments, and the orders that they make.
-use Rattle.std.proofs.Common.{◌≡◌, ℕ, true, false, List, [], ◌∷◌, map, drop, Some, None, refl, ap, ap₂, ◌∙◌}
+use Rattle.std.proofs.Common.{◌≡◌, ℕ, true, false, List, [], ◌∷◌, map, drop, Option, Result, Ok, Err, IfOk, refl, ap, ap₂, ◌∙◌}
+use Rattle.std.specs.Prelude.{option_map}
 use Rattle.soar_sym.specs.Words.{Texts}
 use Rattle.defs_text.specs.Lexing.{Saying, mark, arrow, open_set, close_set, sign, variable_named, integer, word_of, documentation, Spelled}
 use Rattle.defs_text.specs.Numbered.{kind_in, numbered}
 use Rattle.defs_text.specs.declared.token.Token.{Token}
-use Rattle.defs_run.specs.Arguments.{Argument, bare, barred, label, number, signed, caret, no_argument, argument_of, argument_in}
-use Rattle.defs_run.specs.CommandForms.{number_order, tag_order}
-use Rattle.defs_run.specs.Orders.{Order}
-use Rattle.defs_run.specs.Present.{Form, of_tokens, of_arguments, order_by, print_order}
-use Rattle.soar_app.specs.Asked.{order_at}
-use Rattle.soar_app.specs.Behind.{kind_argument, argument_at, only}
+use Rattle.defs_run.specs.Arguments.{Argument, bare, barred, label, argument_of, argument_in}
+use Rattle.defs_run.specs.Present.{Form, order_by}
+use Rattle.defs_run.specs.declared.form.Order.{Order as OrderRead}
+use Rattle.soar_app.specs.Asked.{order_seen}
+use Rattle.soar_app.specs.Behind.{kind_argument, argument_at}
 use Rattle.soar_app.specs.Known.{IsSayingIn, AreSpelledIn}
 use Rattle.soar_app.proofs.WordLemmas.{text_in}
 
@@ -37,44 +37,10 @@ arguments_behind : (words : Texts) (text : List ℕ) (spelled : List Spelled) �
 arguments_behind words text [] has = refl
 arguments_behind words text (t ∷ spelled) has = arguments_are words text spelled has.1
 
-order_spelled : (f : Form) (words : Texts) (text : List ℕ) (spelled : List Spelled) → AreSpelledIn words spelled
-    → order_at f words text (drop 1 (map (numbered words) spelled)) ≡ order_by f words text spelled
-order_spelled (of_tokens f) words text spelled has = refl
-order_spelled (of_arguments f) words text spelled has = ap (f words) (arguments_behind words text spelled has)
-
--- the order of a command's tokens, of those behind its word
-pub order_behind : (f : Form) (words : Texts) (text : List ℕ) (tokens : List Token) (spelled : List Spelled) → tokens ≡ map (numbered words) spelled → AreSpelledIn words spelled
-    → order_at f words text (drop 1 tokens) ≡ order_by f words text spelled
-order_behind f words text tokens spelled is has = ap (λ ts. order_at f words text (drop 1 ts)) is ∙ order_spelled f words text spelled has
-
--- ---- orders of one argument
-
-pub only_is : (arguments : List Argument) (a : Argument) → only arguments ≡ Some a → arguments ≡ a ∷ []
-only_is [] a is = absurd (cc)
-only_is (b ∷ []) a is = cc
-only_is (b ∷ c ∷ others) a is = absurd (cc)
-
-pub no_number : (low high : ℕ) (f : ℕ → Order) (arguments : List Argument) → only arguments ≡ None → number_order low high f arguments ≡ None
-no_number low high f [] is = refl
-no_number low high f (a ∷ []) is = absurd (cc)
-no_number low high f (bare text ∷ b ∷ others) is = refl
-no_number low high f (barred text ∷ b ∷ others) is = refl
-no_number low high f (label name ∷ b ∷ others) is = refl
-no_number low high f (number n ∷ b ∷ others) is = refl
-no_number low high f (signed z ∷ b ∷ others) is = refl
-no_number low high f (caret ∷ b ∷ others) is = refl
-no_number low high f (no_argument ∷ b ∷ others) is = refl
-
-pub no_tag : (arguments : List Argument) → only arguments ≡ None → tag_order arguments ≡ None
-no_tag [] is = refl
-no_tag (a ∷ []) is = absurd (cc)
-no_tag (bare text ∷ b ∷ others) is = refl
-no_tag (barred text ∷ b ∷ others) is = refl
-no_tag (label name ∷ b ∷ others) is = refl
-no_tag (number n ∷ b ∷ others) is = refl
-no_tag (signed z ∷ b ∷ others) is = refl
-no_tag (caret ∷ b ∷ others) is = refl
-no_tag (no_argument ∷ b ∷ others) is = refl
-
-pub no_print : (words : Texts) (a b : Argument) (others : List Argument) → print_order words (a ∷ b ∷ others) ≡ None
-no_print words a b others = refl
+-- the order of arguments that are those behind a command's word
+pub order_behind : {E : Type 0} (f : Form) (words : Texts) (text : List ℕ) (tokens : List Token) (arguments : List Argument) (result : Result (Option OrderRead) E)
+    → arguments ≡ map (argument_at words text) (drop 1 tokens) → IfOk result (λ order. option_map order_seen order ≡ f words arguments)
+    → IfOk result (λ order. (spelled : List Spelled) → tokens ≡ map (numbered words) spelled → AreSpelledIn words spelled → option_map order_seen order ≡ order_by f words text spelled)
+order_behind f words text tokens arguments (Err e) are is = tt
+order_behind f words text tokens arguments (Ok order) are is = λ spelled same has.
+    is ∙ ap (f words) (are ∙ (ap (λ ts. map (argument_at words text) (drop 1 ts)) same ∙ arguments_behind words text spelled has))

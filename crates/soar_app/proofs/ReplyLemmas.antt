@@ -1,48 +1,40 @@
 -- What is replied to orders, and what the session does.
-use Rattle.std.proofs.Common.{◌≡◌, ℕ, suc, ◌+◌, ◌^◌, ◌-◌, ◌<◌, ◌≤◌, ◌==◌, Bool, true, false, ◌||◌, ◌&&◌, not, List, [], ◌∷◌, ◌++◌, map, Option, Some, None, Ok, Err, refl, sym, ap, subst, ◌∙◌, arith, append-nil}
-use Rattle.std.specs.Prelude.{is_some, option_map, if◌then◌else◌}
-use Rattle.soar_sym.specs.Equality.{symbol_eq}
+use Rattle.std.proofs.Common.{◌≡◌, ℕ, suc, ◌+◌, ◌^◌, ◌-◌, ◌<◌, ◌≤◌, Bool, true, false, ◌||◌, List, [], ◌∷◌, ◌++◌, map, Option, Some, None, Ok, Err, refl, sym, ap, ◌∙◌, arith, append-nil}
 use Rattle.soar_sym.specs.Words.{Texts}
-use Rattle.soar_sym.specs.declared.symbol.Sym.{Sym}
-use Rattle.soar_sym.specs.declared.symbol.Sym.TheVariants.{Ident, Word, Int}
 use Rattle.soar_sym.specs.declared.symbol.Triple.{Triple}
 use Rattle.soar_rule.specs.Productions.{ProductionOf}
-use Rattle.soar_wm.specs.WorkingMemory.{triple_of, tag_of}
-use Rattle.defs_text.specs.Symbols.{symbol_text}
 use Rattle.defs_match.specs.Rules.{RuleOf, rule_seen}
 use Rattle.defs_match.specs.declared.rule.Rule.{Rule}
 use Rattle.defs_soar.specs.declared.limit.Which.{Which}
 use Rattle.defs_soar.specs.declared.limit.Which.TheVariants as which
 use Rattle.defs_soar.specs.Agents.{Agent}
 use Rattle.defs_soar.specs.Cycle.{held_with}
-use Rattle.defs_soar.specs.Goals.{is_operator_slot, plain_triple}
 use Rattle.defs_soar.specs.History.{Past}
-use Rattle.defs_soar.specs.Levels.{level}
 use Rattle.defs_soar.specs.Limits.{counts_to, or_else, first_passed}
 use Rattle.defs_soar.specs.Phases.{halting, Course}
 use Rattle.defs_soar.specs.Resettling.{Step, resettled}
 use Rattle.defs_soar.specs.Trace.{Written, rendered, followed_by, is_mid_after}
 use Rattle.defs_soar.specs.Trimming.{Trimmed}
-use Rattle.defs_run.specs.Carrying.{with_production, loaded, followed, lists_elements}
-use Rattle.defs_run.specs.Inputs.{refuses, told_by, with_inputs, Spelled, spelled, or_else as or_text, level_of, unreached_in, first_unknown, is_top_level, is_reserved, unless_there, added}
-use Rattle.defs_run.specs.Orders.{is_symbol, not_of_the_top_state, reserved_attribute}
+use Rattle.defs_run.specs.Carrying.{with_production, loaded, followed}
+use Rattle.defs_run.specs.Inputs.{told_by, with_inputs}
 use Rattle.defs_run.specs.Present.{run_present}
-use Rattle.defs_run.specs.Sessions.{Session, quiet, with_agent, as_lines, says, draws, unknown_in}
+use Rattle.defs_run.specs.Sessions.{Session, quiet, with_agent, as_lines, says}
 use Rattle.soar_cycle.specs.Changing.{with_inputs as inputs_put, ChangesInputs}
 use Rattle.soar_cycle.specs.Seen.{IsSound, Stepped, agent_of}
 use Rattle.soar_cycle.specs.declared.agent.Agent.{Agent as AgentKept}
 use Rattle.soar_cycle.specs.declared.stop.Stop.{Stop}
 use Rattle.soar_cycle.specs.declared.stop.Stop.TheVariants as stop
-use Rattle.soar_app.specs.Carries.{top, is_given_by, first_not_given, rules_with}
+use Rattle.soar_app.specs.Carries.{rules_with}
 use Rattle.soar_app.specs.Courses.{told_in, front_said, Went, Goes}
 use Rattle.soar_app.specs.Saying.{Says}
-use Rattle.soar_app.specs.States.{session_of}
+use Rattle.soar_app.specs.States.{label_seen, session_of}
 use Rattle.soar_app.specs.Steps.{Obeys, watch}
 use Rattle.soar_app.specs.Telling.{front_told}
+use Rattle.soar_app.specs.declared.state.Label.{Label}
 use Rattle.soar_app.specs.declared.state.Session.{Session as SessionKept}
 use Rattle.soar_app.proofs.CourseLemmas.{nothing, front_words, limit_words, run_plain}
 use Rattle.soar_app.proofs.QuietLemmas.{quiet_written, settling_quiet, settling_silent}
-use Rattle.soar_app.proofs.SessionLemmas.{IsSame, obeys_same, drawn_same, not_passed, is_passed, drawn_stops}
+use Rattle.soar_app.proofs.SessionLemmas.{obeys_same, drawn_same, not_passed, is_passed, drawn_stops}
 use Rattle.soar_app.proofs.SoundLemmas.{with_rules}
 
 -- ---- lines
@@ -57,10 +49,6 @@ says_lines s lines new_mid history before after sound said = record {
   refused = refl;
   kept = sound;
 }
-
--- the elements of an identifier, which draws nothing
-pub lists_same : (s : Session) (id : Sym) (lines : List (List ℕ)) → lists_elements s (is_symbol id) ≡ draws [] (says s lines) → IsSame (lists_elements s (is_symbol id)) (says s lines)
-lists_same s id lines are = subst (λ reply. IsSame reply (says s lines)) (sym are) (drawn_same [] (says s lines) refl)
 
 -- ---- loading
 
@@ -119,8 +107,8 @@ changes s a inputs history said sound stepped =
     let front : front_told watch s.mid_line (told_by old step ∷ []) ≡ nothing s.mid_line = settling_front s.mid_line old (held_with old inputs) in
     record {
       history = stepped.history;
-      session = ap (λ (b : Agent). record { agent = b; labels = []; mid_line = s.mid_line }) (stepped.stands ∙ settling_goes_on old (held_with old inputs))
-          ∙ ap (λ (w : Written). record { agent = step.agent; labels = []; mid_line = w.mid_line }) (sym front);
+      session = ap (λ (b : Agent). record (session_of s history) { agent = b }) (stepped.stands ∙ settling_goes_on old (held_with old inputs))
+          ∙ ap (λ (w : Written). record (session_of s history) { agent = step.agent; mid_line = w.mid_line }) (sym front);
       within = ap (λ o. or_else o None) stepped.within;
       text = sym (append-nil said) ∙ ap (λ (w : Written). said ++ w.text) (sym front);
       refused = refl;
@@ -142,17 +130,19 @@ changes_none s new inputs history said stop.NoMemory free same = tt
 
 -- ---- running
 
-pub runs : (s new : SessionKept) (count : ℕ) (history : List Past) (before after : List ℕ) → Went s.mid_line (run_present count (agent_of s.agent history)) new before after → IsSound new.agent
+pub runs : (s new : SessionKept) (count : ℕ) (history : List Past) (before after : List ℕ) → Went s.mid_line (run_present count (agent_of s.agent history)) new before after
+    → new.labels ≡ s.labels → IsSound new.agent
     → Obeys s.mid_line (followed (session_of s history) (run_present count (agent_of s.agent history))) new before after (Ok false)
-runs s new count history before after went sound =
+runs s new count history before after went same sound =
     let c : Course = run_present count (agent_of s.agent history) in
     let words : Texts = c.agent.names.words in
     let front : front_told watch s.mid_line (map (told_in words) c.steps) ≡ front_said s.mid_line c.steps = front_words words s.mid_line c.steps (run_plain count (agent_of s.agent history)) in
     record {
       history = went.history;
-      session = ap (λ (b : Agent). record { agent = b; labels = []; mid_line = new.mid_line }) went.stands
-          ∙ (ap (λ (mid : Bool). record { agent = c.agent; labels = []; mid_line = mid }) went.mid_line
-          ∙ ap (λ (w : Written). record { agent = c.agent; labels = []; mid_line = w.mid_line }) (sym front));
+      session = ap (λ (labels : List Label). record (session_of new went.history) { labels = map label_seen labels }) same
+          ∙ (ap (λ (b : Agent). record (session_of s history) { agent = b; mid_line = new.mid_line }) went.stands
+          ∙ (ap (λ (mid : Bool). record (session_of s history) { agent = c.agent; mid_line = mid }) went.mid_line
+          ∙ ap (λ (w : Written). record (session_of s history) { agent = c.agent; mid_line = w.mid_line }) (sym front)));
       within = limit_words words c.steps ∙ went.within;
       text = went.text ∙ ap (λ (w : Written). before ++ w.text) (sym front);
       refused = refl;
@@ -171,63 +161,3 @@ runs_none s new count history before after (stop.Limit limit) passed =
       mid_line = passed.mid_line ∙ ap (λ (w : Written). w.mid_line) (sym front);
     }
 runs_none s new count history before after stop.NoMemory free = tt
-
--- ---- additions
-
--- the top state is reached at the first level, whatever the elements are
-pub top_level : (s : SessionKept) (history : List Past) → IsSound s.agent → level_of (agent_of s.agent history) top ≡ Some 1
-top_level s history sound = subst (λ goals. level goals (map triple_of s.agent.memory.elements) top ≡ Some 1) (sym sound.one_goal) refl
-
-pub given_unknown : (s : SessionKept) (history : List Past) (symbol : Sym)
-    → unknown_in (session_of s history) (is_symbol symbol) ≡ (if is_given_by s.agent.letters symbol then None else Some (symbol_text s.agent.table symbol))
-given_unknown s history (Ident letter number) = refl
-given_unknown s history (Word word) = refl
-given_unknown s history (Int value) = refl
-
-unknown_first : (letters : List ℕ) (words : Texts) (a b c : Sym)
-    → or_text (if is_given_by letters a then None else Some (symbol_text words a)) (or_text None (or_text (if is_given_by letters b then None else Some (symbol_text words b))
-    (if is_given_by letters c then None else Some (symbol_text words c))))
-    ≡ option_map (symbol_text words) (first_not_given letters (a ∷ b ∷ c ∷ []))
-unknown_first letters words a b c = by (is_given_by letters a) (is_given_by letters b) (is_given_by letters c)
-  where
-    by : (x y z : Bool)
-        → or_text (if x then None else Some (symbol_text words a)) (or_text None (or_text (if y then None else Some (symbol_text words b)) (if z then None else Some (symbol_text words c))))
-        ≡ option_map (symbol_text words) (if x then (if y then (if z then None else Some c) else Some b) else Some a)
-    by true true true = refl
-    by true true false = refl
-    by true false z = refl
-    by false y z = refl
-
--- the first identifier of an addition to the top state that was not given
-pub unknown_symbols : (s : SessionKept) (history : List Past) (attr value : Sym) → IsSound s.agent
-    → first_unknown true (session_of s history) (is_symbol top) (is_symbol attr) (is_symbol value)
-    ≡ option_map (symbol_text s.agent.table) (first_not_given s.agent.letters (top ∷ attr ∷ value ∷ []))
-unknown_symbols s history attr value sound =
-    let unknown : Sym → Option (List ℕ) = λ symbol. unknown_in (session_of s history) (is_symbol symbol) in
-    let unless_given : Sym → Option (List ℕ) = λ symbol. if is_given_by s.agent.letters symbol then None else Some (symbol_text s.agent.table symbol) in
-    let reached : unreached_in (session_of s history) (is_symbol top) ≡ None =
-    ap (λ (o : Option ℕ). if is_some o then None else Some (symbol_text s.agent.table top)) (top_level s history sound) in
-    ap (λ o. or_text (unknown top) (or_text o (or_text (unknown attr) (unknown value)))) reached
-    ∙ (ap (λ o. or_text (unknown top) (or_text None (or_text o (unknown value)))) (given_unknown s history attr)
-    ∙ (ap (λ o. or_text (unknown top) (or_text None (or_text (unless_given attr) o))) (given_unknown s history value)
-    ∙ unknown_first s.agent.letters s.agent.table top attr value))
-
-and_true : (b : Bool) → (b && true) ≡ b
-and_true true = refl
-and_true false = refl
-
--- an attribute of the top state is reserved where it is the operator's
-pub top_reserved : (s : SessionKept) (history : List Past) (attr value : Sym) → IsSound s.agent → is_reserved (session_of s history) (plain_triple top attr value) ≡ symbol_eq attr (Word 7)
-top_reserved s history attr value sound = subst (λ goals. is_operator_slot goals top attr ≡ symbol_eq attr (Word 7)) (sym sound.one_goal) (and_true (symbol_eq attr (Word 7)))
-
--- what is done with an element of the top state, once its identifiers were found
-pub adds : (s : SessionKept) (history : List Past) (attr value : Sym) → IsSound s.agent
-    → added (spelled (session_of s history) (is_symbol top) (is_symbol attr) (is_symbol value))
-    ≡ (if symbol_eq attr (Word 7) then refuses reserved_attribute
-    else unless_there (spelled (session_of s history) (is_symbol top) (is_symbol attr) (is_symbol value)) (tag_of (plain_triple top attr value) s.agent.memory.elements))
-adds s history attr value sound =
-    let t : Spelled = spelled (session_of s history) (is_symbol top) (is_symbol attr) (is_symbol value) in
-    let found : is_top_level (session_of s history) top ≡ true = ap (λ (o : Option ℕ). elim o as (λ _. Bool) [ Some n ↦ n == 1 | None ↦ false ]) (top_level s history sound) in
-    ap (λ b. if not b then refuses not_of_the_top_state else if is_reserved (session_of s history) (plain_triple top attr value) then refuses reserved_attribute
-    else unless_there t (tag_of (plain_triple top attr value) s.agent.memory.elements)) found
-    ∙ ap (λ b. if b then refuses reserved_attribute else unless_there t (tag_of (plain_triple top attr value) s.agent.memory.elements)) (top_reserved s history attr value sound)

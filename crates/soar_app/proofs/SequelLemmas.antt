@@ -4,14 +4,13 @@ use Rattle.std.specs.Prelude.{option_map, option_and_then, if◌then◌else◌, 
 use Rattle.std.specs.Str.{bytes_eq}
 use Rattle.soar_sym.specs.Words.{Texts}
 use Rattle.soar_sym.specs.declared.symbol.Sym.{Sym}
-use Rattle.soar_sym.specs.declared.symbol.Sym.TheVariants.{Ident}
 use Rattle.soar_edge.specs.Cutting.{uncommented}
+use Rattle.soar_rule.specs.Checking.{Fault as CheckFault, ordered}
 use Rattle.soar_rule.specs.Productions.{ProductionOf}
 use Rattle.soar_wm.specs.declared.element.Element.{Element}
 use Rattle.soar_wm.specs.WorkingMemory.{triple_of, tag_of, element_of}
 use Rattle.defs_text.specs.Lexing.{Lexed, lexed, Spelled, Fault}
-use Rattle.defs_text.specs.Numbered.{numbered, words_after}
-use Rattle.defs_text.specs.declared.token.Token.{Token}
+use Rattle.defs_text.specs.Numbered.{words_after}
 use Rattle.defs_match.specs.Rules.{RuleOf}
 use Rattle.defs_read.specs.Expansion.{production_of}
 use Rattle.defs_read.specs.Grammar.{Tree}
@@ -20,20 +19,19 @@ use Rattle.defs_read.specs.ReadingActions.{tree_of}
 use Rattle.defs_soar.specs.Agents.{Agent}
 use Rattle.defs_soar.specs.Phases.{Course}
 use Rattle.defs_soar.specs.Values.{has_triple_among}
-use Rattle.defs_run.specs.AdditionForms.{addition_at}
-use Rattle.defs_run.specs.Arguments.{Argument, number, argument_in}
+use Rattle.defs_run.specs.Arguments.{Argument, number, caret, argument_in, operand_of, attribute_of, id_of}
 use Rattle.defs_run.specs.Carrying.{carried_out, rule_named}
-use Rattle.defs_run.specs.CommandForms.{number_order, tag_order, printing_order}
+use Rattle.defs_run.specs.CommandForms.{alone, number_order, tag_order, triple_order, printing_order}
 use Rattle.defs_run.specs.Commands.{first_run}
-use Rattle.defs_run.specs.FirstForm.{is_first_form}
 use Rattle.defs_run.specs.Inputs.{Carried, does, refuses, Spelled as Resolved, spelled, unless_unknown, first_unknown, is_top_level, is_reserved, unless_there, added, removed}
 use Rattle.defs_run.specs.Listing.{production_lines}
-use Rattle.defs_run.specs.Orders.{Operand, is_symbol, Order, load, add_wme, remove_wme, run_cycles, print_id, print_name, Refusal, not_built, no_element, no_production}
-use Rattle.defs_run.specs.Present.{Form, of_tokens, of_arguments, form_of, as_addition, built_print, judged, matches_order, or_not_built, read_by, read_order, read_present, present_stage}
+use Rattle.defs_run.specs.Orders.{Operand, Order, load, add_wme, remove_wme, run_cycles, matches, print_id, print_name, Refusal, not_built, no_element, no_production}
+use Rattle.defs_run.specs.PlainActions.{is_plain}
+use Rattle.defs_run.specs.Present.{Form, form_of, built_print, if_plain, judged, or_not_built, order_by, read_by, read_order, read_present, present_stage}
 use Rattle.defs_run.specs.Runs.{replied_by, ordered_by, obeyed}
 use Rattle.defs_run.specs.Sessions.{Session, goes_on, says, unknown_in}
 use Rattle.defs_run.specs.Stages.{Reading}
-use Rattle.defs_run.specs.WholeReading.{of_lexing, read_sp, read_tokens, read_tree, unless_faulty}
+use Rattle.defs_run.specs.WholeReading.{of_check, of_lexing, read_sp, read_tokens, read_tree, unless_faulty}
 
 -- ---- orders
 
@@ -98,8 +96,7 @@ IsPlainOrder (Some order) = IsPlain order
 IsPlainOrder None = Unit {0}
 
 abbrev IsPlainForm : Form → Type 0
-IsPlainForm (of_tokens f) = (words : Texts) (tokens : List Token) → IsPlainOrder (f words tokens)
-IsPlainForm (of_arguments f) = (words : Texts) (arguments : List Argument) → IsPlainOrder (f words arguments)
+IsPlainForm f = (words : Texts) (arguments : List Argument) → IsPlainOrder (f words arguments)
 
 abbrev ArePlain : Option Form → Type 0
 ArePlain (Some form) = IsPlainForm form
@@ -110,9 +107,18 @@ made_plain : {A : Type 0} (f : A → Order) (o : Option A) → ((x : A) → IsPl
 made_plain f (Some x) plain = plain x
 made_plain f None plain = tt
 
-matches_plain : (tokens : List Token) → IsPlainOrder (matches_order tokens)
+made_then_plain : {A : Type 0} (f : A → Option Order) (o : Option A) → ((x : A) → IsPlainOrder (f x)) → IsPlainOrder (option_and_then f o)
+made_then_plain f (Some x) plain = plain x
+made_then_plain f None plain = tt
+
+addition_plain : (words : Texts) (arguments : List Argument) → IsPlainOrder (triple_order words add_wme arguments)
+addition_plain words (i ∷ caret ∷ a ∷ v ∷ []) =
+    made_then_plain _ (id_of i) (λ id. made_then_plain _ (attribute_of words a) (λ attr. made_plain (add_wme id attr) (operand_of words v) (λ value. add_plain id attr value)))
+addition_plain words other = tt
+
+matches_plain : (arguments : List Argument) → IsPlainOrder (alone matches arguments)
 matches_plain [] = λ run s from place t. refl
-matches_plain (t ∷ tokens) = tt
+matches_plain (a ∷ arguments) = tt
 
 within_plain : (b : Bool) (n : ℕ) → IsPlainOrder (if b then Some (run_cycles n) else None)
 within_plain true n = run_plain n
@@ -127,7 +133,7 @@ tag_plain (number n ∷ []) = remove_plain n
 tag_plain other = tt
 
 built_plain : (order : Order) → IsPlainOrder (built_print order)
-built_plain (print_id (is_symbol s)) = print_plain (is_symbol s)
+built_plain (print_id id) = print_plain id
 built_plain (print_name name) = show_plain name
 built_plain other = tt
 
@@ -141,8 +147,8 @@ choice false x y this that = that
 
 forms_plain : (word : List ℕ) → ArePlain (form_of word)
 forms_plain word =
-    choice (bytes_eq word (codes "add-wme")) _ _ (λ words tokens. made_plain as_addition (addition_at words tokens) (λ a. add_plain (is_symbol (Ident 83 1)) (is_symbol a.attr) (is_symbol a.value)))
-    (choice (bytes_eq word (codes "matches")) _ _ (λ words tokens. matches_plain tokens)
+    choice (bytes_eq word (codes "add-wme")) _ _ addition_plain
+    (choice (bytes_eq word (codes "matches")) _ _ (λ words arguments. matches_plain arguments)
     (choice (bytes_eq word (codes "run")) _ _ (λ words arguments. number_plain arguments)
     (choice (bytes_eq word (codes "remove-wme")) _ _ (λ words arguments. tag_plain arguments)
     (choice (bytes_eq word (codes "print")) _ _ (λ words arguments. printed_plain (printing_order words arguments)) tt))))
@@ -168,20 +174,26 @@ unless_plain words l f plain = by l.fault
     by None = plain (words_after words l.tokens) l.tokens
 
 order_plain : (f : Form) (text : List ℕ) → IsPlainForm f → (words : Texts) (tokens : List Spelled) → IsPlainRead (read_order f text words tokens).order
-order_plain (of_tokens f) text plain words tokens = or_plain _ (plain words (drop 1 (map (numbered words) tokens)))
-order_plain (of_arguments f) text plain words tokens = or_plain _ (plain words (drop 1 (map (argument_in text) tokens)))
+order_plain f text plain words tokens = or_plain (order_by f words text tokens) (plain words (drop 1 (map (argument_in text) tokens)))
 
 by_plain : (words : Texts) (text : List ℕ) (o : Option Form) → ArePlain o → IsPlainRead (read_by words text o).order
 by_plain words text None plain = tt
 by_plain words text (Some f) plain = unless_plain words (lexed (uncommented text)) (read_order f text) (order_plain f text plain)
 
--- a production of the first form is loaded, and another refused
-judged_plain : (words : Texts) (p : ProductionOf) → IsPlainRead (judged words p)
-judged_plain words p = by (is_first_form p)
+-- a production is loaded or refused
+loads_plain : (p : ProductionOf) → IsPlainRead (if_plain p)
+loads_plain p = by (is_plain p)
   where
     by : (b : Bool) → IsPlainRead (if b then Ok (load p) else Err not_built)
     by true = λ run s from place t. refl
     by false = tt
+
+judged_plain : (words : Texts) (p : ProductionOf) → IsPlainRead (judged words p)
+judged_plain words p = by (ordered p)
+  where
+    by : (o : Result ProductionOf CheckFault) → IsPlainRead (elim o as (λ _. Result Order Refusal) [ Ok q ↦ if_plain q | Err why ↦ Err (of_check words p.vars why) ])
+    by (Ok q) = loads_plain q
+    by (Err why) = tt
 
 tree_plain : (words : Texts) (tokens : List Spelled) (o : Result Tree (Stop × ℕ)) → IsPlainRead (read_tree judged words tokens o).order
 tree_plain words tokens (Err stop) = tt

@@ -1,12 +1,10 @@
 -- What an agent keeps while commands read words and load productions.
-use Rattle.std.proofs.Common.{◌≡◌, ℕ, ◌+◌, ◌<◌, ◌≤◌, Bool, true, false, not, cond, List, [], ◌∷◌, ◌++◌, length, map, filter, ◌&&◌, refl, sym, subst, arith}
+use Rattle.std.proofs.Common.{◌≡◌, ℕ, ◌+◌, ◌<◌, ◌≤◌, Bool, true, false, not, cond, List, [], ◌∷◌, ◌++◌, length, map, filter, sym, subst, arith}
 use Rattle.soar_sym.specs.Words.{Texts, IsKnown}
 use Rattle.soar_sym.specs.declared.symbol.Sym.{Sym}
 use Rattle.soar_sym.specs.declared.symbol.Triple.{Triple}
 use Rattle.soar_rule.specs.Productions.{ProductionOf}
 use Rattle.soar_rule.specs.Symbols.{AreKnown, symbols_of}
-use Rattle.soar_rule.specs.declared.production.Kind.{Kind}
-use Rattle.soar_rule.specs.declared.production.Kind.TheVariants as kind
 use Rattle.soar_wm.specs.declared.element.Element.{Element}
 use Rattle.defs_match.specs.Rules.{RuleOf, rule_seen}
 use Rattle.defs_match.specs.declared.rule.Rule.{Rule}
@@ -14,13 +12,12 @@ use Rattle.defs_soar.specs.declared.preference.Preference.{Preference}
 use Rattle.defs_soar.specs.Dependencies.{symbols_of_wish}
 use Rattle.defs_soar.specs.Pending.{is_justification}
 use Rattle.defs_run.specs.Carrying.{is_named}
-use Rattle.defs_run.specs.FirstForm.{are_first_conditions, are_makes, condition_variables, is_first_form, is_unset, is_user, is_without}
 use Rattle.soar_cycle.specs.Firables.{IsBelowRules, AreNumbered}
 use Rattle.soar_cycle.specs.Known.{AreElementsKnown, AreRulesKnown, AreRowsKnown, AreTriplesKnown}
 use Rattle.soar_cycle.specs.Seen.{AreNoJustifications, AreUpTo, IsSound}
 use Rattle.soar_app.specs.Carries.{rules_with, with_table}
 use Rattle.soar_app.specs.declared.state.Session.{Session as SessionKept}
-use Rattle.soar_app.proofs.WordLemmas.{both_true, symbol_stays}
+use Rattle.soar_app.proofs.WordLemmas.{symbol_stays}
 
 -- ---- a table with more words
 
@@ -126,19 +123,6 @@ unlearned_last (first ∷ rules) rule none one = (none.0, unlearned_last rules r
 rules_last : (words : Texts) (rules : List RuleOf) (rule : RuleOf) → AreRulesKnown words rules → AreKnown words (symbols_of rule.production) → AreRulesKnown words (rules ++ rule ∷ [])
 rules_last words [] rule known one = (one, tt)
 rules_last words (first ∷ rules) rule known one = (known.0, rules_last words rules rule known.1 one)
-
--- a production of the first form is no justification
-user_unlearned : (k : Kind) → is_user k ≡ true → is_justification k ≡ false
-user_unlearned kind.User is = refl
-user_unlearned kind.Default is = absurd (cc)
-user_unlearned kind.Chunk is = absurd (cc)
-user_unlearned kind.Justification is = absurd (cc)
-
-pub form_unlearned : (p : ProductionOf) → is_first_form p ≡ true → is_justification p.kind ≡ false
-form_unlearned p is =
-    let flagless : (is_user p.kind && (is_unset p.support && (are_first_conditions p.conditions && are_makes (condition_variables p.conditions) p.actions))) ≡ true =
-    (both_true (is_without p.doc) _ is).1 in
-    user_unlearned p.kind (both_true (is_user p.kind) _ flagless).0
 
 -- the session with other rules, one more of which was given
 abbrev pub with_rules : List Rule → SessionKept → SessionKept

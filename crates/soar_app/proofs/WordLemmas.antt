@@ -1,5 +1,5 @@
 -- Words of tokens, and the table that they joined.
-use Rattle.std.proofs.Common.{◌≡◌, ℕ, zero, suc, ◌+◌, ◌<◌, ◌≤◌, ◌==◌, nat_lt, Bool, true, false, ◌||◌, ◌&&◌, List, [], ◌∷◌, ◌++◌, length, map, drop, Option, Some, None, length-append, refl, sym, ap, ◌∙◌, arith}
+use Rattle.std.proofs.Common.{◌≡◌, ℕ, suc, ◌+◌, ◌<◌, ◌≤◌, ◌==◌, nat_lt, Bool, true, false, ◌||◌, ◌&&◌, List, [], ◌∷◌, ◌++◌, length, map, Option, Some, None, length-append, refl, sym, ap, ◌∙◌, arith}
 use Rattle.std.proofs.lemmas.Bool.{eq-eqb}
 use Rattle.std.proofs.lemmas.Bool.Decides.{nat_tests}
 use Rattle.std.specs.Prelude.{unwrap_or, slice_get}
@@ -11,7 +11,6 @@ use Rattle.soar_sym.specs.declared.symbol.Sym.{Sym}
 use Rattle.soar_sym.specs.declared.symbol.Sym.TheVariants.{Ident, Word, Int}
 use Rattle.defs_text.specs.Lexing.{Saying, mark, arrow, open_set, close_set, sign, variable_named, integer, word_of, documentation, Spelled}
 use Rattle.defs_text.specs.Numbered.{word_in, kind_in, numbered, texts_before, token_texts, words_after}
-use Rattle.defs_text.specs.declared.token.Token.{Token}
 use Rattle.defs_read.specs.Sayings.{is_place, is_word_known, IsWordKnown, IsKindKnown, AreTokensKnown}
 use Rattle.soar_app.specs.Known.{IsSayingIn, AreSpelledIn}
 
@@ -108,10 +107,7 @@ pub both_true : (a b : Bool) → (a && b) ≡ true → (a ≡ true) × (b ≡ tr
 both_true true b is = (refl, is)
 both_true false b is = absurd (cc)
 
--- a word of a token is a word of the table, and the word of its own text
-pub known_word : (words : Texts) (word : ℕ) → IsWordKnown words (Word word) → word < length words
-known_word words word known = let within = (both_true (nat_lt word (length words)) (is_place words word) known).0 in grind (arith, nat_tests)
-
+-- a word of a token is the word of its own text
 pub word_of_text : (words : Texts) (word : ℕ) → IsWordKnown words (Word word) → word_in words (text_of words word) ≡ Word word
 word_of_text words word known = by (place_of words (text_of words word)) refl (both_true (nat_lt word (length words)) (is_place words word) known).1
   where
@@ -169,11 +165,6 @@ tokens_spelled words (t ∷ tokens) = (one_has words t.says (token_texts tokens)
 -- and their words are known
 pub tokens_known : (words : Texts) (tokens : List Spelled) → AreTokensKnown (words_after words tokens) (map (numbered (words_after words tokens)) tokens)
 tokens_known words tokens = all_known (words_after words tokens) tokens (tokens_spelled words tokens)
-
-pub known_behind : (words : Texts) (count : ℕ) (tokens : List Token) → AreTokensKnown words tokens → AreTokensKnown words (drop count tokens)
-known_behind words zero tokens known = known
-known_behind words (suc count) [] known = tt
-known_behind words (suc count) (t ∷ tokens) known = known_behind words count tokens known.1
 
 -- ---- symbols
 

@@ -1,11 +1,12 @@
 -- Tokens behind a command's word as arguments, whose texts are those of the table.
-use Rattle.std.specs.Prelude.{ℕ, Bool, true, false, List, [], ◌∷◌, drop, Option, Some, None}
+use Rattle.std.specs.Prelude.{ℕ, ◌≤◌, ◌^◌, ◌-◌, Bool, true, false, List, [], ◌∷◌, drop, Option, Some, None}
 use Rattle.soar_sym.specs.Words.{Texts, text_of}
 use Rattle.soar_sym.specs.declared.symbol.Sym.{Sym}
 use Rattle.soar_sym.specs.declared.symbol.Sym.TheVariants.{Word}
 use Rattle.defs_text.specs.declared.token.TokenKind.{TokenKind}
 use Rattle.defs_text.specs.declared.token.TokenKind.TheVariants as kind
 use Rattle.defs_text.specs.declared.token.Token.{Token}
+use Rattle.defs_read.specs.Sayings.{IsWordKnown}
 use Rattle.defs_run.specs.Arguments.{Argument, bare, barred, label, number, signed, caret, no_argument, as_integer, as_mark}
 use Rattle.soar_app.specs.declared.argument.Argument.{Argument as ArgumentRead}
 use Rattle.soar_app.specs.declared.argument.Argument.TheVariants as read
@@ -30,18 +31,32 @@ kind_argument words bytes other = no_argument
 abbrev pub argument_at : Texts → List ℕ → Token → Argument
 argument_at words text t = kind_argument words (drop t.start text) t.kind
 
--- the argument that the code read
-abbrev pub argument_seen : ArgumentRead → Argument
-argument_seen (read.Bare text) = bare text.now
-argument_seen (read.Barred text) = barred text.now
-argument_seen (read.Label name) = label name.now
-argument_seen (read.Number n) = number n
-argument_seen (read.Signed value) = signed value
-argument_seen read.Caret = caret
-argument_seen read.Other = no_argument
+-- ---- the arguments that the code read
 
--- the one that stands alone
-abbrev pub only : {A : Type 0} → List A → Option A
-only [] = None
-only (a ∷ []) = Some a
-only (a ∷ b ∷ others) = None
+abbrev pub argument_seen : Texts → ArgumentRead → Argument
+argument_seen words (read.Bare word) = bare (text_of words word)
+argument_seen words (read.Barred word) = barred (text_of words word)
+argument_seen words (read.Label name) = label (text_of words name)
+argument_seen words (read.Number n) = number n
+argument_seen words (read.Signed value) = signed value
+argument_seen words read.Caret = caret
+argument_seen words read.Other = no_argument
+
+-- its word is one of the table, and its number one that an integer has
+abbrev pub IsArgumentKnown : Texts → ArgumentRead → Type 0
+IsArgumentKnown words (read.Bare word) = IsWordKnown words (Word word)
+IsArgumentKnown words (read.Barred word) = IsWordKnown words (Word word)
+IsArgumentKnown words (read.Label name) = IsWordKnown words (Word name)
+IsArgumentKnown words (read.Number n) = n ≤ 2 ^ 63 - 1
+IsArgumentKnown words (read.Signed value) = Unit {0}
+IsArgumentKnown words read.Caret = Unit {0}
+IsArgumentKnown words read.Other = Unit {0}
+
+abbrev pub AreArgumentsKnown : Texts → List ArgumentRead → Type 0
+AreArgumentsKnown words [] = Unit {0}
+AreArgumentsKnown words (a ∷ arguments) = IsArgumentKnown words a × AreArgumentsKnown words arguments
+
+-- the identifier, the attribute and the value of `ID ^ATTR VALUE`
+abbrev pub triple_in : List ArgumentRead → Option (ArgumentRead × ArgumentRead × ArgumentRead)
+triple_in (id ∷ read.Caret ∷ attr ∷ value ∷ []) = Some (id, attr, value)
+triple_in other = None

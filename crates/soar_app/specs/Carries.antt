@@ -1,19 +1,16 @@
 -- What the session does for an order.
-use Rattle.std.specs.Prelude.{ℕ, ◌≤◌, nat_lt, Bool, true, not, List, [], ◌∷◌, ◌++◌, filter, Option, Some, None, Result, if◌then◌else◌, codes}
+use Rattle.std.specs.Prelude.{ℕ, ◌≤◌, nat_lt, Bool, true, not, List, [], ◌∷◌, ◌++◌, filter, Result, codes}
 use Rattle.soar_sym.specs.Letters.{last_of}
 use Rattle.soar_sym.specs.Words.{Texts}
 use Rattle.soar_sym.specs.declared.symbol.Sym.{Sym}
 use Rattle.soar_sym.specs.declared.symbol.Sym.TheVariants.{Ident, Word, Int}
-use Rattle.soar_sym.specs.declared.symbol.Triple.{Triple}
 use Rattle.soar_rule.specs.Productions.{ProductionOf}
 use Rattle.defs_match.specs.Rules.{RuleOf}
 use Rattle.defs_soar.specs.History.{Past}
-use Rattle.defs_soar.specs.Goals.{plain_triple}
 use Rattle.defs_run.specs.Carrying.{is_named}
 use Rattle.defs_run.specs.Inputs.{Carried}
 use Rattle.defs_run.specs.Runs.{replied_by}
 use Rattle.defs_run.specs.Sessions.{Session, Reply}
-use Rattle.defs_run.specs.declared.form.Addition.{Addition}
 use Rattle.soar_cycle.specs.declared.stop.Stop.{Stop}
 use Rattle.soar_app.specs.States.{session_of}
 use Rattle.soar_app.specs.Steps.{Obeys}
@@ -40,27 +37,16 @@ rules_without name rules = filter (λ rule. not (is_named name rule)) rules
 abbrev pub rules_with : List RuleOf → ℕ → ProductionOf → List RuleOf
 rules_with rules number production = rules_without production.name rules ++ record { number = number; production = production } ∷ []
 
--- ---- additions
-
-abbrev pub top : Sym
-top = Ident 83 1
-
-abbrev pub triple_added : Addition → Triple
-triple_added addition = plain_triple top addition.attr addition.value
+-- ---- identifiers
 
 -- an identifier's letter is one from A to Z
-abbrev pub IsLettered : Sym → Type 0
-IsLettered (Ident letter number) = (65 ≤ letter) × (letter ≤ 90)
-IsLettered (Word word) = Unit {0}
-IsLettered (Int value) = Unit {0}
+abbrev pub HasLetter : Sym → Type 0
+HasLetter (Ident letter number) = (65 ≤ letter) × (letter ≤ 90)
+HasLetter (Word word) = Unit {0}
+HasLetter (Int value) = Unit {0}
 
 -- whether an identifier was given, by the last numbers of the letters
 abbrev pub is_given_by : List ℕ → Sym → Bool
 is_given_by letters (Ident letter number) = not (nat_lt (last_of letters letter) number)
 is_given_by letters (Word word) = true
 is_given_by letters (Int value) = true
-
--- the first that was not
-abbrev pub first_not_given : List ℕ → List Sym → Option Sym
-first_not_given letters [] = None
-first_not_given letters (s ∷ symbols) = if is_given_by letters s then first_not_given letters symbols else Some s

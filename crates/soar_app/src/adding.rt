@@ -1,32 +1,34 @@
-// Adding an element of the top state.
-ghost use Rattle.std.specs.Prelude.{◌≡◌, ◌∷◌, ◌++◌, [], codes};
+// Adding an element to the inputs.
+ghost use Rattle.std.specs.Prelude.{◌≡◌, ◌∷◌, ◌++◌, [], true, None, List as ListOf, codes, IfOk};
 ghost use Rattle.soar_sym.specs.Words.{IsKnown};
+ghost use Rattle.soar_wm.specs.WorkingMemory.{tag_of};
+ghost use Rattle.defs_soar.specs.Goals.{plain_triple};
+ghost use Rattle.defs_soar.specs.History.{Past};
 ghost use Rattle.defs_run.specs.Carrying.{carried_out};
-ghost use Rattle.defs_run.specs.Inputs.{added, spelled, with_inputs};
-ghost use Rattle.defs_run.specs.Orders.{already_there, is_symbol};
-ghost use Rattle.defs_run.specs.Present.{as_addition, run_present};
+ghost use Rattle.defs_run.specs.Inputs.{added, first_unknown, spelled, with_inputs};
+ghost use Rattle.defs_run.specs.Orders.{already_there};
+ghost use Rattle.defs_run.specs.Present.{run_present};
 ghost use Rattle.defs_run.specs.Sessions.{refused_by};
 ghost use Rattle.soar_cycle.specs.Seen.{IsSound};
-ghost use Rattle.soar_app.specs.Carries.{Carries, IsLettered, Replies, first_not_given, is_given_by, top, triple_added};
+ghost use Rattle.soar_app.specs.Adding.{adds_by, adds_labelled, adds_to, adds_triple, makes_labelled};
+ghost use Rattle.soar_app.specs.Asked.{addition_seen, operand_seen};
+ghost use Rattle.soar_app.specs.Carries.{Carries, Replies};
+ghost use Rattle.soar_app.specs.Known.{IsAdditionKnown, IsOperandKnown, IsTripleKnown};
+ghost use Rattle.soar_app.specs.Labels.{next_identifier};
+ghost use Rattle.soar_app.specs.States.{session_of};
 
+use crate::elements::tag_of_numbered;
 use crate::inputs::with_triple;
+use crate::labels::{label_in, letter_from};
+use crate::reserved::is_operator_slot;
 use crate::state::Session;
-use defs_run::Addition;
+use defs_run::{Addition, Operand};
 use soar_cycle::Stop;
-use soar_sym::{Letters, Sym, Text, Triple, is_symbol};
+use soar_sym::{NoMemory, Sym, Text, Triple};
 use std::alloc::Global;
 
-/// The identifier of the top state.
-const TOP: Sym = Sym::Ident {
-    letter: b'S',
-    number: 1,
-};
-
-/// The word `operator`, the eighth of the architecture's.
-const OPERATOR: Sym = Sym::Word(7);
-
 impl Session {
-    /// Adds an element of the top state to the inputs.
+    /// Adds an element to the inputs.
     pub fn add(
         &mut self,
         alloc: Global,
@@ -35,17 +37,16 @@ impl Session {
         out: &mut Text,
     ) -> Result<bool, Stop>
         requires sound { IsSound self.old.agent }
-        requires attr { IsKnown self.old.agent.table addition.attr }
-        requires value { IsKnown self.old.agent.table addition.value }
-        ensures { Carries self.old self.new line (carried_out run_present (as_addition addition)) out.old out.new result }
+        requires known { IsAdditionKnown self.old.agent.table addition }
+        ensures { Carries self.old self.new line (carried_out run_present (addition_seen addition)) out.old out.new result }
     {
-        match first_not_given(&self.agent.letters, addition) {
-            Some(symbol) => self.refuse_identifier(alloc, line, symbol, out),
+        match self.first_unknown(alloc, &addition)? {
+            Some(text) => self.refuse_identifier(alloc, line, text.as_str(), out),
             None => self.add_given(alloc, line, addition, out),
         }
     }
 
-    /// Adds an element whose identifiers were given.
+    /// Adds an element whose identifiers there are, the first of them reached. Neither that nor the attribute makes a label.
     fn add_given(
         &mut self,
         alloc: Global,
@@ -54,17 +55,152 @@ impl Session {
         out: &mut Text,
     ) -> Result<bool, Stop>
         requires sound { IsSound self.old.agent }
-        requires attr { IsKnown self.old.agent.table addition.attr }
-        requires value { IsKnown self.old.agent.table addition.value }
-        ensures { Carries self.old self.new line (λ s. added (spelled s (is_symbol top) (is_symbol addition.attr) (is_symbol addition.value))) out.old out.new result }
+        requires known { IsAdditionKnown self.old.agent.table addition }
+        requires given { (history : ListOf Past) →
+            first_unknown true (session_of self.old history) (operand_seen addition.id) (operand_seen addition.attr) (operand_seen addition.value) ≡ None }
+        ensures { Carries self.old self.new line (λ s. added (spelled s (operand_seen addition.id) (operand_seen addition.attr) (operand_seen addition.value))) out.old out.new result }
     {
-        if is_symbol(addition.attr, OPERATOR) {
-            return self.refuse(alloc, line, 36, "reserved attribute", out);
+        let id = self.resolve(addition.id)?;
+        let attr = self.resolve(addition.attr)?;
+        self.add_to(alloc, line, id, attr, addition.value, out)
+    }
+
+    /// Adds an element to an identifier of the top level, unless its attribute is reserved.
+    fn add_to(
+        &mut self,
+        alloc: Global,
+        line: u64,
+        id: Sym,
+        attr: Sym,
+        value: Operand,
+        out: &mut Text,
+    ) -> Result<bool, Stop>
+        requires sound { IsSound self.old.agent }
+        requires id { IsKnown self.old.agent.table id }
+        requires attr { IsKnown self.old.agent.table attr }
+        requires value { IsOperandKnown self.old.agent.table value }
+        ensures { Carries self.old self.new line (adds_to id attr (operand_seen value)) out.old out.new result }
+    {
+        if is_operator_slot(self.agent.goals.as_slice(), id, attr) {
+            self.refuse(alloc, line, 36, "reserved attribute", out)
+        } else {
+            self.add_unreserved(alloc, line, id, attr, value, out)
         }
-        match self.agent.memory.find(triple_of(addition)) {
+    }
+
+    /// Adds an element whose attribute is not reserved.
+    fn add_unreserved(
+        &mut self,
+        alloc: Global,
+        line: u64,
+        id: Sym,
+        attr: Sym,
+        value: Operand,
+        out: &mut Text,
+    ) -> Result<bool, Stop>
+        requires sound { IsSound self.old.agent }
+        requires id { IsKnown self.old.agent.table id }
+        requires attr { IsKnown self.old.agent.table attr }
+        requires value { IsOperandKnown self.old.agent.table value }
+        ensures { Carries self.old self.new line (adds_by id attr (operand_seen value)) out.old out.new result }
+    {
+        match value {
+            Operand::Symbol(value) => self.add_value(alloc, line, id, attr, value, out),
+            Operand::Label(name) => match label_in(self.labels.as_slice(), name.as_str()) {
+                Some(value) => self.add_value(alloc, line, id, attr, value, out),
+                None => self.add_labelled(alloc, line, id, attr, name, out),
+            },
+        }
+    }
+
+    /// Adds an element of symbols, unless it is there.
+    fn add_value(
+        &mut self,
+        alloc: Global,
+        line: u64,
+        id: Sym,
+        attr: Sym,
+        value: Sym,
+        out: &mut Text,
+    ) -> Result<bool, Stop>
+        requires sound { IsSound self.old.agent }
+        requires id { IsKnown self.old.agent.table id }
+        requires attr { IsKnown self.old.agent.table attr }
+        requires value { IsKnown self.old.agent.table value }
+        ensures { Carries self.old self.new line (adds_triple (plain_triple id attr value)) out.old out.new result }
+    {
+        let triple = plain_triple(id, attr, value);
+        match self.agent.memory.find(triple) {
             Some(tag) => self.refuse_twice(alloc, line, tag, out),
-            None => self.add_new(alloc, addition, out),
+            None => self.add_new(alloc, triple, out),
         }
+    }
+
+    /// Adds an element whose value is a label that is used for the first time, unless it is there.
+    fn add_labelled(
+        &mut self,
+        alloc: Global,
+        line: u64,
+        id: Sym,
+        attr: Sym,
+        name: Text,
+        out: &mut Text,
+    ) -> Result<bool, Stop>
+        requires sound { IsSound self.old.agent }
+        requires id { IsKnown self.old.agent.table id }
+        requires attr { IsKnown self.old.agent.table attr }
+        ensures { Carries self.old self.new line (adds_labelled id attr name) out.old out.new result }
+    {
+        match self.tag_of_next(alloc, id, attr, name.as_str())? {
+            Some(tag) => self.refuse_twice(alloc, line, tag, out),
+            None => self.add_made(alloc, id, attr, name, out),
+        }
+    }
+
+    /// The tag of the element whose value is the next identifier of a label.
+    fn tag_of_next(
+        &self,
+        alloc: Global,
+        id: Sym,
+        attr: Sym,
+        name: &str,
+    ) -> Result<Option<u32>, NoMemory>
+        ensures { IfOk result (λ tag. tag ≡ tag_of (plain_triple id attr (next_identifier self.now.agent.letters name.now)) self.now.agent.memory.elements) }
+    {
+        let letter = letter_from(name.as_bytes());
+        let number = u64::from(self.agent.letters.last(letter)) + 1;
+        let elements = self.agent.memory.all(alloc)?;
+        Ok(tag_of_numbered(elements.as_slice(), id, attr, letter, number))
+    }
+
+    /// Adds an element that is not there, and makes the label that is its value.
+    fn add_made(
+        &mut self,
+        alloc: Global,
+        id: Sym,
+        attr: Sym,
+        name: Text,
+        out: &Text,
+    ) -> Result<bool, Stop>
+        requires sound { IsSound self.old.agent }
+        requires id { IsKnown self.old.agent.table id }
+        requires attr { IsKnown self.old.agent.table attr }
+        ensures { Replies self.old self.new (makes_labelled id attr name) out.now out.now result }
+    {
+        match self.make_label(name) {
+            Ok(value) => self.add_new(alloc, plain_triple(id, attr, value), out),
+            Err(stop) => Err(stop),
+        }
+    }
+
+    /// Adds a triple that is not there.
+    fn add_new(&mut self, alloc: Global, triple: Triple, out: &Text) -> Result<bool, Stop>
+        requires sound { IsSound self.old.agent }
+        requires known { IsTripleKnown self.old.agent.table triple }
+        ensures { Replies self.old self.new (with_inputs (self.old.agent.inputs ++ triple ∷ [])) out.now out.now result }
+    {
+        let inputs = with_triple(alloc, self.agent.inputs.as_slice(), triple)?;
+        self.change_inputs(alloc, inputs, out)
     }
 
     /// Refuses a triple that working memory has.
@@ -81,54 +217,15 @@ impl Session {
         let reason = format!(in alloc; "already there as {tag}")?;
         self.refuse(alloc, line, 35, reason.as_str(), out)
     }
-
-    /// Adds an element that is not there.
-    fn add_new(&mut self, alloc: Global, addition: Addition, out: &Text) -> Result<bool, Stop>
-        requires sound { IsSound self.old.agent }
-        requires attr { IsKnown self.old.agent.table addition.attr }
-        requires value { IsKnown self.old.agent.table addition.value }
-        ensures { Replies self.old self.new (with_inputs (self.old.agent.inputs ++ triple_added addition ∷ [])) out.now out.now result }
-    {
-        let inputs = with_triple(alloc, self.agent.inputs.as_slice(), triple_of(addition))?;
-        self.change_inputs(alloc, inputs, out)
-    }
 }
 
-fn triple_of(addition: Addition) -> Triple
-    ensures { result ≡ triple_added addition }
+fn plain_triple(id: Sym, attr: Sym, value: Sym) -> Triple
+    ensures { result ≡ plain_triple id attr value }
 {
     Triple {
-        id: TOP,
-        attr: addition.attr,
-        value: addition.value,
+        id,
+        attr,
+        value,
         accept: false,
-    }
-}
-
-/// The first identifier of the element that was not given yet.
-fn first_not_given(letters: &Letters, addition: Addition) -> Option<Sym>
-    requires attr { IsLettered addition.attr }
-    requires value { IsLettered addition.value }
-    ensures { result ≡ first_not_given letters.now (top ∷ addition.attr ∷ addition.value ∷ []) }
-{
-    if !is_given(letters, TOP) {
-        Some(TOP)
-    } else if !is_given(letters, addition.attr) {
-        Some(addition.attr)
-    } else if !is_given(letters, addition.value) {
-        Some(addition.value)
-    } else {
-        None
-    }
-}
-
-/// Whether an identifier was given. Words and integers always are.
-pub fn is_given(letters: &Letters, symbol: Sym) -> bool
-    requires { IsLettered symbol }
-    ensures { result ≡ is_given_by letters.now symbol }
-{
-    match symbol {
-        Sym::Ident { letter, number } => number <= letters.last(letter),
-        _ => true,
     }
 }

@@ -1,68 +1,94 @@
-// Tokens behind a command's word.
-ghost use Rattle.std.specs.Prelude.{◌≡◌, ◌≤◌, ◌-◌, ◌||◌, drop, if◌then◌else◌, Some, None, IfSome};
-ghost use Rattle.soar_sym.specs.Words.{IsKnown};
-ghost use Rattle.defs_text.specs.Bytes.{is_capital, is_small};
+// Tokens behind a command's word, as arguments.
+ghost use Rattle.std.specs.Prelude.{◌≡◌, ◌-◌, drop, map, IfOk};
+ghost use Rattle.soar_sym.specs.Words.{Texts};
+ghost use Rattle.defs_read.specs.Sayings.{AreTokensKnown, IsKindKnown, IsWordKnown};
+ghost use Rattle.defs_run.specs.Arguments.{as_integer, as_mark};
 ghost use Rattle.defs_text.specs.Runs.{begins_digit};
-ghost use Rattle.defs_text.specs.Symbols.{is_identifier_form};
-ghost use Rattle.defs_run.specs.Arguments.{as_integer, as_mark, identifier_of, is_small_form};
-ghost use Rattle.soar_app.specs.Behind.{argument_at, argument_seen, label_argument, word_argument};
-ghost use Rattle.defs_read.specs.Sayings.{IsKindKnown};
+ghost use Rattle.soar_app.specs.Behind.{AreArgumentsKnown, IsArgumentKnown, argument_at, argument_seen, label_argument, word_argument};
 
 use defs_text::{Token, TokenKind};
-use soar_lex::{capital, digit};
-use soar_show::identifier_number;
-use soar_sym::{Sym, SymTable};
+use soar_lex::digit;
+use soar_sym::{List, NoMemory, Sym};
+use std::alloc::Global;
 
-/// A token behind a command's word: a word, a variable, an integer without or with a sign, `^`, or some other.
-#[derive(Clone, Copy)]
-pub enum Argument<'a> {
-    Bare(&'a str),
-    Barred(&'a str),
-    Label(&'a str),
+/// A token behind a command's word: a word or the name of a variable, by its place in the table of words, an integer
+/// without or with a sign, `^`, or some other.
+#[derive(Clone, Copy, Debug, PartialEq, Eq)]
+pub enum Argument {
+    Bare(u32),
+    Barred(u32),
+    Label(u32),
     Number(u64),
     Signed(i64),
     Caret,
     Other,
 }
 
-/// What a token says as an argument. The text is that which it was cut from.
-pub fn argument_at<'a>(table: &'a SymTable, text: &[u8], token: &Token) -> Argument<'a>
-    requires { IsKindKnown table.now token.now.kind }
-    ensures { argument_seen result ≡ argument_at table.now text.now token.now }
+/// The arguments behind the first token. The text is that which the tokens were cut from.
+pub fn arguments_behind(
+    alloc: Global,
+    text: &[u8],
+    tokens: &[Token],
+) -> Result<List<Argument>, NoMemory>
+    ensures arguments { IfOk result (λ arguments. (words : Texts) → map (argument_seen words) arguments ≡ map (argument_at words text.now) (drop 1 tokens.now)) }
+    ensures known { IfOk result (λ arguments. (words : Texts) → AreTokensKnown words tokens.now → AreArgumentsKnown words arguments) }
+{
+    match tokens.split_first() {
+        Some((_, behind)) => arguments_of(alloc, text, behind),
+        None => Ok(List::new(alloc)),
+    }
+}
+
+fn arguments_of(alloc: Global, text: &[u8], tokens: &[Token]) -> Result<List<Argument>, NoMemory>
+    ensures arguments { IfOk result (λ arguments. (words : Texts) → map (argument_seen words) arguments ≡ map (argument_at words text.now) tokens.now) }
+    ensures known { IfOk result (λ arguments. (words : Texts) → AreTokensKnown words tokens.now → AreArgumentsKnown words arguments) }
+{
+    let mut arguments = List::new(alloc);
+    'tokens: for token in tokens {
+        arguments.push(argument_at(text, token))?;
+    }
+    Ok(arguments)
+}
+
+/// What a token says as an argument.
+fn argument_at(text: &[u8], token: &Token) -> Argument
+    ensures argument { (words : Texts) → argument_seen words result ≡ argument_at words text.now token.now }
+    ensures known { (words : Texts) → IsKindKnown words token.now.kind → IsArgumentKnown words result }
 {
     match &token.kind {
-        TokenKind::Word(word, bare) => word_argument(table, *word, *bare),
-        TokenKind::Var(name) => label_argument(table, *name),
+        TokenKind::Word(word, bare) => word_argument(*word, *bare),
+        TokenKind::Var(name) => label_argument(*name),
         TokenKind::Int(value) => integer_argument(from_place(text, token.start), *value),
         TokenKind::Mark(mark) => mark_argument(*mark),
         _ => Argument::Other,
     }
 }
 
-fn word_argument(table: &SymTable, word: Sym, bare: bool) -> Argument<'_>
-    requires { IsKnown table.now word }
-    ensures { argument_seen result ≡ word_argument table.now word bare }
+fn word_argument(word: Sym, bare: bool) -> Argument
+    ensures argument { (words : Texts) → argument_seen words result ≡ word_argument words word bare }
+    ensures known { (words : Texts) → IsWordKnown words word → IsArgumentKnown words result }
 {
     match word {
-        Sym::Word(word) if bare => Argument::Bare(table.text(word)),
-        Sym::Word(word) => Argument::Barred(table.text(word)),
+        Sym::Word(word) if bare => Argument::Bare(word),
+        Sym::Word(word) => Argument::Barred(word),
         _ => Argument::Other,
     }
 }
 
-fn label_argument(table: &SymTable, name: Sym) -> Argument<'_>
-    requires { IsKnown table.now name }
-    ensures { argument_seen result ≡ label_argument table.now name }
+fn label_argument(name: Sym) -> Argument
+    ensures argument { (words : Texts) → argument_seen words result ≡ label_argument words name }
+    ensures known { (words : Texts) → IsWordKnown words name → IsArgumentKnown words result }
 {
     match name {
-        Sym::Word(word) => Argument::Label(table.text(word)),
+        Sym::Word(word) => Argument::Label(word),
         _ => Argument::Other,
     }
 }
 
 /// A number is an integer whose first byte is a digit, so that it has no sign.
-fn integer_argument(text: &[u8], value: i64) -> Argument<'static>
-    ensures { argument_seen result ≡ as_integer text.now value }
+fn integer_argument(text: &[u8], value: i64) -> Argument
+    ensures argument { (words : Texts) → argument_seen words result ≡ as_integer text.now value }
+    ensures known { (words : Texts) → IsArgumentKnown words result }
 {
     if begins_digit(text) && value >= 0 {
         Argument::Number(value as u64)
@@ -71,8 +97,9 @@ fn integer_argument(text: &[u8], value: i64) -> Argument<'static>
     }
 }
 
-fn mark_argument(mark: u8) -> Argument<'static>
-    ensures { argument_seen result ≡ as_mark mark }
+fn mark_argument(mark: u8) -> Argument
+    ensures argument { (words : Texts) → argument_seen words result ≡ as_mark mark }
+    ensures known { (words : Texts) → IsArgumentKnown words result }
 {
     if mark == b'^' {
         Argument::Caret
@@ -96,35 +123,4 @@ fn begins_digit(text: &[u8]) -> bool
         Some(byte) => digit(*byte),
         None => false,
     }
-}
-
-/// The identifier of a text of its form, as `S1`, or of the same with a small letter.
-pub fn identifier_of(text: &[u8]) -> Option<Sym>
-    ensures { result ≡ (if is_identifier_form text.now || is_small_form text.now then Some (identifier_of text.now) else None) }
-{
-    let (letter, digits) = text.split_first()?;
-    let letter = capital_of(*letter)?;
-    let number = identifier_number(digits)?;
-    Some(Sym::Ident { letter, number })
-}
-
-/// A letter as a capital.
-fn capital_of(letter: u8) -> Option<u8>
-    ensures capital { result ≡ (if is_capital letter || is_small letter then Some (if is_small letter then letter - 32 else letter) else None) }
-    ensures range { IfSome result (λ capital. (65 ≤ capital) × (capital ≤ 90)) }
-{
-    if is_small(letter) {
-        Some(letter - 32)
-    } else if capital(letter) {
-        Some(letter)
-    } else {
-        None
-    }
-}
-
-/// `a` to `z`.
-fn is_small(letter: u8) -> bool
-    ensures { result ≡ is_small letter }
-{
-    b'a' <= letter && letter <= b'z'
 }

@@ -1,20 +1,23 @@
 // Commands that look at the agent.
 ghost use Rattle.std.specs.Prelude.{◌≡◌, map, option_map};
 ghost use Rattle.soar_sym.specs.Words.{IsKnown};
+ghost use Rattle.soar_wm.specs.WorkingMemory.{elements_of};
 ghost use Rattle.defs_match.specs.Rules.{rule_seen};
 ghost use Rattle.defs_run.specs.Carrying.{carried_out, lists_elements, rule_named};
-ghost use Rattle.defs_run.specs.Listing.{conflict_lines};
-ghost use Rattle.defs_run.specs.Orders.{is_symbol, print_id, print_name};
+ghost use Rattle.defs_run.specs.Listing.{conflict_lines, element_lines};
+ghost use Rattle.defs_run.specs.Orders.{print_id, print_name};
 ghost use Rattle.defs_run.specs.Present.{run_present};
 ghost use Rattle.defs_run.specs.Sessions.{says};
 ghost use Rattle.soar_cycle.specs.Seen.{IsSound};
+ghost use Rattle.soar_app.specs.Asked.{operand_seen};
 ghost use Rattle.soar_app.specs.Carries.{Carries, Replies};
+ghost use Rattle.soar_app.specs.Known.{IsOperandKnown};
 
-use crate::adding::is_given;
 use crate::loading::is_named;
 use crate::said::{say_elements, say_matches, say_production};
 use crate::state::Session;
 use defs_match::Rule;
+use defs_run::Operand;
 use match_direct::conflict;
 use soar_cycle::Stop;
 use soar_sym::{Sym, Text};
@@ -39,28 +42,38 @@ impl Session {
         Ok(false)
     }
 
-    /// Says the elements of an identifier.
+    /// Says the elements of an identifier. A label that is used for the first time becomes a new one.
     pub fn list_elements(
         &mut self,
         alloc: Global,
         line: u64,
-        id: Sym,
+        id: Operand,
         out: &mut Text,
     ) -> Result<bool, Stop>
         requires sound { IsSound self.old.agent }
-        requires known { IsKnown self.old.agent.table id }
-        ensures { Carries self.old self.new line (carried_out run_present (print_id (is_symbol id))) out.old out.new result }
+        requires known { IsOperandKnown self.old.agent.table id }
+        ensures { Carries self.old self.new line (carried_out run_present (print_id (operand_seen id))) out.old out.new result }
     {
-        if is_given(&self.agent.letters, id) {
-            self.list_given(alloc, id, out)
-        } else {
-            self.refuse_identifier(alloc, line, id, out)
+        match self.unknown_in(alloc, &id)? {
+            Some(text) => self.refuse_identifier(alloc, line, text.as_str(), out),
+            None => self.list_given(alloc, id, out),
         }
     }
 
-    fn list_given(&mut self, alloc: Global, id: Sym, out: &mut Text) -> Result<bool, Stop>
+    fn list_given(&mut self, alloc: Global, id: Operand, out: &mut Text) -> Result<bool, Stop>
+        requires sound { IsSound self.old.agent }
+        requires known { IsOperandKnown self.old.agent.table id }
+        ensures { Replies self.old self.new (λ s. lists_elements s (operand_seen id)) out.old out.new result }
+    {
+        match self.resolve(id) {
+            Ok(symbol) => self.list_symbol(alloc, symbol, out),
+            Err(stop) => Err(stop),
+        }
+    }
+
+    fn list_symbol(&mut self, alloc: Global, id: Sym, out: &mut Text) -> Result<bool, Stop>
         requires { IsSound self.old.agent }
-        ensures { Replies self.old self.new (λ s. lists_elements s (is_symbol id)) out.old out.new result }
+        ensures { Replies self.old self.new (λ s. says s (element_lines s.agent.names.words (elements_of id s.agent.holding.elements))) out.old out.new result }
     {
         let elements = self.agent.memory.of_id(alloc, id)?;
         say_elements(

@@ -1,26 +1,50 @@
 // Loading a production.
-ghost use Rattle.std.specs.Prelude.{◌≡◌, ◌++◌, ◌∷◌, [], true, filter, map, not, suc, OnOk, OnErr};
+ghost use Rattle.std.specs.Prelude.{◌≡◌, ◌++◌, ◌∷◌, [], codes, false, filter, map, not, suc, OnOk, OnErr};
 ghost use Rattle.soar_rule.specs.Productions.{production_seen};
 ghost use Rattle.soar_rule.specs.Symbols.{AreKnown, symbols_of};
 ghost use Rattle.defs_match.specs.Rules.{rule_seen};
 ghost use Rattle.defs_run.specs.Carrying.{is_named, loaded};
-ghost use Rattle.defs_run.specs.FirstForm.{is_first_form};
+ghost use Rattle.defs_run.specs.Present.{if_plain, present_stage};
+ghost use Rattle.defs_run.specs.Runs.{ordered_by};
+ghost use Rattle.defs_soar.specs.Pending.{is_justification};
 ghost use Rattle.soar_cycle.specs.Seen.{IsSound};
 ghost use Rattle.soar_app.specs.Carries.{Replies, rules_without, rules_with};
 
+use crate::plain::is_plain;
 use crate::state::Session;
 use defs_match::Rule;
 use defs_soar::Which;
 use soar_cycle::Stop;
 use soar_rule::Production;
 use soar_sym::{List, NoMemory, Sym, Text, is_symbol};
+use std::alloc::Global;
 
 impl Session {
-    /// Loads a production under the next rule number, in the place of that of its name.
-    pub fn load(&mut self, production: Production, out: &Text) -> Result<bool, Stop>
+    /// Loads a production that was checked, where its actions are built.
+    pub fn load_plain(
+        &mut self,
+        alloc: Global,
+        line: u64,
+        production: Production,
+        out: &mut Text,
+    ) -> Result<bool, Stop>
         requires sound { IsSound self.old.agent }
         requires known { AreKnown self.old.agent.table (symbols_of (production_seen production)) }
-        requires form { is_first_form (production_seen production) ≡ true }
+        requires unlearned { is_justification production.kind ≡ false }
+        ensures { Replies self.old self.new (λ s. ordered_by present_stage (codes "-") line s (if_plain (production_seen production))) out.old out.new result }
+    {
+        if is_plain(&production) {
+            self.load(production, out)
+        } else {
+            self.refuse(alloc, line, 18, "not built", out)
+        }
+    }
+
+    /// Loads a production under the next rule number, in the place of that of its name.
+    fn load(&mut self, production: Production, out: &Text) -> Result<bool, Stop>
+        requires sound { IsSound self.old.agent }
+        requires known { AreKnown self.old.agent.table (symbols_of (production_seen production)) }
+        requires unlearned { is_justification production.kind ≡ false }
         ensures { Replies self.old self.new (loaded (production_seen production)) out.now out.now result }
     {
         let _ = out;

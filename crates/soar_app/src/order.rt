@@ -1,25 +1,23 @@
 // What the tokens of a command ask for.
-ghost use Rattle.std.specs.Prelude.{◌≡◌, ℕ, ◌≤◌, ◌^◌, [], ◌∷◌, List as ListOf, length, map, option_map, IfOk};
+ghost use Rattle.std.specs.Prelude.{◌≡◌, [], ◌∷◌, List as ListOf, map, option_map, IfOk, IfSome};
 ghost use Rattle.std.specs.Str.{bytes_eq};
 ghost use Rattle.soar_sym.specs.Words.{text_of};
 ghost use Rattle.defs_text.specs.Lexing.{Spelled};
 ghost use Rattle.defs_text.specs.Numbered.{numbered};
-ghost use Rattle.defs_read.specs.Sayings.{AreTokensKnown, IsKindKnown, IsWordKnown};
-ghost use Rattle.defs_run.specs.AdditionForms.{addition_at};
-ghost use Rattle.defs_run.specs.Arguments.{bare};
-ghost use Rattle.defs_run.specs.CommandForms.{number_order, tag_order};
-ghost use Rattle.defs_run.specs.Orders.{run_cycles};
-ghost use Rattle.defs_run.specs.Present.{as_addition, form_of, matches_order, order_by, print_order};
-ghost use Rattle.soar_app.specs.Asked.{form_seen, is_listing, order_at, order_seen};
-ghost use Rattle.soar_app.specs.Behind.{argument_at, argument_seen, kind_argument, only};
-ghost use Rattle.soar_app.specs.Known.{AreSpelledIn, IsOrderRead};
+ghost use Rattle.defs_read.specs.Sayings.{AreTokensKnown, IsWordKnown};
+ghost use Rattle.defs_run.specs.Arguments.{bare, caret};
+ghost use Rattle.defs_run.specs.CommandForms.{alone, number_order, tag_order, triple_order};
+ghost use Rattle.defs_run.specs.Orders.{add_wme, matches, run_cycles};
+ghost use Rattle.defs_run.specs.Present.{form_of, order_by, print_order};
+ghost use Rattle.soar_app.specs.Asked.{addition_seen, form_seen, is_listing, order_seen};
+ghost use Rattle.soar_app.specs.Behind.{AreArgumentsKnown, IsArgumentKnown, argument_seen, triple_in};
+ghost use Rattle.soar_app.specs.Known.{AreSpelledIn, IsAdditionKnown, IsOrderRead};
 
-use crate::addition::addition_at;
-use crate::argument::{Argument, argument_at, identifier_of};
-use crate::token::behind;
-use defs_run::Order;
-use defs_text::{Token, TokenKind};
-use soar_sym::{NoMemory, Sym, SymTable};
+use crate::argument::{Argument, arguments_behind};
+use crate::operand::{attribute_of, id_of, identifier_of, label_of, operand_of};
+use defs_run::{Addition, Operand, Order};
+use defs_text::Token;
+use soar_sym::{List, NoMemory, Sym, SymTable};
 use std::alloc::Global;
 
 /// The most cycles of one command.
@@ -62,7 +60,6 @@ pub fn is_word(word: &[u8], name: &[u8]) -> bool
 }
 
 /// The order of the tokens of a command, the first of which is its word. The text is that which they were cut from.
-#[tactic(auto, using(crate::proofs::OrderLemmas::order_behind, crate::proofs::WordLemmas::known_behind))]
 pub fn order_by(
     alloc: Global,
     table: &SymTable,
@@ -70,105 +67,151 @@ pub fn order_by(
     text: &[u8],
     tokens: &[Token],
 ) -> Result<Option<Order>, NoMemory>
-    requires known { AreTokensKnown table.now tokens.now }
-    requires few { length tokens.now ≤ 2 ^ 27 }
+    requires { AreTokensKnown table.now tokens.now }
     ensures order { IfOk result (λ order. (spelled : ListOf Spelled) → tokens.now ≡ map (numbered table.now) spelled → AreSpelledIn table.now spelled
         → option_map order_seen order ≡ order_by (form_seen form) table.now text.now spelled) }
     ensures read { IfOk result (λ order. IsOrderRead table.now order) }
 {
-    order_at(alloc, table, form, text, behind(tokens, 1))
+    let arguments = arguments_behind(alloc, text, tokens)?;
+    order_of(alloc, table, form, arguments.as_slice())
 }
 
-/// The order of the tokens behind a command's word.
-fn order_at(
+/// The order of the arguments behind a command's word.
+fn order_of(
     alloc: Global,
     table: &SymTable,
     form: Form,
-    text: &[u8],
-    tokens: &[Token],
+    arguments: &[Argument],
 ) -> Result<Option<Order>, NoMemory>
-    requires known { AreTokensKnown table.now tokens.now }
-    requires few { length tokens.now ≤ 2 ^ 27 }
-    ensures order { IfOk result (λ order. option_map order_seen order ≡ order_at (form_seen form) table.now text.now tokens.now) }
+    requires { AreArgumentsKnown table.now arguments.now }
+    ensures order { IfOk result (λ order. option_map order_seen order ≡ form_seen form table.now (map (argument_seen table.now) arguments.now)) }
     ensures read { IfOk result (λ order. IsOrderRead table.now order) }
 {
     match form {
-        Form::Add => Ok(addition_of(table, tokens)),
-        Form::Matches => Ok(matches_of(tokens)),
-        Form::Run => Ok(run_of(table, text, tokens)),
-        Form::Remove => Ok(removal_of(table, text, tokens)),
-        Form::Print => Ok(print_of(table, tokens)),
+        Form::Add => addition_order(alloc, table, arguments),
+        Form::Matches => Ok(matches_order(table, arguments)),
+        Form::Run => Ok(run_order(table, arguments)),
+        Form::Remove => Ok(removal_order(table, arguments)),
+        Form::Print => print_order(alloc, table, arguments),
     }
 }
 
-fn addition_of(table: &SymTable, tokens: &[Token]) -> Option<Order>
-    requires { AreTokensKnown table.now tokens.now }
-    ensures order { option_map order_seen result ≡ option_map as_addition (addition_at table.now tokens.now) }
+fn addition_order(
+    alloc: Global,
+    table: &SymTable,
+    arguments: &[Argument],
+) -> Result<Option<Order>, NoMemory>
+    requires { AreArgumentsKnown table.now arguments.now }
+    ensures order { IfOk result (λ order. option_map order_seen order ≡ triple_order table.now add_wme (map (argument_seen table.now) arguments.now)) }
+    ensures read { IfOk result (λ order. IsOrderRead table.now order) }
+{
+    match triple_in(arguments) {
+        Some((id, attr, value)) => addition_of(alloc, table, id, attr, value),
+        None => Ok(None),
+    }
+}
+
+/// The identifier, the attribute and the value of `ID ^ATTR VALUE`.
+fn triple_in(arguments: &[Argument]) -> Option<(Argument, Argument, Argument)>
+    ensures { result ≡ triple_in arguments.now }
+{
+    match arguments {
+        [id, Argument::Caret, attr, value] => Some((*id, *attr, *value)),
+        _ => None,
+    }
+}
+
+/// The order of three arguments, where they may stand in their places.
+fn addition_of(
+    alloc: Global,
+    table: &SymTable,
+    id: Argument,
+    attr: Argument,
+    value: Argument,
+) -> Result<Option<Order>, NoMemory>
+    requires id { IsArgumentKnown table.now id }
+    requires attr { IsArgumentKnown table.now attr }
+    requires value { IsArgumentKnown table.now value }
+    ensures order { IfOk result (λ order. option_map order_seen order
+        ≡ triple_order table.now add_wme (argument_seen table.now id ∷ caret ∷ argument_seen table.now attr ∷ argument_seen table.now value ∷ [])) }
+    ensures read { IfOk result (λ order. IsOrderRead table.now order) }
+{
+    match (
+        id_of(alloc, table, id)?,
+        attribute_of(table, attr),
+        operand_of(alloc, table, value)?,
+    ) {
+        (Some(id), Some(attr), Some(value)) => Ok(Some(Order::Add(Addition {
+            id,
+            attr: Operand::Symbol(attr),
+            value,
+        }))),
+        _ => Ok(None),
+    }
+}
+
+fn matches_order(table: &SymTable, arguments: &[Argument]) -> Option<Order>
+    ensures order { option_map order_seen result ≡ alone matches (map (argument_seen table.now) arguments.now) }
     ensures read { IsOrderRead table.now result }
 {
-    match addition_at(table, tokens) {
-        Some(addition) => Some(Order::Add(addition)),
-        None => None,
-    }
-}
-
-fn matches_of(tokens: &[Token]) -> Option<Order>
-    ensures { option_map order_seen result ≡ matches_order tokens.now }
-{
-    match tokens.first() {
+    match arguments.first() {
         Some(_) => None,
         None => Some(Order::Matches),
     }
 }
 
-#[tactic(auto, using(crate::proofs::OrderLemmas::only_is, crate::proofs::OrderLemmas::no_number))]
-fn run_of(table: &SymTable, text: &[u8], tokens: &[Token]) -> Option<Order>
-    requires { AreTokensKnown table.now tokens.now }
-    ensures order { option_map order_seen result ≡ number_order 1 1000000 run_cycles (map (argument_at table.now text.now) tokens.now) }
+fn run_order(table: &SymTable, arguments: &[Argument]) -> Option<Order>
+    ensures order { option_map order_seen result ≡ number_order 1 1000000 run_cycles (map (argument_seen table.now) arguments.now) }
     ensures read { IsOrderRead table.now result }
 {
-    match only_argument(table, text, tokens)? {
-        Argument::Number(count) if 1 <= count && count <= MOST_CYCLES => {
-            Some(Order::Run(count as u32))
+    match arguments {
+        [Argument::Number(count)] if 1 <= *count && *count <= MOST_CYCLES => {
+            Some(Order::Run(*count as u32))
         }
         _ => None,
     }
 }
 
-#[tactic(auto, using(crate::proofs::OrderLemmas::only_is, crate::proofs::OrderLemmas::no_tag))]
-fn removal_of(table: &SymTable, text: &[u8], tokens: &[Token]) -> Option<Order>
-    requires { AreTokensKnown table.now tokens.now }
-    ensures order { option_map order_seen result ≡ tag_order (map (argument_at table.now text.now) tokens.now) }
+fn removal_order(table: &SymTable, arguments: &[Argument]) -> Option<Order>
+    ensures order { option_map order_seen result ≡ tag_order (map (argument_seen table.now) arguments.now) }
     ensures read { IsOrderRead table.now result }
 {
-    match only_argument(table, text, tokens)? {
-        Argument::Number(tag) => Some(Order::Remove(tag)),
+    match arguments {
+        [Argument::Number(tag)] => Some(Order::Remove(*tag)),
         _ => None,
     }
 }
 
-#[tactic(auto, using(crate::proofs::OrderLemmas::no_print))]
-fn print_of(table: &SymTable, tokens: &[Token]) -> Option<Order>
-    requires { AreTokensKnown table.now tokens.now }
-    ensures order { (text : ListOf ℕ) → option_map order_seen result ≡ print_order table.now (map (argument_at table.now text) tokens.now) }
-    ensures read { IsOrderRead table.now result }
+fn print_order(
+    alloc: Global,
+    table: &SymTable,
+    arguments: &[Argument],
+) -> Result<Option<Order>, NoMemory>
+    requires { AreArgumentsKnown table.now arguments.now }
+    ensures order { IfOk result (λ order. option_map order_seen order ≡ print_order table.now (map (argument_seen table.now) arguments.now)) }
+    ensures read { IfOk result (λ order. IsOrderRead table.now order) }
 {
-    match tokens.split_first() {
-        Some((token, rest)) if rest.is_empty() => print_alone(table, &token.kind),
-        _ => None,
+    match arguments {
+        [argument] => print_alone(alloc, table, *argument),
+        _ => Ok(None),
     }
 }
 
-/// What a token asks for that stands alone behind `print`.
-fn print_alone(table: &SymTable, kind: &TokenKind) -> Option<Order>
-    requires { IsKindKnown table.now kind.now }
-    ensures order { (bytes : ListOf ℕ) → option_map order_seen result ≡ print_order table.now (kind_argument table.now bytes kind.now ∷ []) }
-    ensures read { IsOrderRead table.now result }
+/// What an argument asks for that stands alone behind `print`.
+fn print_alone(
+    alloc: Global,
+    table: &SymTable,
+    argument: Argument,
+) -> Result<Option<Order>, NoMemory>
+    requires { IsArgumentKnown table.now argument }
+    ensures order { IfOk result (λ order. option_map order_seen order ≡ print_order table.now (argument_seen table.now argument ∷ [])) }
+    ensures read { IfOk result (λ order. IsOrderRead table.now order) }
 {
-    match kind {
-        TokenKind::Word(Sym::Word(word), bare) if *bare => print_bare(table, *word),
-        TokenKind::Word(Sym::Word(word), _) => Some(Order::Show(Sym::Word(*word))),
-        _ => None,
+    match argument {
+        Argument::Bare(word) => Ok(print_bare(table, word)),
+        Argument::Barred(word) => Ok(Some(Order::Show(Sym::Word(word)))),
+        Argument::Label(name) => Ok(Some(Order::Print(label_of(alloc, table, name)?))),
+        _ => Ok(None),
     }
 }
 
@@ -184,7 +227,7 @@ fn print_bare(table: &SymTable, word: u32) -> Option<Order>
         return None;
     }
     match identifier_of(text.as_bytes()) {
-        Some(id) => Some(Order::Print(id)),
+        Some(id) => Some(Order::Print(Operand::Symbol(id))),
         None => Some(Order::Show(Sym::Word(word))),
     }
 }
@@ -194,15 +237,4 @@ fn is_listing(text: &str) -> bool
     ensures { result ≡ is_listing text.now }
 {
     text == "--wm" || text == "--rules" || text == "--chunks"
-}
-
-/// The argument of a token that stands alone.
-fn only_argument<'a>(table: &'a SymTable, text: &[u8], tokens: &[Token]) -> Option<Argument<'a>>
-    requires { AreTokensKnown table.now tokens.now }
-    ensures { option_map argument_seen result ≡ only (map (argument_at table.now text.now) tokens.now) }
-{
-    match tokens.split_first() {
-        Some((token, rest)) if rest.is_empty() => Some(argument_at(table, text, token)),
-        _ => None,
-    }
 }

@@ -1,7 +1,6 @@
 // Refusals of commands.
 ghost use Rattle.std.specs.Prelude.{◌≡◌, codes};
 ghost use Rattle.soar_sym.specs.Words.{IsKnown};
-ghost use Rattle.defs_text.specs.Symbols.{symbol_text};
 ghost use Rattle.defs_run.specs.Orders.{at_byte, no_production, unknown_identifier};
 ghost use Rattle.defs_run.specs.Sessions.{refused_by};
 ghost use Rattle.soar_cycle.specs.Seen.{IsSound};
@@ -31,20 +30,18 @@ impl Session {
         Ok(true)
     }
 
-    /// Refuses a command that names an identifier that there is not.
+    /// Refuses a command that names an identifier that there is not, by its text.
     pub fn refuse_identifier(
         &mut self,
         alloc: Global,
         line: u64,
-        symbol: Sym,
+        text: &str,
         out: &mut Text,
     ) -> Result<bool, Stop>
-        requires sound { IsSound self.old.agent }
-        requires known { IsKnown self.old.agent.table symbol }
-        ensures { Replies self.old self.new (refused_by (unknown_identifier (symbol_text self.old.agent.table symbol)) (codes "-") line) out.old out.new result }
+        requires { IsSound self.old.agent }
+        ensures { Replies self.old self.new (refused_by (unknown_identifier text.now) (codes "-") line) out.old out.new result }
     {
-        let mut reason = Text::from_str(alloc, "unknown identifier ")?;
-        show_symbol(&mut reason, &self.agent.table, symbol)?;
+        let reason = format!(in alloc; "unknown identifier {text}")?;
         self.refuse(alloc, line, 31, reason.as_str(), out)
     }
 

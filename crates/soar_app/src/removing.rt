@@ -10,6 +10,7 @@ ghost use Rattle.defs_run.specs.Sessions.{refused_by};
 ghost use Rattle.soar_cycle.specs.Seen.{IsSound};
 ghost use Rattle.soar_app.specs.Carries.{Carries, Replies};
 
+use crate::elements::triple_of;
 use crate::inputs::{has_triple, without_triple};
 use crate::state::Session;
 use soar_cycle::Stop;
@@ -102,15 +103,4 @@ fn element_of(memory: &Memory, tag: u64) -> Option<Element>
     let _last = memory.last_tag();
     let found = memory.get(tag.min(GREATEST_TAG) as u32);
     if tag <= GREATEST_TAG { found } else { None }
-}
-
-fn triple_of(element: Element) -> Triple
-    ensures { result ≡ triple_of element }
-{
-    Triple {
-        id: element.id,
-        attr: element.attr,
-        value: element.value,
-        accept: element.accept,
-    }
 }

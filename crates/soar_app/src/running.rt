@@ -44,6 +44,7 @@ impl Session {
     fn run_cycles(&mut self, alloc: Global, count: u32, out: &mut Text) -> Result<(), Stop>
         requires { IsSound self.old.agent }
         ensures course { (history : ListOf Past) → Goes self.old.mid_line (run_present count (agent_of self.old.agent history)) self.new out.old out.new result }
+        ensures labels { self.new.labels ≡ self.old.labels }
         ensures sound { IfOk result (λ _. IsSound self.new.agent) }
     {
         'cycles: for number in 0..count {
@@ -59,6 +60,7 @@ impl Session {
     fn cycle(&mut self, alloc: Global, out: &mut Text) -> Result<(), Stop>
         requires { IsSound self.old.agent }
         ensures course { (history : ListOf Past) → Goes self.old.mid_line (cycle (agent_of self.old.agent history)) self.new out.old out.new result }
+        ensures labels { self.new.labels ≡ self.old.labels }
         ensures sound { IfOk result (λ _. IsSound self.new.agent) }
     {
         if self.agent.cycles == u64::MAX {
@@ -75,6 +77,7 @@ impl Session {
     fn say_cut(&mut self, cut: bool, out: &mut Text) -> Result<(), Stop>
         requires { IsSound self.old.agent }
         ensures course { (mid_line : Bool) (c : Course) (before : ListOf ℕ) → Went mid_line c self.old before out.old → Goes mid_line (cut_line proposal_phase cut c) self.new before out.new result }
+        ensures labels { self.new.labels ≡ self.old.labels }
         ensures sound { IfOk result (λ _. IsSound self.new.agent) }
     {
         if cut {
@@ -89,6 +92,7 @@ impl Session {
     fn propose(&mut self, alloc: Global, out: &mut Text) -> Result<bool, Stop>
         requires { IsSound self.old.agent }
         ensures phase { (history : ListOf Past) → GoesPhase self.old.mid_line (phase true (agent_of self.old.agent history)) self.new out.old out.new result }
+        ensures labels { self.new.labels ≡ self.old.labels }
         ensures sound { IfOk result (λ _. IsSound self.new.agent) }
     {
         let mut text = Text::new(alloc);

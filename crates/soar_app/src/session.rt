@@ -1,4 +1,4 @@
-ghost use Rattle.std.specs.Prelude.{◌≡◌, ℕ, ◌≤◌, ◌<◌, ◌^◌, Err, [], List as ListOf, IfOk, codes, length, map, Some, None};
+ghost use Rattle.std.specs.Prelude.{◌≡◌, ℕ, ◌≤◌, ◌<◌, ◌^◌, Err, [], false, List as ListOf, IfOk, codes, length, map, Some, None};
 ghost use Rattle.soar_sym.specs.Words.{Texts};
 ghost use Rattle.soar_rule.specs.Productions.{production_seen};
 ghost use Rattle.soar_rule.specs.Symbols.{AreKnown, symbols_of};
@@ -8,6 +8,7 @@ ghost use Rattle.defs_text.specs.Lexing.{Spelled, lexed};
 ghost use Rattle.defs_text.specs.Numbered.{numbered};
 ghost use Rattle.defs_read.specs.Sayings.{AreTokensKnown};
 ghost use Rattle.defs_soar.specs.History.{Past};
+ghost use Rattle.defs_soar.specs.Pending.{is_justification};
 ghost use Rattle.defs_run.specs.Carrying.{carried_out};
 ghost use Rattle.defs_run.specs.Present.{judged, or_not_built, order_by, present_stage, read_by, read_order, run_present};
 ghost use Rattle.defs_run.specs.Runs.{after_reading, obeyed, ordered_by};
@@ -23,7 +24,6 @@ ghost use Rattle.soar_app.specs.States.{session_of};
 ghost use Rattle.soar_app.specs.Steps.{GrowsOnly, Obeys};
 
 use crate::command::first_run;
-use crate::first_form::is_first_form;
 use crate::order::{Form, form_of, is_word, order_by};
 use crate::state::Session;
 use defs_run::Order;
@@ -33,7 +33,7 @@ use soar_cycle::{Agent, Stop};
 use soar_edge::uncomment;
 use soar_lex::{LexFault, lex};
 use soar_read::{ReadFault, SyntaxKind, read_production};
-use soar_rule::Production;
+use soar_rule::{Production, check};
 use soar_sym::{List, NoMemory, Text};
 use std::alloc::Global;
 
@@ -45,6 +45,7 @@ impl Session {
     {
         Ok(Session {
             agent: Agent::new(alloc)?,
+            labels: List::new(alloc),
             mid_line: false,
         })
     }
@@ -130,7 +131,7 @@ impl Session {
         }
     }
 
-    /// Loads a production, where it is of the form that this stage loads.
+    /// Loads a production with its conditions in match order, where nothing is wrong with it and its actions are built.
     fn judge(
         &mut self,
         alloc: Global,
@@ -140,12 +141,12 @@ impl Session {
     ) -> Result<bool, Stop>
         requires sound { IsSound self.old.agent }
         requires known { AreKnown self.old.agent.table (symbols_of (production_seen production)) }
+        requires unlearned { is_justification production.kind ≡ false }
         ensures { Replies self.old self.new (λ s. ordered_by present_stage (codes "-") line s (judged self.old.agent.table (production_seen production))) out.old out.new result }
     {
-        if is_first_form(alloc, &production)? {
-            self.load(production, out)
-        } else {
-            self.refuse(alloc, line, 18, "not built", out)
+        match check(alloc, &production) {
+            Ok(ordered) => self.load_plain(alloc, line, ordered, out),
+            Err(fault) => self.refuse_faulty(alloc, line, &production, fault, out),
         }
     }
 
@@ -204,7 +205,6 @@ impl Session {
     ) -> Result<bool, Stop>
         requires sound { IsSound self.old.agent }
         requires known { AreTokensKnown self.old.agent.table tokens.now }
-        requires few { length tokens.now ≤ 2 ^ 27 }
         ensures { (spelled : ListOf Spelled) → tokens.now ≡ map (numbered self.old.agent.table) spelled → AreSpelledIn self.old.agent.table spelled
             → Replies self.old self.new (λ s. ordered_by present_stage (codes "-") line s (or_not_built (order_by (form_seen form) self.old.agent.table text.now spelled))) out.old out.new result }
     {
@@ -231,7 +231,7 @@ impl Session {
             Order::Remove(tag) => self.remove(alloc, line, tag, out),
             Order::Run(count) => self.run(alloc, line, count, out),
             Order::Matches => self.list_matches(alloc, out),
-            Order::Print(symbol) => self.list_elements(alloc, line, symbol, out),
+            Order::Print(id) => self.list_elements(alloc, line, id, out),
             Order::Show(name) => self.show_rule(alloc, line, name, out),
         }
     }

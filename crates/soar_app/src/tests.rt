@@ -6,8 +6,12 @@ use soar_sym::List;
 use std::alloc::{AllocError, Global};
 use std::test::Fail;
 
+mod checking;
+mod labels;
+mod reading;
+
 /// Inputs that refuse nothing, with what is written.
-const DONE: [(&str, &str); 15] = [
+const DONE: [(&str, &str); 17] = [
     ("", ""),
     ("matches", "no matches\n"),
     (
@@ -63,6 +67,16 @@ const DONE: [(&str, &str); 15] = [
         "sp {grow (state <s> ^n <x>) --> (<s> ^n <y>)}\nadd-wme S1 ^n 1\nrun 1\nprint Y100\n",
         "cut proposal\nno elements\n",
     ),
+    // Conditions are matched, and printed, in match order.
+    (
+        "sp {r (<s> ^b <x>) (state <s> ^a <x>) --> (<s> ^c <x>)}\nadd-wme S1 ^b 1\nadd-wme S1 ^a 1\nmatches\nprint r\n",
+        "r: 7 6\nsp {r\n    (state <s> ^a <x>)\n    (<s> ^b <x>)\n    -->\n    (<s> ^c <x> +)\n}\n",
+    ),
+    // A negation waits for the variable that is bound outside.
+    (
+        "sp {n :default -(<s> ^b <x>) (state <s> ^a { <x> > 1 }) --> (<s> ^c <x>)}\nadd-wme S1 ^a 1\nadd-wme S1 ^a 2\nadd-wme S1 ^a 3\nadd-wme S1 ^b 3\nmatches\n",
+        "n: 7\n",
+    ),
     // A production over several lines, with a path and a comment, is printed one triple a line.
     (
         "sp {p # a path\n  (state <s> ^io.input-link <in>)\n  -->\n  (<s> ^in <in>)}\nrun 1\nprint p\n",
@@ -71,10 +85,10 @@ const DONE: [(&str, &str); 15] = [
 ];
 
 /// Inputs that refuse something, with what is written.
-const REFUSED: [(&str, &str); 7] = [
+const REFUSED: [(&str, &str); 8] = [
     (
         "add-wme S1 ^a 1\nadd-wme S1 ^a 1\nfly\nsp {n -(state <s> ^a 1) --> (<s> ^b 1)}\n",
-        "error 35 -:2: already there as 6\nerror 10 -:3: unknown command\nerror 18 -:4: not built\n",
+        "error 35 -:2: already there as 6\nerror 10 -:3: unknown command\nerror 20 -:4: no state condition\n",
     ),
     (
         "\n \t\r\n\x0c\n  fly\n\nfly away",
@@ -82,11 +96,16 @@ const REFUSED: [(&str, &str); 7] = [
     ),
     (
         "sp {a (state <s> ^a 1) (<t> ^b 2) --> }\nsp {a (state <s> ^a 1) --> (<s> ^operator 1)}\nsp {a (state <s> ^a 1) --> (<y> ^d 1) (<s> ^c <y>)}\nsp {a (<s> ^type state) --> }\nsp\nmatches\n",
-        "error 18 -:1: not built\nerror 18 -:2: not built\nerror 18 -:3: not built\nerror 18 -:4: not built\nerror 16 -:5: unexpected token at byte 2\nno matches\n",
+        "error 22 -:1: unconnected condition 2\nerror 18 -:2: not built\nerror 20 -:4: no state condition\nerror 16 -:5: unexpected token at byte 2\nno matches\n",
+    ),
+    // Of a production the faults are told before an action that is not built.
+    (
+        "sp {a (<s> ^type state) --> (halt)}\nsp {a (state <s> ^a 1) --> (<s> ^b <x>) (<y> ^c 1)}\nsp {a (state <s> ^a 1) (<t> ^b 2) --> (halt)}\nsp {a (state <s> ^a 1) -{-{-{-{-{-{-{-{-{(<s> ^b 1)}}}}}}}}} --> }\nsp {a (state <s> ^a 1) --> (<s> ^b 1 >)}\nsp {a (state <s> ^a 1) --> (halt)}\nmatches\n",
+        "error 20 -:1: no state condition\nerror 21 -:2: unbound variable <y>\nerror 22 -:3: unconnected condition 2\nerror 24 -:4: too deep\nerror 25 -:5: preference for an ordinary attribute\nerror 18 -:6: not built\nno matches\n",
     ),
     (
         "matches #\nmatches now\nmatches{}\nadd-wme S1 ^a 1.5\nadd-wme S1 ^a S1\nadd-wme |S1| ^a 1\nadd-wme S1 ^operator 1\nadd-wme S1 ^a |S1|\nadd-wme S1 ^a 1\nadd-wme S1 ^a 1\n",
-        "no matches\nerror 18 -:2: not built\nerror 18 -:3: not built\nerror 13 -:4: floating-point number at byte 14\nerror 18 -:5: not built\nerror 18 -:6: not built\nerror 18 -:7: not built\nerror 35 -:10: already there as 7\n",
+        "no matches\nerror 18 -:2: not built\nerror 18 -:3: not built\nerror 13 -:4: floating-point number at byte 14\nerror 18 -:6: not built\nerror 36 -:7: reserved attribute\nerror 35 -:10: already there as 8\n",
     ),
     (
         "add-wme S1 ^a 9223372036854775808\nadd-wme S1 ^a -9223372036854775809\nadd-wme S1 ^a +9223372036854775807\nadd-wme S1 ^a 9223372036854775807\n",

@@ -41,3 +41,23 @@ returns-clause-syntax c = refl
 pub returns-clause-printed : goal.returns-clause-printed
 unfolding computing
 returns-clause-printed c = refl
+
+pub returns-clause-same_kind : goal.returns-clause-same_kind
+unfolding computing
+returns-clause-same_kind c = refl
+
+pub returns-clause-nested : goal.returns-clause-nested
+unfolding computing
+returns-clause-nested c = refl
+
+pub returns-clause-refused : goal.returns-clause-refused
+unfolding computing
+returns-clause-refused c = refl
+
+pub returns-clause-labelled : goal.returns-clause-labelled
+unfolding computing
+returns-clause-labelled c = refl
+
+pub returns-clause-in_match_order : goal.returns-clause-in_match_order
+unfolding computing
+returns-clause-in_match_order c = refl

@@ -1,25 +1,18 @@
-use Rattle.std.proofs.Common.{Bool, true, false, Ok, Err, ◌≡◌, ◌∙◌, sym, subst}
-use Rattle.std.specs.Prelude.{codes, if◌then◌else◌}
-use Rattle.soar_rule.specs.Productions.{ProductionOf, production_seen}
-use Rattle.defs_run.specs.FirstForm.{is_first_form}
-use Rattle.defs_run.specs.Orders.{load, not_built}
-use Rattle.defs_run.specs.Present.{present_stage}
-use Rattle.defs_run.specs.Runs.{ordered_by}
-use Rattle.soar_app.specs.Carries.{Replies}
+use Rattle.soar_rule.specs.Productions.{production_seen}
+use Rattle.soar_app.proofs.CheckedLemmas.{names_known, ordered_known, ordered_unlearned}
+use Rattle.soar_app.proofs.FaultyLemmas.{replies_ordered}
 use Rattle.soar_app.proofs.state.Session.judge.Goals as goal
 
-pub returns-then-branch : goal.returns-then-branch
-returns-then-branch c =
-    let p : ProductionOf = production_seen c.args.production in
-    let form : is_first_form p ≡ true = sym c.in_ok-is_first_form.ensures ∙ c.if-branch.true in
-    subst (λ (b : Bool). Replies c.args.self.now c.load.new.self (λ s. ordered_by present_stage (codes "-") c.args.line s (if b then Ok (load p) else Err not_built))
-    c.args.out.now c.args.out.now c.load.result)
-    (sym form) c.load.ensures
+pub load_plain-requires-clause-known : goal.load_plain-requires-clause-known
+load_plain-requires-clause-known c = ordered_known c.args.self.now.agent.table (production_seen c.args.production) (production_seen c.in-Ok.ordered) c.in-Ok.ensures c.requires.known
 
-pub returns-else-branch : goal.returns-else-branch
-returns-else-branch c =
-    let p : ProductionOf = production_seen c.args.production in
-    let form : is_first_form p ≡ false = sym c.in_ok-is_first_form.ensures ∙ c.if-branch.false in
-    subst (λ (b : Bool). Replies c.args.self.now c.refuse.new.self (λ s. ordered_by present_stage (codes "-") c.args.line s (if b then Ok (load p) else Err not_built))
-    c.args.out.now c.refuse.new.out c.refuse.result)
-    (sym form) c.refuse.ensures
+pub load_plain-requires-clause-unlearned : goal.load_plain-requires-clause-unlearned
+load_plain-requires-clause-unlearned c = ordered_unlearned (production_seen c.args.production) (production_seen c.in-Ok.ordered) c.in-Ok.ensures c.requires.unlearned
+
+pub returns-in-Ok : goal.returns-in-Ok
+returns-in-Ok c =
+    replies_ordered c.args.self.now c.load_plain.new.self c.args.line (production_seen c.args.production) (production_seen c.in-Ok.ordered) c.args.out.now c.load_plain.new.out c.load_plain.result
+    c.in-Ok.ensures c.load_plain.ensures
+
+pub refuse_faulty-requires-clause-known : goal.refuse_faulty-requires-clause-known
+refuse_faulty-requires-clause-known c = names_known c.args.self.now.agent.table (production_seen c.args.production) c.requires.known

@@ -1,4 +1,4 @@
-use Rattle.std.proofs.Common.{◌<◌, ◌≤◌, ◌^◌, List, ℕ, length, Err, sym, ap, subst, ◌∙◌, arith}
+use Rattle.std.proofs.Common.{◌<◌, ◌^◌, List, ℕ, length, Err, sym, ap, subst, ◌∙◌, arith}
 use Rattle.soar_edge.specs.Cutting.{uncommented}
 use Rattle.defs_text.specs.Lexing.{Lexed, lexed}
 use Rattle.soar_lex.specs.Answers.{CutWhole, IsCut}
@@ -7,7 +7,7 @@ use Rattle.defs_read.specs.Sayings.{AreTokensKnown}
 use Rattle.soar_app.specs.Asked.{form_seen}
 use Rattle.soar_app.specs.Carries.{with_table}
 use Rattle.soar_app.proofs.CommandLemmas.{order_grows, plain_length, reads_in, reads_whole}
-use Rattle.soar_app.proofs.SessionLemmas.{cut_few, cut_known, cut_small, cut_spelled, gained_more, fault_more}
+use Rattle.soar_app.proofs.SessionLemmas.{cut_known, cut_small, cut_spelled, gained_more, fault_more}
 use Rattle.soar_app.proofs.SoundLemmas.{sound_read}
 use Rattle.soar_app.proofs.state.Session.obey_form.Goals as goal
 
@@ -22,11 +22,6 @@ obey_tokens-requires-clause-sound c =
 pub obey_tokens-requires-clause-known : goal.obey_tokens-requires-clause-known
 obey_tokens-requires-clause-known c =
     subst (AreTokensKnown c.lex.new.table) (sym c.as_slice.ensures) (cut_known c.args.self.now.agent.table c.lex.new.table (lexed c.in_ok-plain.plain) c.in-Ok.tokens c.in-Ok.ensures)
-
-pub obey_tokens-requires-clause-few : goal.obey_tokens-requires-clause-few
-obey_tokens-requires-clause-few c =
-    let few : length c.in-Ok.tokens ≤ length c.in_ok-plain.plain = cut_few c.args.self.now.agent.table c.lex.new.table c.in_ok-plain.plain c.in-Ok.tokens c.in-Ok.ensures in
-    omega (arith, few, ap length c.in_ok-plain.ensures, plain_length c.args.text.now, ap length c.as_slice.ensures, c.requires.short)
 
 pub returns-in-Ok : goal.returns-in-Ok
 returns-in-Ok c = λ history.

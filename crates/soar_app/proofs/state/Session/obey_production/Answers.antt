@@ -1,7 +1,10 @@
-use Rattle.std.proofs.Common.{◌^◌, ◌<◌, ◌≤◌, length, ap, refl, arith}
+use Rattle.std.proofs.Common.{◌^◌, ◌<◌, ◌≤◌, length, ap, refl, ◌∙◌, arith}
 use Rattle.soar_sym.specs.Words.{Texts}
+use Rattle.soar_rule.specs.Productions.{ProductionOf}
 use Rattle.defs_read.specs.Sayings.{sayings}
+use Rattle.defs_soar.specs.Pending.{is_justification}
 use Rattle.soar_read.specs.Answers.{ReadAs, RefusedAs}
+use Rattle.soar_app.proofs.CheckedLemmas.{read_unlearned}
 use Rattle.soar_app.proofs.CommandLemmas.{reads_production, reads_production_spent, reads_refused}
 use Rattle.soar_app.proofs.SoundLemmas.{sound_read}
 use Rattle.soar_app.proofs.SpelledLemmas.{production_more}
@@ -14,6 +17,12 @@ judge-requires-clause-sound c =
     let read : ReadAs old new c.args.tokens.now c.in-Ok.production = c.in-Ok.ensures.reading in
     let more : length old ≤ length new = omega (arith, ap length read.words, production_more old (sayings old c.args.tokens.now) read.tree) in
     sound_read c.args.self.now new more c.requires.sound
+
+pub judge-requires-clause-unlearned : goal.judge-requires-clause-unlearned
+judge-requires-clause-unlearned c =
+    let old : Texts = c.args.self.now.agent.table in
+    let read : ReadAs old c.read_production.new.table c.args.tokens.now c.in-Ok.production = c.in-Ok.ensures.reading in
+    ap (λ (p : ProductionOf). is_justification p.kind) read.means ∙ read_unlearned old (sayings old c.args.tokens.now) read.tree
 
 pub returns-in-Ok : goal.returns-in-Ok
 returns-in-Ok c = λ spelled are have history.

@@ -1,6 +1,5 @@
-use Rattle.std.proofs.Common.{◌≡◌, ◌∙◌, ◌++◌, ap, subst, List, ℕ}
+use Rattle.std.proofs.Common.{◌≡◌, ◌∙◌, subst, List, ℕ}
 use Rattle.std.specs.Prelude.{codes}
-use Rattle.defs_text.specs.Symbols.{symbol_text}
 use Rattle.defs_run.specs.Orders.{unknown_identifier}
 use Rattle.defs_run.specs.Sessions.{refused_by}
 use Rattle.soar_app.specs.Carries.{Replies}
@@ -8,7 +7,6 @@ use Rattle.soar_app.proofs.state.Session.refuse_identifier.Goals as goal
 
 pub returns : goal.returns
 returns c =
-    let reason : c.as_str.result.now ≡ (unknown_identifier (symbol_text c.args.self.now.agent.table c.args.symbol)).text =
-    c.as_str.ensures ∙ (c.in_ok-show_symbol.ensures.ok ∙ ap (λ text. text ++ symbol_text c.args.self.now.agent.table c.args.symbol) c.in_ok-reason.ensures) in
+    let reason : c.as_str.result.now ≡ (unknown_identifier c.args.text.now).text = c.as_str.ensures.value ∙ c.in_ok-reason.ensures.ok in
     subst (λ (text : List ℕ). Replies c.args.self.now c.refuse.new.self (refused_by (record { number = 31; text = text }) (codes "-") c.args.line) c.args.out.now c.refuse.new.out c.refuse.result)
     reason c.refuse.ensures

@@ -23,7 +23,7 @@ returns-in-Ok c = λ history.
     let s : Session = session_of c.args.self.now history in
     subst (λ (b : Bool). Obeys c.args.self.now.mid_line (replied_by (codes "-") c.args.line s (if b then refuses halted else does (followed s (run_present c.args.count s.agent))))
     c.run_cycles.new.self c.args.out.now c.run_cycles.new.out (Ok false))
-    (sym c.if-self.false) (runs c.args.self.now c.run_cycles.new.self c.args.count history c.args.out.now c.run_cycles.new.out (c.in-Ok.ensures.course history) c.in-Ok.ensures.sound)
+    (sym c.if-self.false) (runs c.args.self.now c.run_cycles.new.self c.args.count history c.args.out.now c.run_cycles.new.out (c.in-Ok.ensures.course history) c.run_cycles.ensures.labels c.in-Ok.ensures.sound)
 
 pub returns-in-Err : goal.returns-in-Err
 returns-in-Err c = λ history.
