@@ -1,11 +1,13 @@
 mod build;
 
-ghost use Rattle.std.specs.Prelude.{IsTrue};
+ghost use Rattle.std.specs.Prelude.{◌<◌, IsTrue};
 ghost use Rattle.soar_rule.specs.Below.{actions_below, value_below};
 
-use crate::{Action, Atom, CheckFault, Cond, Pref, Test, Value, check};
-use build::{differs, fault, lacks, makes, nested, of_state, production, takes};
-use soar_sym::{List, NoMemory, Sym};
+use crate::{
+    Action, Atom, CheckFault, Cond, Kind, Pref, Production, Test, Value, canonical, check,
+};
+use build::{buried, differs, fault, lacks, makes, nested, of_state, production, takes};
+use soar_sym::{List, NoMemory, Sym, Text};
 use std::alloc::Global;
 use std::test::Fail;
 
@@ -170,5 +172,81 @@ fn a_copy_succeeds(rt: HostRuntime) -> Result<(), Fail> {
     let actions = vec![in alloc; makes(0, 1, nested(alloc, 2, 1)?, Pref::Accept)]?;
     let copy = production(alloc, conds, actions)?.copy(alloc)?;
     assert_eq!(rt; copy.conds.len(), 2);
+    Ok(())
+}
+
+#[test]
+fn negations_deep_in_one_another_are_told_at_once(rt: HostRuntime) -> Result<(), Fail> {
+    let alloc = rt.alloc();
+    // (state <0> ^6 <1>) -{-{..-{(<2> ^1 <> <3>)}..}}
+    let conds = vec![in alloc; of_state(alloc, 0, 6, 1)?, buried(alloc, 64, 2, 3)?]?;
+    assert_eq!(rt;
+        fault(alloc, conds, vec![in alloc]?)?,
+        Some(CheckFault::Unbound(3))
+    );
+    let conds = vec![in alloc; of_state(alloc, 0, 6, 1)?, buried(alloc, 64, 0, 1)?]?;
+    assert_eq!(rt;
+        fault(alloc, conds, vec![in alloc]?)?,
+        Some(CheckFault::TooDeep)
+    );
+    Ok(())
+}
+
+/// `(state <id> ^6 <value>) -(<value> ^attr <id>) --> (<id> ^1 <new>)`
+fn with_variables(
+    alloc: Global,
+    attr: u32,
+    id: u32,
+    value: u32,
+    new: u32,
+) -> Result<Production, NoMemory>
+    requires id { id < 9 }
+    requires value { value < 9 }
+    requires new { new < 9 }
+{
+    let conds = vec![in alloc;
+        of_state(alloc, id, 6, value)?,
+        lacks(alloc, value, attr, id)?,
+    ]?;
+    let new = Value::Atom(Atom::Var(new));
+    production(
+        alloc,
+        conds,
+        vec![in alloc; makes(id, 1, new, Pref::Accept)]?,
+    )
+}
+
+#[test]
+fn a_canonical_form_has_no_names(rt: HostRuntime) -> Result<(), Fail> {
+    let alloc = rt.alloc();
+    let mut production = with_variables(alloc, 2, 7, 4, 5)?;
+    production.name = Sym::Word(24);
+    production.doc = Some(Text::from_str(alloc, "seven, four, five")?);
+    production.kind = Kind::Chunk;
+    let form = canonical(alloc, &production)?;
+    assert_eq!(rt; form.name, Sym::Int(0));
+    assert!(rt; form.doc.is_none());
+    assert_eq!(rt; form.kind, Kind::User);
+    let names = [Sym::Int(1), Sym::Int(2), Sym::Int(3)];
+    assert!(rt; form.vars.as_slice() == names.as_slice());
+    Ok(())
+}
+
+/// The canonical form of a production, as text.
+fn form_text(alloc: Global, production: &Production) -> Result<String, NoMemory> {
+    let form = canonical(alloc, production)?;
+    Ok(format!(in alloc; "{form:?}")?)
+}
+
+#[test]
+fn productions_that_differ_in_names_have_one_canonical_form(rt: HostRuntime) -> Result<(), Fail> {
+    let alloc = rt.alloc();
+    let text = form_text(alloc, &with_variables(alloc, 2, 7, 4, 5)?)?;
+    let alike = form_text(alloc, &with_variables(alloc, 2, 0, 1, 2)?)?;
+    assert!(rt; alike == text);
+    let with_other_constant = form_text(alloc, &with_variables(alloc, 3, 0, 1, 2)?)?;
+    assert!(rt; with_other_constant != text);
+    let with_one_variable_less = form_text(alloc, &with_variables(alloc, 2, 0, 1, 0)?)?;
+    assert!(rt; with_one_variable_less != text);
     Ok(())
 }

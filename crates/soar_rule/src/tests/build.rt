@@ -122,6 +122,19 @@ fn one(alloc: Global, test: Test) -> Result<Field, NoMemory>
     })
 }
 
+/// `(<id> ^1 <> <value>)` within so many conjunctive negations.
+pub fn buried(alloc: Global, depth: usize, id: u32, value: u32) -> Result<Cond, NoMemory>
+    requires id { id < 9 }
+    requires value { value < 9 }
+    ensures { IfOk result (λ c. IsTrue (cond_below 9 c)) }
+{
+    let mut cond = differs(alloc, id, 1, value)?;
+    'negations: for _ in 0..depth {
+        cond = Cond::Conj(List::from_vec(vec![in alloc; cond]?));
+    }
+    Ok(cond)
+}
+
 /// `(<id> ^attr value pref)`
 pub fn makes(id: u32, attr: u32, value: Value, pref: Pref) -> Action
     requires id { id < 9 }
