@@ -1,4 +1,9 @@
-use soar_sym::{List, Sym};
+// The entries of the goal stack.
+ghost use Rattle.std.specs.Prelude.{◌≡◌};
+ghost use Rattle.defs_soar.specs.Goals as meaning;
+
+use soar_sym::architecture::OPERATOR;
+use soar_sym::{List, Sym, is_symbol};
 
 /// Why a goal is there (Soar manual, impasses).
 #[derive(Clone, Copy, Debug, PartialEq, Eq)]
@@ -30,4 +35,23 @@ pub struct Goal {
     pub selected: Option<Sym>,
     pub selected_tag: u32,
     pub selected_by: u64,
+}
+
+/// Whether the symbol is the identifier of a goal.
+pub fn is_goal(goals: &[Goal], symbol: Sym) -> bool
+    ensures { result ≡ meaning.is_goal goals.now symbol }
+{
+    'goals: for goal in goals {
+        if is_symbol(symbol, goal.id) {
+            return true;
+        }
+    }
+    false
+}
+
+/// Whether an attribute of an identifier tells the operator of a goal.
+pub fn is_operator_slot(goals: &[Goal], id: Sym, attr: Sym) -> bool
+    ensures { result ≡ meaning.is_operator_slot goals.now id attr }
+{
+    is_symbol(attr, OPERATOR) && is_goal(goals, id)
 }

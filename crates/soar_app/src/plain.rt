@@ -5,10 +5,8 @@ ghost use Rattle.soar_rule.specs.Productions.{action_seen, preference_seen, prod
 ghost use Rattle.defs_run.specs.PlainActions.{is_acceptable, is_atom, is_plain, is_plain_attribute, is_plain_make, is_unset};
 
 use soar_rule::{Action, Atom, Pref, Production, Support, Value};
-use soar_sym::Sym;
-
-/// The word `operator` of the architecture.
-const OPERATOR: u32 = 7;
+use soar_sym::architecture::OPERATOR;
+use soar_sym::{Sym, is_symbol};
 
 /// Whether there is no flag about support, and each action is a plain make.
 pub fn is_plain(production: &Production) -> bool
@@ -57,7 +55,7 @@ fn is_plain_attribute(attr: &Value) -> bool
     ensures { result ≡ is_plain_attribute (value_seen attr.now) }
 {
     match attr {
-        Value::Atom(Atom::Const(Sym::Word(word))) => *word != OPERATOR,
+        Value::Atom(Atom::Const(Sym::Word(word))) => !is_symbol(Sym::Word(*word), OPERATOR),
         _ => false,
     }
 }

@@ -2,7 +2,6 @@
 ghost use Rattle.std.specs.Prelude.{◌≡◌, ◌++◌, ◌∷◌, ◌||◌, [], length, map, IfOk, OnOk};
 ghost use Rattle.soar_rule.specs.Variables.{bound_variables};
 ghost use Rattle.defs_match.specs.Rules.{rule_seen};
-ghost use Rattle.defs_soar.specs.Goals.{is_goal, is_operator_slot};
 ghost use Rattle.defs_soar.specs.Pending.{firable_of};
 ghost use Rattle.defs_soar.specs.Support as support;
 ghost use Rattle.soar_cycle.specs.Firables.{live_seen};
@@ -12,13 +11,10 @@ use crate::firing::Fired;
 use crate::live::Live;
 use crate::scene::Scene;
 use defs_match::{Instance, Rule};
-use defs_soar::{Goal, Made, Preference, Wish};
+use defs_soar::{Goal, Made, Preference, Wish, is_operator_slot};
 use soar_levels::{match_depth, operator_kind};
-use soar_sym::{List, NoMemory, Sym, is_symbol};
+use soar_sym::{List, NoMemory};
 use std::alloc::{AllocError, Global};
-
-/// The word `operator`.
-const OPERATOR: Sym = Sym::Word(7);
 
 /// Adds a firing with what it made. Its number is that of its rows.
 pub fn gather(
@@ -108,21 +104,4 @@ fn row_of(goals: &[Goal], number: u64, kind: bool, wish: Wish) -> Preference
         wish,
         operator_support: kind && !is_operator_slot(goals, wish.id, wish.attr),
     }
-}
-
-fn is_operator_slot(goals: &[Goal], id: Sym, attr: Sym) -> bool
-    ensures { result ≡ is_operator_slot goals.now id attr }
-{
-    is_symbol(attr, OPERATOR) && is_goal(goals, id)
-}
-
-fn is_goal(goals: &[Goal], symbol: Sym) -> bool
-    ensures { result ≡ is_goal goals.now symbol }
-{
-    'goals: for goal in goals {
-        if is_symbol(symbol, goal.id) {
-            return true;
-        }
-    }
-    false
 }

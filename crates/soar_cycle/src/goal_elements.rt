@@ -5,54 +5,12 @@ ghost use Rattle.defs_soar.specs.Architecture.{item_count_word, item_word, non_n
 ghost use Rattle.defs_soar.specs.Goals as meaning;
 
 use defs_soar::{Goal, Impasse, Item};
+use soar_sym::architecture::{
+    ATTRIBUTE, CHOICES, CONFLICT, CONSTRAINT_FAILURE, IMPASSE, INPUT_LINK, IO, ITEM, ITEM_COUNT,
+    MULTIPLE, NIL, NO_CHANGE, NON_NUMERIC, NON_NUMERIC_COUNT, NONE, OPERATOR, OUTPUT_LINK,
+    QUIESCENCE, STATE, SUPERSTATE, T, TIE, TYPE,
+};
 use soar_sym::{List, NoMemory, Sym, Triple};
-
-const STATE: Sym = Sym::Word(0);
-
-const NIL: Sym = Sym::Word(1);
-
-const IO: Sym = Sym::Word(2);
-
-const INPUT_LINK: Sym = Sym::Word(3);
-
-const OUTPUT_LINK: Sym = Sym::Word(4);
-
-const SUPERSTATE: Sym = Sym::Word(5);
-
-const TYPE: Sym = Sym::Word(6);
-
-/// The word `operator`.
-pub const OPERATOR: Sym = Sym::Word(7);
-
-const IMPASSE: Sym = Sym::Word(9);
-
-const CHOICES: Sym = Sym::Word(10);
-
-const ATTRIBUTE: Sym = Sym::Word(11);
-
-const QUIESCENCE: Sym = Sym::Word(12);
-
-const T: Sym = Sym::Word(13);
-
-const ITEM: Sym = Sym::Word(14);
-
-const ITEM_COUNT: Sym = Sym::Word(15);
-
-const NON_NUMERIC: Sym = Sym::Word(16);
-
-const NON_NUMERIC_COUNT: Sym = Sym::Word(17);
-
-const TIE: Sym = Sym::Word(18);
-
-const CONFLICT: Sym = Sym::Word(19);
-
-const CONSTRAINT_FAILURE: Sym = Sym::Word(20);
-
-const NO_CHANGE: Sym = Sym::Word(21);
-
-const MULTIPLE: Sym = Sym::Word(22);
-
-const NONE: Sym = Sym::Word(23);
 
 /// The identifier that the top goal's links hang on.
 const IO_ID: Sym = Sym::Ident {

@@ -1,12 +1,13 @@
 // The triples that preference memory, the goals and the inputs hold up (Soar manual, support).
 ghost use Rattle.std.specs.Prelude.{◌≡◌, ◌++◌, flat_map, IfOk, OnOk};
-ghost use Rattle.defs_soar.specs.Goals.{is_goal, is_operator_slot, selected_by_goal, selected_element};
+ghost use Rattle.defs_soar.specs.Goals.{selected_by_goal, selected_element};
 ghost use Rattle.defs_soar.specs.Held as meaning;
 ghost use Rattle.defs_soar.specs.Values.{same_triple};
 
-use crate::goal_elements::{OPERATOR, add_goal_elements, plain_triple};
-use defs_soar::{Goal, PrefKind, Preference};
-use soar_sym::{List, NoMemory, Sym, Triple, is_symbol};
+use crate::goal_elements::{add_goal_elements, plain_triple};
+use defs_soar::{Goal, PrefKind, Preference, is_operator_slot};
+use soar_sym::architecture::OPERATOR;
+use soar_sym::{List, NoMemory, Triple, is_symbol};
 use std::alloc::Global;
 
 /// The goals' elements, their selected operators, the inputs, and what the rows hold up.
@@ -121,21 +122,4 @@ fn same_triple(a: &Preference, b: &Preference) -> bool
     is_symbol(a.wish.id, b.wish.id)
         && is_symbol(a.wish.attr, b.wish.attr)
         && is_symbol(a.wish.value, b.wish.value)
-}
-
-fn is_operator_slot(goals: &[Goal], id: Sym, attr: Sym) -> bool
-    ensures { result ≡ is_operator_slot goals.now id attr }
-{
-    is_symbol(attr, OPERATOR) && is_goal(goals, id)
-}
-
-fn is_goal(goals: &[Goal], symbol: Sym) -> bool
-    ensures { result ≡ is_goal goals.now symbol }
-{
-    'goals: for goal in goals {
-        if is_symbol(symbol, goal.id) {
-            return true;
-        }
-    }
-    false
 }

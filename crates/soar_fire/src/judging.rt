@@ -2,15 +2,11 @@
 ghost use Rattle.std.specs.Prelude.{◌≡◌, IfOk};
 ghost use Rattle.soar_rule.specs.Productions.{preference_seen};
 ghost use Rattle.defs_soar.specs.Firing.{fits_operator, is_for_operator, is_in_range, is_ordinary_kind, is_referent, judged, kind_of, within_range};
-ghost use Rattle.defs_soar.specs.Goals.{is_goal, is_operator_slot};
 ghost use Rattle.defs_soar.specs.Values.{is_identifier, is_kind};
 
-use defs_soar::{DropCause, Goal, PrefKind, Wish};
+use defs_soar::{DropCause, Goal, PrefKind, Wish, is_operator_slot};
 use soar_rule::Pref;
-use soar_sym::{Sym, is_symbol};
-
-/// The word `operator`.
-const OPERATOR: Sym = Sym::Word(7);
+use soar_sym::Sym;
 
 /// The greatest number of a numeric preference, and the least without its sign.
 const MOST_NUMERIC: i64 = 1_000_000_000;
@@ -59,23 +55,6 @@ fn is_for_operator(goals: &[Goal], wish: Wish) -> bool
     } else {
         is_ordinary_kind(wish.kind)
     }
-}
-
-fn is_operator_slot(goals: &[Goal], id: Sym, attr: Sym) -> bool
-    ensures { result ≡ is_operator_slot goals.now id attr }
-{
-    is_symbol(attr, OPERATOR) && is_goal(goals, id)
-}
-
-fn is_goal(goals: &[Goal], symbol: Sym) -> bool
-    ensures { result ≡ is_goal goals.now symbol }
-{
-    'goals: for goal in goals {
-        if is_symbol(symbol, goal.id) {
-            return true;
-        }
-    }
-    false
 }
 
 fn is_ordinary_kind(kind: PrefKind) -> bool

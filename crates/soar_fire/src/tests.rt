@@ -6,6 +6,7 @@ use crate::FireFault;
 use build::{call, constant, fired, makes, one_goal, takes, variable};
 use defs_soar::{DropCause, Dropped, Made, PrefKind};
 use soar_rule::{Action, Atom, Func, Pref, Value};
+use soar_sym::architecture::{IO, NIL, OPERATOR};
 use soar_sym::{Letters, List, Sym, SymTable, Text};
 use std::alloc::Global;
 use std::test::Fail;
@@ -19,14 +20,6 @@ const O1: Sym = Sym::Ident {
     letter: b'O',
     number: 1,
 };
-
-/// `nil` and `io`, which each table has.
-const NIL: Sym = Sym::Word(1);
-
-const IO: Sym = Sym::Word(2);
-
-/// `operator`
-const OPERATOR: Sym = Sym::Word(7);
 
 const NONE: Result<i64, DropCause> = Err(DropCause::NotANumber);
 

@@ -22,7 +22,8 @@ use crate::order::{OrderStop, Ordered, take_in_order};
 use crate::production::Production;
 use crate::sizes::{are_deeper, has_deeper_calls, size_of_all, told};
 use crate::unbound::first_unbound;
-use soar_sym::{List, NoMemory, Sym, is_symbol};
+use soar_sym::architecture::OPERATOR;
+use soar_sym::{List, NoMemory, is_symbol};
 use std::alloc::Global;
 
 const MOST_CONDITIONS: u32 = 1000;
@@ -30,9 +31,6 @@ const MOST_CONDITIONS: u32 = 1000;
 const MOST_VARIABLES: usize = 2000;
 
 const GREATEST_DEPTH: usize = 8;
-
-/// The attribute whose values may have any preference.
-const OPERATOR: Sym = Sym::Word(7);
 
 /// The production with its conditions in match order, those inside negations too, or its first fault.
 ///

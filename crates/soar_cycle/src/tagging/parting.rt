@@ -1,6 +1,5 @@
 // Which elements stay, and which triples are new.
 ghost use Rattle.std.specs.Prelude.{◌≡◌, map, filter, not, IfOk};
-ghost use Rattle.defs_soar.specs.Goals.{is_goal};
 ghost use Rattle.defs_soar.specs.Settling.{new_triples, stays};
 ghost use Rattle.defs_soar.specs.Sorted.{in_order};
 ghost use Rattle.defs_soar.specs.Values.{has_triple_among, triple_eq};
@@ -8,7 +7,7 @@ ghost use Rattle.soar_wm.specs.WorkingMemory.{triple_of};
 ghost use Rattle.soar_cycle.specs.Known.{AreTriplesKnown};
 
 use crate::tagging::comparing::add_triple;
-use defs_soar::Goal;
+use defs_soar::{Goal, is_goal};
 use soar_sym::{List, NoMemory, Sym, SymTable, Triple, is_symbol};
 use soar_wm::Element;
 use std::alloc::Global;
@@ -66,18 +65,6 @@ fn stays(goals: &[Goal], kept: &[Triple], element: Element) -> bool
     ensures { result ≡ stays goals.now kept.now element }
 {
     has_triple(kept, triple_of(element)) && element.of_state == is_goal(goals, element.id)
-}
-
-/// Whether the symbol is the identifier of a goal.
-pub fn is_goal(goals: &[Goal], symbol: Sym) -> bool
-    ensures { result ≡ is_goal goals.now symbol }
-{
-    'goals: for goal in goals {
-        if is_symbol(symbol, goal.id) {
-            return true;
-        }
-    }
-    false
 }
 
 fn has_triple(triples: &[Triple], triple: Triple) -> bool

@@ -5,8 +5,7 @@ ghost use Rattle.soar_wm.specs.WorkingMemory.{element_for, tag_of, with_triple};
 ghost use Rattle.soar_cycle.specs.Tagging.{AreAddable, without_each};
 
 use crate::changes::Changes;
-use crate::tagging::parting::is_goal;
-use defs_soar::Goal;
+use defs_soar::{Goal, is_goal};
 use soar_sym::{List, NoMemory, Triple};
 use soar_wm::{AddFault, Element, Memory};
 use std::alloc::Global;

@@ -5,6 +5,7 @@ ghost use Rattle.soar_cycle.specs.Seen.{IsSound};
 use crate::{Agent, Waved};
 use defs_match::Rule;
 use soar_rule::{Action, Atom, Kind, Pref, Production, Support, Value};
+use soar_sym::architecture::NIL;
 use soar_sym::{List, NoMemory, Sym, Text, Triple};
 use std::alloc::Global;
 use std::test::Fail;
@@ -13,9 +14,6 @@ const TOP: Sym = Sym::Ident {
     letter: b'S',
     number: 1,
 };
-
-/// The word `nil`.
-const NIL: Sym = Sym::Word(1);
 
 /// Gives the agent a rule without conditions, by which the top state has the attribute `nil` with the value 5.
 fn load_rule(alloc: Global, agent: &mut Agent) -> Result<(), NoMemory>

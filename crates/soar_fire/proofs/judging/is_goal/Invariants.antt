@@ -1,6 +1,0 @@
-use Rattle.std.proofs.Common.{◌≡◌, drop}
-use Rattle.defs_soar.specs.Goals.{is_goal}
-use Rattle.soar_fire.proofs.judging.is_goal.Given as goal
-
-abbrev pub invariant-goals : goal.invariant-goals
-invariant-goals l = is_goal (drop l.goal-index l.goals) l.symbol ≡ is_goal l.goals l.symbol
