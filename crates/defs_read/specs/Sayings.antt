@@ -30,13 +30,9 @@ sayings words tokens = map (λ t. saying_of words t.kind) tokens
 
 -- ---- tokens whose words the table has
 
--- the word is the place of its own text
-abbrev pub is_place : Texts → ℕ → Bool
-is_place words word = elim (place_of words (text_of words word)) [ Some n ↦ n == word | None ↦ false ]
-
 -- a word of the table, and neither an identifier nor an integer
 abbrev pub is_word_known : Texts → Sym → Bool
-is_word_known words (Word word) = nat_lt word (length words) && is_place words word
+is_word_known words (Word word) = nat_lt word (length words)
 is_word_known words (Ident letter number) = false
 is_word_known words (Int value) = false
 
@@ -52,3 +48,17 @@ IsKindKnown words other = Unit {0}
 abbrev pub AreTokensKnown : Texts → List Token → Type 0
 AreTokensKnown words [] = Unit {0}
 AreTokensKnown words (t ∷ tokens) = IsKindKnown words t.kind × AreTokensKnown words tokens
+
+-- ---- words that are found by their texts, as all words of an agent's table are
+
+-- the word is the place of its own text
+abbrev pub is_place : Texts → ℕ → Bool
+is_place words word = elim (place_of words (text_of words word)) [ Some n ↦ n == word | None ↦ false ]
+
+abbrev pub is_word_placed : Texts → Sym → Bool
+is_word_placed words (Word word) = nat_lt word (length words) && is_place words word
+is_word_placed words (Ident letter number) = false
+is_word_placed words (Int value) = false
+
+abbrev pub IsWordPlaced : Texts → Sym → Type 0
+IsWordPlaced words s = is_word_placed words s ≡ true

@@ -19,7 +19,7 @@ use Rattle.defs_read.specs.FreshNames.{Fresh, Expanded}
 use Rattle.defs_read.specs.Grammar.{part_and}
 use Rattle.defs_read.specs.PrintingConditions.{Naming, bare_text}
 use Rattle.defs_read.specs.ReadingActions.{tree_of}
-use Rattle.defs_read.specs.Sayings.{IsWordKnown}
+use Rattle.defs_read.specs.Sayings.{IsWordPlaced}
 use Rattle.reading_laws.specs.Lawful.{AllOf}
 use Rattle.reading_laws.specs.Printable.{IsNaming, IsSome, met_after, IsPrintable}
 use Rattle.reading_laws.specs.TreeBack.{kind_back, support_back, first_back, others_back, parts_back, action_back, tree_back}
@@ -80,7 +80,7 @@ vars_again words read [] again h = refl
 vars_again words read (s ∷ vars) again h = ap₂ (λ (x : Sym) (xs : List Sym). x ∷ xs) (again s h.0) (vars_again words read vars again h.1)
 
 -- the parts of a production, each as it was
-parts_read : (words read : Texts) (p : ProductionOf) (f : Fresh) → IsPrintable words p → ((s : Sym) → IsWordKnown words s → word_in read (bare_text words s) ≡ s)
+parts_read : (words read : Texts) (p : ProductionOf) (f : Fresh) → IsPrintable words p → ((s : Sym) → IsWordPlaced words s → word_in read (bare_text words s) ≡ s)
     → f.names ≡ map (bare_text words) p.vars → f.fresh ≡ [] → read_as read (tree_back words p) (listed p.conditions) p.actions f ≡ record { production = p; words = read }
 parts_read words read p f h again names fresh =
     ap (λ fresh. whole (with_texts read fresh) f.names) fresh ∙ ap (whole read) names

@@ -18,7 +18,7 @@ use Rattle.defs_read.specs.FieldExpansion.{symbol_of, atom_of, test_by, test_of,
 use Rattle.defs_read.specs.FreshNames.{Fresh, with_name, place_of_name, Expanded, expanded, then_expand}
 use Rattle.defs_read.specs.Grammar.{Simple, a_variable}
 use Rattle.defs_read.specs.PrintingConditions.{Naming, bare_text}
-use Rattle.defs_read.specs.Sayings.{IsWordKnown}
+use Rattle.defs_read.specs.Sayings.{IsWordPlaced}
 use Rattle.reading_laws.specs.Lawful.{AllOf}
 use Rattle.reading_laws.specs.Printable.{IsConstant, IsAtom, IsAny, IsTest, IsPrintedField, AreDistinct, met_after}
 use Rattle.reading_laws.specs.TreeBack.{constant_back, name_back, single_back, sign_back, test_back, state_barred, id_test_back, tests_back, field_back, id_back}
@@ -32,7 +32,7 @@ pub record Setting : Type 0 where
   pub read : Texts
   pub used : Texts
   pub distinct : AreDistinct (map (bare_text n.words) n.vars)
-  pub again : (s : Sym) → IsWordKnown n.words s → word_in read (bare_text n.words s) ≡ s
+  pub again : (s : Sym) → IsWordPlaced n.words s → word_in read (bare_text n.words s) ≡ s
   pub state : text_of n.words 0 ≡ codes "state"
 
 abbrev pub names_of : Setting → Texts

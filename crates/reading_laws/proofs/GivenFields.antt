@@ -19,7 +19,7 @@ use Rattle.defs_text.specs.Runs.{fits_integer}
 use Rattle.defs_read.specs.FieldExpansion.{symbol_of, atom_of, test_by_sign, test_by, test_of, tests_of, simples_of, field_of}
 use Rattle.defs_read.specs.FreshNames.{Fresh, Expanded, expanded, then_expand}
 use Rattle.defs_read.specs.Grammar.{Constant, named, number, Single, a_variable, a_constant, Simple, one_of, tested, FieldTree, braced, single}
-use Rattle.defs_read.specs.Sayings.{IsWordKnown, is_place}
+use Rattle.defs_read.specs.Sayings.{IsWordPlaced, is_place}
 use Rattle.defs_read.specs.Spelling.{Tokens, spelled_constant, spelled_single, spelled_simple, spelled_field}
 use Rattle.reading_laws.specs.Lawful.{AllOf}
 use Rattle.reading_laws.specs.Printable.{IsConstant, IsAtom, IsAny, IsTest, IsPrintedField, met_after}
@@ -38,8 +38,8 @@ placed_at text i n (x ∷ words) e = go (bytes_eq text x) refl e (λ h. placed_a
     go false f h later = let p = later h in (suc p.0, omega (arith, p.1), omega (arith, p.2), p.3)
 
 -- a text that has a place is a known word
-pub word_known : (words : Texts) (text : List ℕ) (n : ℕ) → place_of words text ≡ Some n → IsWordKnown words (Word n) × (text_of words n ≡ text)
-word_known words text n e = (ap₂ (λ (a b : Bool). a && b) below place, found)
+pub word_placed : (words : Texts) (text : List ℕ) (n : ℕ) → place_of words text ≡ Some n → IsWordPlaced words (Word n) × (text_of words n ≡ text)
+word_placed words text n e = (ap₂ (λ (a b : Bool). a && b) below place, found)
   where
     p : (k : ℕ) × (n ≡ 0 + k) × (k < length words) × (slice_get words k ≡ Some text)
     p = placed_at text 0 n words e
@@ -123,7 +123,7 @@ given_then s f e r ok other x y = record {
 
 pub constant_given : (s : Source) (after : Texts) (c : Constant) → Later s.known after → IsOf s (spelled_constant c) → IsConstant after (symbol_of s.known c)
 constant_given s after (named text bare) later h =
-    let k = word_known after text h.1.0 (later text h.1.0 h.1.1) in
+    let k = word_placed after text h.1.0 (later text h.1.0 h.1.1) in
     subst (λ o. IsConstant after (Word (unwrap_or o 0))) (sym h.1.1) (k.0, subst IsUtf8 (sym k.1) h.0)
 constant_given s after (number z) later h = h
 

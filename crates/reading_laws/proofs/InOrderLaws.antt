@@ -1,6 +1,6 @@
 -- A production numbered in the order of its text differs in names alone, and has the same text.
 use Rattle.std.specs.Prelude.{codes, flat_map, map}
-use Rattle.std.proofs.Common.{◌≡◌, refl, ◌∙◌, [], ◌∷◌, ◌++◌, List, ℕ, zero, suc}
+use Rattle.std.proofs.Common.{◌≡◌, refl, ◌∙◌, [], ◌∷◌, ◌++◌, List, ℕ}
 use Rattle.soar_sym.specs.Words.{Texts}
 use Rattle.soar_sym.specs.declared.symbol.Sym.{Sym}
 use Rattle.soar_rule.specs.declared.cond.Atom.{Atom}
@@ -14,7 +14,7 @@ use Rattle.defs_read.specs.Printing.{doc_lines, kind_lines, support_lines, inden
 use Rattle.defs_read.specs.PrintingConditions.{name_at}
 use Rattle.defs_text.specs.Symbols.{symbol_text}
 use Rattle.reading_laws.specs.InOrder.{in_text_order}
-use Rattle.reading_laws.specs.Printable.{variables_in}
+use Rattle.soar_rule.specs.Alike.{variables_in}
 use Rattle.reading_laws.specs.WayBack.{printed}
 use Rattle.rule_laws.proofs.OccurrenceLaws.{each_among}
 use Rattle.rule_laws.proofs.OccurrencePlaces.{place_apart}

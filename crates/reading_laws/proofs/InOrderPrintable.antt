@@ -18,7 +18,8 @@ use Rattle.rule_laws.proofs.RenumberedVariables.{joined, conditions_variables, a
 use Rattle.defs_read.specs.FreshNames.{has_name, place_of_name}
 use Rattle.defs_read.specs.PrintingConditions.{name_at, bare_text}
 use Rattle.reading_laws.specs.Lawful.{AllOf, IfThere}
-use Rattle.reading_laws.specs.Printable.{IsWord, IsNaming, IsSome, AreConditions, IsPrintedAction, AreDistinct, met_after, variables_in, IsPrintable}
+use Rattle.soar_rule.specs.Alike.{variables_in}
+use Rattle.reading_laws.specs.Printable.{IsWord, IsNaming, IsSome, AreConditions, IsPrintedAction, AreDistinct, met_after, IsPrintable}
 use Rattle.reading_laws.proofs.InOrderLaws.{order_of, order_among, placed}
 use Rattle.reading_laws.proofs.NameLaws.{name_of, place_met}
 use Rattle.rule_laws.proofs.OccurrenceLaws.{NoneTwice, none_twice, stands_first, few_below}

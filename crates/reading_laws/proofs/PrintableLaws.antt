@@ -18,7 +18,7 @@ use Rattle.defs_read.specs.Expansion.{name_in, names_in, with_kind, kind_of, pro
 use Rattle.defs_read.specs.FreshNames.{Fresh, has_name, Expanded}
 use Rattle.defs_read.specs.Grammar.{named, part_and, Flag, operator_support, instance_support, is_default, is_chunk, Tree}
 use Rattle.defs_read.specs.PrintingConditions.{bare_text}
-use Rattle.defs_read.specs.Sayings.{IsWordKnown}
+use Rattle.defs_read.specs.Sayings.{IsWordPlaced}
 use Rattle.defs_read.specs.Spelling.{bare_word, spelled_option, spelled_part, spelled_parts, spelled_action, flag_text, spelling}
 use Rattle.reading_laws.specs.Lawful.{AllOf, IfThere}
 use Rattle.reading_laws.specs.Printable.{IsWord, IsName, IsNaming, IsAny, AreDistinct, met_after}
@@ -28,7 +28,7 @@ use Rattle.reading_laws.specs.WayBack.{tokens_in, ReadIsPrintable}
 use Rattle.reading_laws.proofs.ExactLaws.{read_is_spelled}
 use Rattle.reading_laws.proofs.FineLaws.{HasPlace, Source, Fine, Given, all_joined, all_said, place_with}
 use Rattle.reading_laws.proofs.GivenConditions.{AreListed, conditions_of, variables_of, some_of, part_given, parts_given}
-use Rattle.reading_laws.proofs.GivenFields.{Later, IsOf, AreOf, all_front, all_behind, word_known, constant_given, met_joined}
+use Rattle.reading_laws.proofs.GivenFields.{Later, IsOf, AreOf, all_front, all_behind, word_placed, constant_given, met_joined}
 use Rattle.reading_laws.proofs.GivenMakes.{AreActions, actions_given}
 use Rattle.reading_laws.proofs.SoundLaws.{run_is_utf8, texts_are_sound}
 use Rattle.reading_laws.proofs.WordLaws.{same_bytes, kept_by_all}
@@ -97,8 +97,8 @@ tokens_of s (t ∷ tokens) sound placed used = go t.says sound.0 placed used (λ
 
 -- ---- names
 
-naming_of : (after : Texts) (name : List ℕ) → HasPlace after name → IsWordKnown after (word_in after name) × (bare_text after (word_in after name) ≡ name)
-naming_of after name p = subst (λ o. IsWordKnown after (Word (unwrap_or o 0)) × (text_of after (unwrap_or o 0) ≡ name)) (sym p.1) (word_known after name p.0 p.1)
+naming_of : (after : Texts) (name : List ℕ) → HasPlace after name → IsWordPlaced after (word_in after name) × (bare_text after (word_in after name) ≡ name)
+naming_of after name p = subst (λ o. IsWordPlaced after (Word (unwrap_or o 0)) × (text_of after (unwrap_or o 0) ≡ name)) (sym p.1) (word_placed after name p.0 p.1)
 
 namings_are : (after names : Texts) → AllOf (HasPlace after) names → AllOf IsName names → AllOf (IsNaming after) (map (word_in after) names)
 namings_are after [] p h = tt
@@ -163,7 +163,7 @@ pub read_is_printable : ReadIsPrintable
 unfolding production_of
 read_is_printable words more text tree grown small e few =
     record {
-      state = (word_known after (codes "state") 0 (later (codes "state") 0 (in_known (codes "state") 0 refl))).1;
+      state = (word_placed after (codes "state") 0 (later (codes "state") 0 (in_known (codes "state") 0 refl))).1;
       name = constant_given s after (named tree.name tree.bare) later parts.name;
       doc = doc_is s tree.doc parts.doc;
       kind = no_justification kind.User tree.flags (λ h. absurd (cc));
@@ -216,7 +216,7 @@ read_is_printable words more text tree grown small e few =
 
     super : IsWord after (Word 5)
     super =
-        let k = word_known after (codes "superstate") 5 (later (codes "superstate") 5 (in_known (codes "superstate") 5 refl)) in
+        let k = word_placed after (codes "superstate") 5 (later (codes "superstate") 5 (in_known (codes "superstate") 5 refl)) in
         (k.0, subst IsUtf8 (sym k.1) (run_is_utf8 (codes "superstate") refl))
 
     fine : Fine s start

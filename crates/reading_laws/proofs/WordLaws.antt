@@ -11,14 +11,14 @@ use Rattle.soar_sym.specs.declared.symbol.Sym.TheVariants.{Ident, Word, Int}
 use Rattle.defs_text.specs.Lexing.{Spelled}
 use Rattle.defs_text.specs.Numbered.{word_in, token_texts, words_after}
 use Rattle.defs_read.specs.PrintingConditions.{bare_text}
-use Rattle.defs_read.specs.Sayings.{IsWordKnown, is_place}
+use Rattle.defs_read.specs.Sayings.{IsWordPlaced, is_place}
 use Rattle.reading_laws.proofs.TextLaws.{both}
 
 pub same_bytes : (x : List ℕ) → bytes_eq x x ≡ true
 same_bytes x = (bytes_eq-Decides x x).1 refl
 
 -- a known word stands at the place of its text
-pub known_place : (words : Texts) (w : ℕ) → IsWordKnown words (Word w) → place_of words (text_of words w) ≡ Some w
+pub known_place : (words : Texts) (w : ℕ) → IsWordPlaced words (Word w) → place_of words (text_of words w) ≡ Some w
 known_place words w known = go (place_of words (text_of words w)) (both (nat_lt w (length words)) (is_place words w) known).1
   where
     go : (o : Option ℕ) → elim o as (λ _. Bool) [ Some n ↦ n == w | None ↦ false ] ≡ true → o ≡ Some w
@@ -32,7 +32,7 @@ first_place (x ∷ words) e =
     ap (λ t. cond t (Some 0) (position_from (bytes_eq (codes "state")) (0 + 1) words)) (ap (bytes_eq (codes "state")) e ∙ same_bytes (codes "state"))
 
 -- a word of the table with that text is the first
-pub first_word : (words : Texts) (w : ℕ) → text_of words 0 ≡ codes "state" → IsWordKnown words (Word w) → text_of words w ≡ codes "state" → w ≡ 0
+pub first_word : (words : Texts) (w : ℕ) → text_of words 0 ≡ codes "state" → IsWordPlaced words (Word w) → text_of words w ≡ codes "state" → w ≡ 0
 first_word words w state known e = ap (λ o. unwrap_or o 0) (sym (known_place words w known) ∙ ap (place_of words) e ∙ first_place words state)
 
 -- ---- a table that has grown
@@ -58,7 +58,7 @@ kept_by_all words [] text n e = e
 kept_by_all words (other ∷ texts) text n e = kept_by_all (with_text words other) texts text n (kept_by_one words text other n e)
 
 -- a known word is found again by its text, also once tokens were read
-pub word_again : (words : Texts) (tokens : List Spelled) (s : Sym) → IsWordKnown words s → word_in (words_after words tokens) (bare_text words s) ≡ s
+pub word_again : (words : Texts) (tokens : List Spelled) (s : Sym) → IsWordPlaced words s → word_in (words_after words tokens) (bare_text words s) ≡ s
 word_again words tokens (Word w) known = ap (λ o. Word (unwrap_or o 0)) (kept_by_all words (token_texts tokens) (text_of words w) w (known_place words w known))
 word_again words tokens (Ident letter count) known = absurd (cc)
 word_again words tokens (Int value) known = absurd (cc)

@@ -1,5 +1,5 @@
 -- The productions whose printed text is read back to them.
-use Rattle.std.specs.Prelude.{◌≡◌, ℕ, suc, true, false, ◌==◌, nat_lt, List, [], ◌∷◌, ◌++◌, map, flat_map, length, Option, Some, None, codes, if◌then◌else◌, IsUtf8}
+use Rattle.std.specs.Prelude.{◌≡◌, ℕ, suc, true, false, ◌==◌, nat_lt, List, [], ◌∷◌, ◌++◌, map, length, Option, Some, None, codes, if◌then◌else◌, IsUtf8}
 use Rattle.std.specs.List.{list_all}
 use Rattle.soar_sym.specs.Words.{Texts, text_of}
 use Rattle.soar_sym.specs.declared.symbol.Sym.{Sym}
@@ -13,19 +13,20 @@ use Rattle.soar_rule.specs.declared.cond.Pattern.{Pattern}
 use Rattle.soar_rule.specs.declared.production.Kind.TheVariants as kind
 use Rattle.soar_rule.specs.Conditions.{Condition, positive, negated, conjunctive, Conditions, no_more, condition_and}
 use Rattle.soar_rule.specs.Productions.{ValueOf, atom_value, call_value, ValuesOf, no_values, value_and, PreferenceOf, ActionOf, makes, writes, halts, ProductionOf}
-use Rattle.soar_rule.specs.Variables.{variables_of_conditions, variables_of_action, referent_value}
+use Rattle.soar_rule.specs.Alike.{variables_in}
+use Rattle.soar_rule.specs.Variables.{referent_value}
 use Rattle.defs_text.specs.Bytes.{is_run_byte}
 use Rattle.defs_text.specs.Runs.{a_variable, run_kind, fits_integer}
 use Rattle.defs_read.specs.FreshNames.{has_name}
 use Rattle.defs_read.specs.PrintingConditions.{bare_text}
-use Rattle.defs_read.specs.Sayings.{IsWordKnown}
+use Rattle.defs_read.specs.Sayings.{IsWordPlaced}
 use Rattle.reading_laws.specs.Lawful.{AllOf, IfThere, Takes}
 
 -- ---- symbols
 
 -- a word of the table, whose text is UTF-8
 abbrev pub IsWord : Texts → Sym → Type 0
-IsWord words s = IsWordKnown words s × IsUtf8 (bare_text words s)
+IsWord words s = IsWordPlaced words s × IsUtf8 (bare_text words s)
 
 -- a word, or an integer of 64 bits; identifiers have no text in a production
 abbrev pub IsConstant : Texts → Sym → Type 0
@@ -39,7 +40,7 @@ IsName name = (list_all is_run_byte name ≡ true) × (run_kind (60 ∷ (name ++
 
 -- a word of the table that names a variable
 abbrev pub IsNaming : Texts → Sym → Type 0
-IsNaming words s = IsWordKnown words s × IsName (bare_text words s)
+IsNaming words s = IsWordPlaced words s × IsName (bare_text words s)
 
 abbrev pub IsAtom : Texts → Atom → Type 0
 IsAtom words (Const s) = IsConstant words s
@@ -120,10 +121,6 @@ AreDistinct (name ∷ names) = (has_name names name ≡ false) × AreDistinct na
 abbrev pub met_after : ℕ → List ℕ → Option ℕ
 met_after met [] = Some met
 met_after met (v ∷ variables) = if nat_lt v met then met_after met variables else if v == met then met_after (suc met) variables else None
-
--- the variables as they stand in the text
-abbrev pub variables_in : ProductionOf → List ℕ
-variables_in p = variables_of_conditions p.conditions ++ flat_map variables_of_action p.actions
 
 -- What a production that was read meets; the first word of a table is `state`. The variables are numbered by their first occurrence.
 pub record IsPrintable (words : Texts) (p : ProductionOf) : Type 0 where

@@ -1,17 +1,15 @@
 -- What a bare word behind `print` asks for.
-use Rattle.std.proofs.Common.{sym, ◌≡◌, ℕ, ◌||◌, Bool, true, false, List, [], ◌∷◌, Option, Some, None, refl, ap, ◌∙◌}
+use Rattle.std.proofs.Common.{◌≡◌, ℕ, ◌||◌, Bool, true, false, List, [], ◌∷◌, Option, Some, None, refl, ap, ◌∙◌}
 use Rattle.std.specs.Prelude.{slice_get, unwrap_or, option_and_then, option_map, if◌then◌else◌, codes}
 use Rattle.std.specs.Str.{bytes_eq}
-use Rattle.soar_sym.specs.Words.{Texts, text_of}
+use Rattle.soar_sym.specs.Words.{Texts, text_of, IsTable}
 use Rattle.soar_sym.specs.declared.symbol.Sym.TheVariants.{Word}
 use Rattle.defs_text.specs.Numbered.{word_in}
 use Rattle.defs_text.specs.Symbols.{is_identifier_form}
-use Rattle.defs_read.specs.Sayings.{IsWordKnown}
 use Rattle.defs_run.specs.Arguments.{bare, identifier_of, id_of, is_small_form, name_of}
 use Rattle.defs_run.specs.Orders.{Order, is_symbol, print_id, print_name, print_memory, print_rules, print_chunks}
 use Rattle.defs_run.specs.Present.{built_print, print_order}
 use Rattle.soar_app.specs.Asked.{is_listing}
-use Rattle.soar_app.proofs.WordLemmas.{word_of_text}
 
 -- where the word asks for no list
 abbrev unlisted : Texts → List ℕ → Option Order
@@ -62,9 +60,9 @@ named words word text its listing is = by (is_identifier_form text || is_small_f
         ∙ ap (λ s. Some (print_name s)) its))
 
 -- a name, which is the word of the token
-pub bare_name : (words : Texts) (word : ℕ) (text : List ℕ) → IsWordKnown words (Word word) → slice_get words word ≡ Some text → is_listing text ≡ false
+pub bare_name : (words : Texts) (word : ℕ) (text : List ℕ) → IsTable words → slice_get words word ≡ Some text → is_listing text ≡ false
     → None ≡ (if is_identifier_form text || is_small_form text then Some (identifier_of text) else None)
     → print_order words (bare (text_of words word) ∷ []) ≡ Some (print_name (Word word))
-bare_name words word text known at listing is =
+bare_name words word text table at listing is =
     let same : text_of words word ≡ text = ap (λ o. unwrap_or o []) at in
-    ap (λ t. print_order words (bare t ∷ [])) same ∙ named words word text (ap (word_in words) (sym same) ∙ word_of_text words word known) listing is
+    ap (λ t. print_order words (bare t ∷ [])) same ∙ named words word text (ap (λ o. Word (unwrap_or o 0)) (table.once word text at)) listing is

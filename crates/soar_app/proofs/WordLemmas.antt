@@ -1,17 +1,18 @@
 -- Words of tokens, and the table that they joined.
-use Rattle.std.proofs.Common.{◌≡◌, ℕ, suc, ◌+◌, ◌<◌, ◌≤◌, ◌==◌, nat_lt, Bool, true, false, ◌||◌, ◌&&◌, List, [], ◌∷◌, ◌++◌, length, map, Option, Some, None, length-append, refl, sym, ap, ◌∙◌, arith}
-use Rattle.std.proofs.lemmas.Bool.{eq-eqb}
+use Rattle.std.proofs.Common.{◌≡◌, ℕ, suc, ◌+◌, ◌<◌, ◌≤◌, nat_lt, Bool, true, false, ◌||◌, List, [], ◌∷◌, ◌++◌, length, map, Some, length-append, refl, sym, ap, ◌∙◌, arith}
+use Rattle.std.proofs.lemmas.Bool.{ltb-true}
 use Rattle.std.proofs.lemmas.Bool.Decides.{nat_tests}
+use Rattle.std.proofs.lemmas.Option.{slice_get-get_or, unwrap_or-slice_get}
 use Rattle.std.specs.Prelude.{unwrap_or, slice_get}
 use Rattle.std.specs.List.{list_any, position_from}
 use Rattle.std.specs.Str.{bytes_eq}
 use Rattle.std.proofs.lemmas.Slice.Eq.{bytes_eq-Decides}
-use Rattle.soar_sym.specs.Words.{Texts, has_text, with_text, with_texts, place_of, text_of, IsKnown}
+use Rattle.soar_sym.specs.Words.{Texts, has_text, with_text, with_texts, place_of, text_of, IsTable, IsKnown}
 use Rattle.soar_sym.specs.declared.symbol.Sym.{Sym}
 use Rattle.soar_sym.specs.declared.symbol.Sym.TheVariants.{Ident, Word, Int}
 use Rattle.defs_text.specs.Lexing.{Saying, mark, arrow, open_set, close_set, sign, variable_named, integer, word_of, documentation, Spelled}
 use Rattle.defs_text.specs.Numbered.{word_in, kind_in, numbered, texts_before, token_texts, words_after}
-use Rattle.defs_read.specs.Sayings.{is_place, is_word_known, IsWordKnown, IsKindKnown, AreTokensKnown}
+use Rattle.defs_read.specs.Sayings.{is_word_known, IsWordKnown, IsKindKnown, AreTokensKnown}
 use Rattle.soar_app.specs.Known.{IsSayingIn, AreSpelledIn}
 
 -- ---- the table only grows
@@ -93,30 +94,17 @@ text_in words text has =
     let at : (n : ℕ) × (place_of words text ≡ Some n) × (n < length words) × (text_of words n ≡ text) = found words text has in
     ap (λ o. text_of words (unwrap_or o 0)) at.1 ∙ at.3
 
-place_is : (words : Texts) (text : List ℕ) (n : ℕ) → place_of words text ≡ Some n → text_of words n ≡ text → is_place words n ≡ true
-place_is words text n place is =
-    ap (λ o. elim o as (λ _. Bool) [ Some m ↦ m == n | None ↦ false ]) (ap (place_of words) is ∙ place) ∙ eq-eqb n n refl
-
 word_known : (words : Texts) (text : List ℕ) → has_text words text ≡ true → IsWordKnown words (word_in words text)
 word_known words text has =
     let at : (n : ℕ) × (place_of words text ≡ Some n) × (n < length words) × (text_of words n ≡ text) = found words text has in
     let within : nat_lt at.0 (length words) ≡ true = grind (arith, nat_tests, at.2) in
-    ap (λ o. is_word_known words (Word (unwrap_or o 0))) at.1 ∙ (ap (λ b. b && is_place words at.0) within ∙ place_is words text at.0 at.1 at.3)
+    ap (λ o. is_word_known words (Word (unwrap_or o 0))) at.1 ∙ within
 
-pub both_true : (a b : Bool) → (a && b) ≡ true → (a ≡ true) × (b ≡ true)
-both_true true b is = (refl, is)
-both_true false b is = absurd (cc)
-
--- a word of a token is the word of its own text
-pub word_of_text : (words : Texts) (word : ℕ) → IsWordKnown words (Word word) → word_in words (text_of words word) ≡ Word word
-word_of_text words word known = by (place_of words (text_of words word)) refl (both_true (nat_lt word (length words)) (is_place words word) known).1
-  where
-    by : (o : Option ℕ) → place_of words (text_of words word) ≡ o → is_place words word ≡ true → word_in words (text_of words word) ≡ Word word
-    by (Some n) e is =
-        let same : (n == word) ≡ true = sym (ap (λ o. elim o as (λ _. Bool) [ Some m ↦ m == word | None ↦ false ]) e) ∙ is in
-        let it : n ≡ word = grind (arith, nat_tests) in
-        ap (λ o. Word (unwrap_or o 0)) e ∙ ap Word it
-    by None e is = absurd (let no : false ≡ true = sym (ap (λ o. elim o as (λ _. Bool) [ Some m ↦ m == word | None ↦ false ]) e) ∙ is in cc)
+-- each word of a table is the word of its own text
+pub word_of_text : (words : Texts) (word : ℕ) → IsTable words → IsWordKnown words (Word word) → word_in words (text_of words word) ≡ Word word
+word_of_text words word table known =
+    let within : word < length words = ltb-true word (length words) known in
+    ap (λ o. Word (unwrap_or o 0)) (table.once word (text_of words word) (slice_get-get_or words word [] within ∙ ap Some (sym (unwrap_or-slice_get words word []))))
 
 -- ---- tokens
 

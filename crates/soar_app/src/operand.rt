@@ -3,6 +3,7 @@ ghost use Rattle.std.specs.Prelude.{◌≡◌, ◌≤◌, ◌-◌, ◌||◌, if�
 ghost use Rattle.soar_sym.specs.Words.{IsKnown, text_of};
 ghost use Rattle.defs_read.specs.Sayings.{IsWordKnown};
 ghost use Rattle.defs_text.specs.Bytes.{is_capital, is_small};
+ghost use Rattle.defs_text.specs.Numbered.{word_in};
 ghost use Rattle.defs_text.specs.Symbols.{is_identifier_form};
 ghost use Rattle.defs_run.specs.Arguments.{attribute_of, bare_symbol, id_of, identifier_of, is_small_form, operand_of};
 ghost use Rattle.defs_run.specs.Orders.{is_label, is_symbol};
@@ -41,7 +42,7 @@ pub fn attribute_of(table: &SymTable, argument: Argument) -> Option<Sym>
 {
     match argument {
         Argument::Bare(word) => Some(bare_symbol(table, word)),
-        Argument::Barred(word) => Some(Sym::Word(word)),
+        Argument::Barred(word) => Some(word_symbol(table, word)),
         Argument::Number(number) => Some(Sym::Int(number as i64)),
         Argument::Signed(value) => Some(Sym::Int(value)),
         Argument::Label(_) | Argument::Caret | Argument::Other => None,
@@ -84,6 +85,16 @@ fn as_operand(symbol: Option<Sym>) -> Option<Operand>
     }
 }
 
+/// The word of a word's text, which is the word.
+pub fn word_symbol(table: &SymTable, word: u32) -> Sym
+    requires { IsWordKnown table.now (Sym.Word word) }
+    ensures symbol { result ≡ word_in table.now (text_of table.now word) }
+    ensures known { IsKnown table.now result }
+{
+    table.law();
+    Sym::Word(word)
+}
+
 /// The symbol of a word that stands bare: an identifier, where it has the form of one.
 fn bare_symbol(table: &SymTable, word: u32) -> Sym
     requires { IsWordKnown table.now (Sym.Word word) }
@@ -92,7 +103,7 @@ fn bare_symbol(table: &SymTable, word: u32) -> Sym
 {
     match capital_identifier(table.text(word).as_bytes()) {
         Some(id) => id,
-        None => Sym::Word(word),
+        None => word_symbol(table, word),
     }
 }
 

@@ -14,7 +14,7 @@ ghost use Rattle.soar_app.specs.Behind.{AreArgumentsKnown, IsArgumentKnown, argu
 ghost use Rattle.soar_app.specs.Known.{AreSpelledIn, IsAdditionKnown, IsOrderRead};
 
 use crate::argument::{Argument, arguments_behind};
-use crate::operand::{attribute_of, id_of, identifier_of, label_of, operand_of};
+use crate::operand::{attribute_of, id_of, identifier_of, label_of, operand_of, word_symbol};
 use defs_run::{Addition, Operand, Order};
 use defs_text::Token;
 use soar_sym::{List, NoMemory, Sym, SymTable};
@@ -209,7 +209,7 @@ fn print_alone(
 {
     match argument {
         Argument::Bare(word) => Ok(print_bare(table, word)),
-        Argument::Barred(word) => Ok(Some(Order::Show(Sym::Word(word)))),
+        Argument::Barred(word) => Ok(Some(Order::Show(word_symbol(table, word)))),
         Argument::Label(name) => Ok(Some(Order::Print(label_of(alloc, table, name)?))),
         _ => Ok(None),
     }
@@ -222,6 +222,7 @@ fn print_bare(table: &SymTable, word: u32) -> Option<Order>
     ensures order { option_map order_seen result ≡ print_order table.now (bare (text_of table.now word) ∷ []) }
     ensures read { IsOrderRead table.now result }
 {
+    table.law();
     let text = table.text(word);
     if is_listing(text) {
         return None;

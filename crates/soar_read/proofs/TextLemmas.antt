@@ -1,14 +1,14 @@
 -- Words and their texts.
-use Rattle.std.proofs.Common.{◌≡◌, ℕ, zero, suc, ◌+◌, ◌<◌, ◌==◌, ◌&&◌, ◌||◌, ◌++◌, Bool, true, false, cond, List, [], ◌∷◌, length, Option, Some, None, refl, sym, ap, ◌∙◌, arith}
+use Rattle.std.proofs.Common.{◌≡◌, ℕ, zero, suc, ◌+◌, ◌<◌, ◌==◌, ◌&&◌, Bool, true, false, cond, List, [], ◌∷◌, length, Option, Some, None, refl, sym, ap, ◌∙◌, arith}
 use Rattle.std.specs.Prelude.{unwrap_or, slice_get}
-use Rattle.std.specs.List.{list_any, position_from}
-use Rattle.std.specs.Option.{option_map}
+use Rattle.std.specs.List.{position_from}
 use Rattle.std.specs.Str.{bytes_eq}
-use Rattle.std.proofs.lemmas.Option.{slice_get_within}
+use Rattle.std.proofs.lemmas.Option.{slice_get_within, slice_get-get_or, unwrap_or-slice_get}
+use Rattle.std.proofs.lemmas.List.{length-take}
 use Rattle.std.proofs.lemmas.Slice.Eq.{bytes_eq-Decides}
 use Rattle.std.proofs.lemmas.Bool.{false≢true, lt-ltb, eqb-true, eq-eqb}
 use Rattle.soar_sym.specs.declared.symbol.Sym.TheVariants.{Word}
-use Rattle.soar_sym.specs.Words.{Texts, place_of, text_of, with_text, word_of}
+use Rattle.soar_sym.specs.Words.{Texts, place_of, text_of, IsTable, IsVocabulary}
 use Rattle.defs_text.specs.Numbered.{word_in}
 use Rattle.soar_read.specs.Words.{is_at, is_own}
 
@@ -51,28 +51,15 @@ place_within words text n h = slice_get_within words n text (text_at words text 
 
 -- ---- a word that is found by its text
 
-any_at : {X : Type 0} (p : X → Bool) (xs : List X) (k : ℕ) (x : X) → slice_get xs k ≡ Some x → p x ≡ true → list_any p xs ≡ true
-any_at p [] k x at here = absurd (cc)
-any_at p (y ∷ xs) zero x at here = let same : y ≡ x = cc in ap (λ b. b || list_any p xs) (ap p same ∙ here)
-any_at p (y ∷ xs) (suc k) x at here = by (p y) (any_at p xs k x at here)
-  where
-    by : (b : Bool) → list_any p xs ≡ true → (b || list_any p xs) ≡ true
-    by true h = refl
-    by false h = h
+-- each word of a table is
+pub own_of_table : (words : Texts) (w : ℕ) → IsTable words → w < length words → is_own words w ≡ true
+own_of_table words w table within =
+    both-true (lt-ltb w (length words) within)
+    (ap (is_at w) (table.once w (text_of words w) (slice_get-get_or words w [] within ∙ ap Some (sym (unwrap_or-slice_get words w [])))) ∙ eq-eqb w w refl)
 
--- the table that has a text is the same once it was read again
-pub with_text_known : (words : Texts) (text : List ℕ) (w : ℕ) → Some text ≡ slice_get words w → with_text words text ≡ words
-with_text_known words text w at =
-    ap (λ b. cond b words (words ++ text ∷ [])) (any_at (bytes_eq text) words w text (sym at) ((bytes_eq-Decides text text).1 refl))
-
-pub own_from_word : (words : Texts) (text : List ℕ) (w : ℕ) → slice_get words w ≡ Some text → word_of words text ≡ Some (Word w) → is_own words w ≡ true
-own_from_word words text w at found =
-    let is : text_of words w ≡ text = ap (λ o. unwrap_or o []) at in
-    both-true (lt-ltb w (length words) (slice_get_within words w text at)) (ap (λ t. is_at w (place_of words t)) is ∙ by (place_of words text) found)
-  where
-    by : (o : Option ℕ) → option_map Word o ≡ Some (Word w) → is_at w o ≡ true
-    by None e = absurd (cc)
-    by (Some n) e = let same : w ≡ n = cc in eq-eqb w n same
+-- a table has room for the word `superstate`
+pub room_of : (words : Texts) → IsVocabulary words → 5 < length words
+room_of words it = omega (arith, ap length it.first, length-take 24 words)
 
 pub place_of_own : (words : Texts) (w : ℕ) → is_own words w ≡ true → place_of words (text_of words w) ≡ Some w
 place_of_own words w own = by (place_of words (text_of words w)) (and-true own).1

@@ -89,13 +89,11 @@ variables_more words eq keys used w all own =
 
 pub record HasVariable (words : Texts) (old new : Uses) (eq : ℕ → ℕ → Bool) (w : ℕ) : Type 0 where
   pub own : is_own words w ≡ true
-  pub words_own : list_all (is_own words) new.words.keys ≡ true
   pub variables : new.variables.keys ≡ insert_key eq old.variables.keys w
   pub used : new.used ≡ old.used ++ w ∷ []
 
 pub with_dollar : (words : Texts) (old new : Uses) (eq : ℕ → ℕ → Bool) (w : ℕ) → AreUses words old → HasVariable words old new eq w → begins_dollar (text_of words w) ≡ true → new.dollars ≡ old.dollars ++ w ∷ [] → AreUses words new
 with_dollar words old new eq w are has dollar dollars = record {
-  own = has.words_own;
   variables = ap (list_all (is_variable words new.used)) has.variables ∙ ap (λ used. list_all (is_variable words used) (insert_key eq old.variables.keys w)) has.used ∙ variables_more words eq old.variables.keys old.used w are.variables has.own;
   known = ap (are_words_known words) has.used ∙ all_push (has_word words) old.used w are.known (and-true has.own).0;
   dollars = dollars ∙ ap (λ ds. ds ++ w ∷ []) are.dollars ∙ sym (ap (filter (λ v. begins_dollar (text_of words v))) has.used ∙ filter_push (λ v. begins_dollar (text_of words v)) old.used w ∙ ap (λ b. cond b (filter (λ v. begins_dollar (text_of words v)) old.used ++ w ∷ []) (filter (λ v. begins_dollar (text_of words v)) old.used)) dollar);
@@ -103,7 +101,6 @@ with_dollar words old new eq w are has dollar dollars = record {
 
 pub without_dollar : (words : Texts) (old new : Uses) (eq : ℕ → ℕ → Bool) (w : ℕ) → AreUses words old → HasVariable words old new eq w → begins_dollar (text_of words w) ≡ false → new.dollars ≡ old.dollars → AreUses words new
 without_dollar words old new eq w are has dollar dollars = record {
-  own = has.words_own;
   variables = ap (list_all (is_variable words new.used)) has.variables ∙ ap (λ used. list_all (is_variable words used) (insert_key eq old.variables.keys w)) has.used ∙ variables_more words eq old.variables.keys old.used w are.variables has.own;
   known = ap (are_words_known words) has.used ∙ all_push (has_word words) old.used w are.known (and-true has.own).0;
   dollars = dollars ∙ are.dollars ∙ sym (ap (filter (λ v. begins_dollar (text_of words v))) has.used ∙ filter_push (λ v. begins_dollar (text_of words v)) old.used w ∙ ap (λ b. cond b (filter (λ v. begins_dollar (text_of words v)) old.used ++ w ∷ []) (filter (λ v. begins_dollar (text_of words v)) old.used)) dollar);

@@ -1,4 +1,4 @@
--- The words of the tokens and of their variables, as the expansion keeps them.
+-- The words of the variables of a text, as the expansion keeps them.
 use Rattle.std.specs.Prelude.{◌≡◌, ℕ, Bool, true, ◌&&◌, List, filter}
 use Rattle.std.specs.List.{list_all}
 use Rattle.soar_sym.specs.Words.{Texts, text_of}
@@ -11,7 +11,6 @@ abbrev pub is_variable : Texts → List ℕ → ℕ → Bool
 is_variable words used w = is_own words w && has_name (texts_of words used) (text_of words w)
 
 pub record AreUses (words : Texts) (uses : Uses) : Type 0 where
-  pub own : list_all (is_own words) uses.words.keys ≡ true
   pub variables : list_all (is_variable words uses.used) uses.variables.keys ≡ true
   pub known : are_words_known words uses.used ≡ true
   pub dollars : uses.dollars ≡ filter (λ w. begins_dollar (text_of words w)) uses.used

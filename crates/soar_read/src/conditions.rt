@@ -14,12 +14,10 @@ use crate::fields::{copy_field, field, plain_field};
 use crate::names::{Names, fresh};
 use crate::source::Source;
 use soar_rule::{Atom, Cond, Field, Pattern};
-use soar_sym::{List, NoMemory, Sym};
+use soar_sym::architecture::SUPERSTATE;
+use soar_sym::{List, NoMemory};
 use soar_tree::{AttributeTest, FieldTree, Part, ValueTest};
 use std::alloc::Global;
-
-/// The word `superstate`, the sixth of the architecture's.
-pub const SUPERSTATE: u32 = 5;
 
 fn triple(state: bool, id: Field, attr: Field, value: Field, accept: bool) -> Cond
     ensures { condition result ≡ triple_condition state id attr value accept }
@@ -222,7 +220,7 @@ fn group_tests(
     ensures kept { OnOk result (are_kept source.now names.new ≡ true) }
 {
     if tests.is_empty() {
-        let superstate = plain_field(source.alloc, Atom::Const(Sym::Word(SUPERSTATE)))?;
+        let superstate = plain_field(source.alloc, Atom::Const(SUPERSTATE))?;
         let (cond, _) = to_fresh(source, names, state, id, superstate)?;
         return single(source.alloc, cond);
     }

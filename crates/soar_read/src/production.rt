@@ -14,7 +14,7 @@ ghost use Rattle.soar_read.specs.Using.{AreUses};
 ghost use Rattle.soar_read.specs.Words.{texts_of};
 
 use crate::actions::actions;
-use crate::conditions::{SUPERSTATE, conditions};
+use crate::conditions::conditions;
 use crate::fault::ReadFault;
 use crate::flags::{kind_of, support_of};
 use crate::joining::join_all;
@@ -106,7 +106,7 @@ fn joined(
     Ok(complete(body, vars))
 }
 
-/// The production of a tree that the tokens spell. The names of its new variables join the table, which has the architecture's words.
+/// The production of a tree that the tokens spell. The names of its new variables join the table.
 pub fn production(
     alloc: Global,
     table: &mut SymTable,
@@ -117,9 +117,7 @@ pub fn production(
     ensures meant { IsMeant table.old table.new (meaning table.old tokens.now (tree_seen table.old tree.now)) result }
     ensures known { IfOk result (λ p. AreKnown table.new (symbols_of (production_seen p))) }
 {
-    if table.word_count() <= SUPERSTATE {
-        return Err(ReadFault::NoMemory);
-    }
+    table.law();
     let uses = uses_of(alloc, table, tokens)?;
     joined(alloc, table, &uses, tree)
 }

@@ -8,7 +8,7 @@ use crate::uses::Uses;
 use soar_sym::{NoMemory, Sym, SymTable};
 use std::alloc::Global;
 
-/// The table of a tree's words, and the words of its text.
+/// The table of a tree's words, and the variables of its text.
 #[derive(Drop)]
 pub struct Source<'a> {
     pub alloc: Global,
@@ -18,16 +18,14 @@ pub struct Source<'a> {
 }
 
 impl Source<'_> {
-    /// The word of a name's text, which is the name. Each name that a tree has stands in its text.
+    /// The word of a name's text, which is the name. Each name that a tree has is a word of the table.
     pub fn word(&self, name: Sym) -> Result<Sym, NoMemory>
         ensures { IfOk result (λ s. s ≡ word_in self.now.table.now (word_text self.now.table.now name)) }
     {
-        let Sym::Word(word) = name else {
-            return Err(NoMemory);
-        };
-        if !self.uses.words.contains(&word) {
-            return Err(NoMemory);
+        self.table.law();
+        match name {
+            Sym::Word(word) if word < self.table.word_count() => Ok(name),
+            _ => Err(NoMemory),
         }
-        Ok(name)
     }
 }

@@ -7,5 +7,5 @@ use Rattle.soar_app.proofs.order.print_bare.Goals as goal
 
 pub returns-in-None-clause-order : goal.returns-in-None-clause-order
 returns-in-None-clause-order c =
-    sym (bare_name c.args.table.now c.args.word c.text-text.result.now c.requires c.text-text.ensures (sym c.if-is_listing.ensures)
+    sym (bare_name c.args.table.now c.args.word c.text-text.result.now c.law.ensures.table c.text-text.ensures (sym c.if-is_listing.ensures)
     (subst (λ (text : List ℕ). None ≡ (if is_identifier_form text || is_small_form text then Some (identifier_of text) else None)) c.as_bytes.ensures.value c.in-None.ensures))

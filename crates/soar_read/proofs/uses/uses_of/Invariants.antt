@@ -7,8 +7,7 @@ use Rattle.soar_read.proofs.uses.uses_of.Given as goal
 
 abbrev pub invariant-tokens : goal.invariant-tokens
 invariant-tokens l = record {
-  same : l.table ≡ l.initial.table;
-  known : AreTokensKnown l.initial.table (drop l.token-index l.tokens);
-  are : AreUses l.initial.table l.uses;
-  used : texts_of l.initial.table l.uses.used ++ names_in (sayings l.initial.table (drop l.token-index l.tokens)) ≡ names_in (sayings l.initial.table l.tokens);
+  known : AreTokensKnown l.table (drop l.token-index l.tokens);
+  are : AreUses l.table l.uses;
+  used : texts_of l.table l.uses.used ++ names_in (sayings l.table (drop l.token-index l.tokens)) ≡ names_in (sayings l.table l.tokens);
 }
