@@ -1,5 +1,5 @@
 -- Bytes into tokens, which still hold their texts.
-use Rattle.std.specs.Prelude.{ℕ, zero, suc, ◌+◌, ◌-◌, Bool, true, false, ◌&&◌, ◌==◌, ℤ, List, [], ◌∷◌, length, take, drop, Option, Some, None, if◌then◌else◌}
+use Rattle.std.specs.Prelude.{ℕ, zero, suc, ◌+◌, ◌-◌, Bool, true, false, ◌&&◌, ◌==◌, not, ℤ, List, [], ◌∷◌, length, take, drop, Option, Some, None, if◌then◌else◌}
 use Rattle.std.specs.List.{prefix_len}
 use Rattle.defs_text.specs.Bytes.{is_blank, is_run_byte, is_mark}
 use Rattle.defs_text.specs.Runs.{RunKind, an_arrow, opens_set, closes_set, a_sign, a_variable, a_number, a_float, has_angle, a_word, run_kind, fits_integer, begins_digit}
@@ -25,7 +25,7 @@ pub record Spelled : Type 0 where
 pub data Fault : Type 0 where
   bad_byte open_string wide_number float_number : ℕ → Fault
 
--- what stands at the front: a token or a blank, with the number of its bytes, or a fault
+-- what stands at the front: a token, or a blank or a comment, with the number of its bytes, or a fault
 pub data Piece : Type 0 where
   token : Saying → ℕ → Piece
   nothing : ℕ → Piece
@@ -79,12 +79,12 @@ quoted_piece quote place says bytes (Some count) = inside_piece place says count
 
 -- what a byte begins
 pub data Front : Type 0 where
-  a_blank a_run a_mark a_bar a_quote no_front : Front
+  a_blank a_run a_mark a_bar a_quote a_comment no_front : Front
 
 abbrev pub front_at : ℕ → Front
 front_at b =
     if is_blank b then a_blank else if is_run_byte b then a_run else if is_mark b then a_mark
-    else if b == 124 then a_bar else if b == 34 then a_quote else no_front
+    else if b == 124 then a_bar else if b == 34 then a_quote else if b == 35 then a_comment else no_front
 
 abbrev pub piece_of : Front → ℕ → ℕ → List ℕ → Piece
 piece_of a_blank place b bytes = nothing 1
@@ -92,6 +92,7 @@ piece_of a_run place b bytes = run_piece place (run_of (b ∷ bytes)) (after_run
 piece_of a_mark place b bytes = token (mark b) 1
 piece_of a_bar place b bytes = quoted_piece 124 place quoted_word bytes (closing 124 bytes)
 piece_of a_quote place b bytes = quoted_piece 34 place documentation bytes (closing 34 bytes)
+piece_of a_comment place b bytes = nothing (suc (prefix_len (λ c. not (c == 10)) bytes))  -- up to the end of its line
 piece_of no_front place b bytes = fault (bad_byte place)
 
 -- the tokens up to the first fault, and the fault, if there is one

@@ -2,7 +2,7 @@ use soar_sym::{Sym, Text};
 use thiserror::Error;
 
 /// A token of the production language and of commands. Words and variables are words of a table.
-#[derive(Debug, Drop)]
+#[derive(Drop)]
 pub enum TokenKind {
     /// One of the bytes `(){}^.!~`.
     Mark(u8),
@@ -24,7 +24,7 @@ pub enum TokenKind {
 }
 
 /// A token, the byte at which it begins and the one behind it, counted from 0.
-#[derive(Debug, Drop)]
+#[derive(Drop)]
 pub struct Token {
     pub kind: TokenKind,
     pub start: u32,

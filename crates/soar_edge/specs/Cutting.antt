@@ -104,11 +104,3 @@ cuts_of closed bytes = cuts_from closed 0 1 bytes
 abbrev pub is_comment : Inside → Bool
 is_comment comment = true
 is_comment other = false
-
--- a blank in the place of each byte of a comment
-abbrev pub uncommented_from : Inside → List ℕ → List ℕ
-uncommented_from inside [] = []
-uncommented_from inside (b ∷ bytes) = let next = after_byte inside b in (if is_comment next then 32 else b) ∷ uncommented_from next bytes
-
-unfoldable pub uncommented : List ℕ → List ℕ
-uncommented bytes = uncommented_from open_text bytes

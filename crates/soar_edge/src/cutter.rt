@@ -13,14 +13,14 @@ use std::alloc::Global;
 use std::marker::Model;
 
 /// A command: its bytes from the first that is neither blank nor in a comment, and the number of its first line, from 1.
-#[derive(Debug, Drop)]
+#[derive(Drop)]
 pub struct Command {
     pub text: List<u8>,
     pub line: u64,
 }
 
 /// What stands next in a stream.
-#[derive(Debug, Drop)]
+#[derive(Drop)]
 pub enum Cut {
     /// A whole command.
     Whole(Command),

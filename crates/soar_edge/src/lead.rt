@@ -6,7 +6,7 @@ ghost use Rattle.soar_edge.specs.Leading.{IsLead};
 ghost use Rattle.soar_edge.specs.Scanning.{newlines};
 
 /// What stands behind blanks and comments.
-#[derive(Clone, Copy, Debug)]
+#[derive(Clone, Copy)]
 pub enum Lead {
     /// There is nothing else.
     Nothing,

@@ -9,7 +9,7 @@ use crate::scan::Scan;
 const MOST_BYTES: usize = 1 << 20;
 
 /// How far the command in front reaches.
-#[derive(Clone, Copy, Debug)]
+#[derive(Clone, Copy)]
 pub enum Reach {
     /// It ends behind so many bytes.
     Ends(usize),

@@ -4,7 +4,7 @@ ghost use Rattle.soar_edge.specs.Cutting.{after_byte, after_open, after_quoted, 
 ghost use Rattle.soar_edge.specs.Scanning.{inside_of};
 
 /// What a byte stands in.
-#[derive(Clone, Copy, Debug)]
+#[derive(Clone, Copy)]
 pub enum Inside {
     OpenText,
     Comment,
@@ -72,7 +72,7 @@ fn after_quoted(byte: u8, quote: u8, here: Inside, escaped: Inside) -> Inside
 }
 
 /// How far a command was scanned: no byte up to here ends it.
-#[derive(Clone, Copy, Debug)]
+#[derive(Clone, Copy)]
 pub struct Scan {
     /// How many bytes were scanned.
     pub size: usize,

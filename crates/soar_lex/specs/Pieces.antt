@@ -34,13 +34,13 @@ IsFault piece refusal.NoMemory = ⊥
 
 -- the piece is this one
 abbrev pub IsFront : Piece → Result Cut LexFault → Type 0
-IsFront piece (Ok cut.Blank) = piece ≡ nothing 1
+IsFront piece (Ok (cut.Nothing count)) = piece ≡ nothing count
 IsFront piece (Ok (cut.Token says count)) = piece ≡ token (saying says) count
 IsFront piece (Err reason) = IsFault piece reason
 
 -- the number of its bytes
 abbrev pub bytes_of : Cut → ℕ
-bytes_of cut.Blank = 1
+bytes_of (cut.Nothing count) = count
 bytes_of (cut.Token says count) = count
 
 -- the piece at the front of a text that begins at a place

@@ -38,7 +38,7 @@ fn cut_piece(
     ensures { IsStep table.old table.new tokens.old tokens.new place rest.now result }
 {
     let (says, count) = match front(rest, place)? {
-        Piece::Blank => return Ok(1),
+        Piece::Nothing(count) => return Ok(count),
         Piece::Token(says, count) => (says, count),
     };
     let kind = named(alloc, table, says)?;

@@ -1,5 +1,5 @@
 // What stands at the front of a text.
-ghost use Rattle.std.specs.Prelude.{◌≡◌, ℕ, ◌+◌, ◌<◌, ◌≤◌, ◌^◌, List as ListOf, length, IfOk};
+ghost use Rattle.std.specs.Prelude.{◌≡◌, ℕ, ◌+◌, ◌<◌, ◌≤◌, ◌^◌, ◌==◌, not, List as ListOf, length, IfOk};
 ghost use Rattle.std.specs.List.{prefix_len};
 ghost use Rattle.std.specs.Str.{IsAscii};
 ghost use Rattle.defs_text.specs.Bytes.{is_run_byte};
@@ -30,10 +30,10 @@ pub enum Says<'a> {
     Quoted(&'a str),
 }
 
-/// A blank, or a token with the number of its bytes.
+/// A token, or a blank or a comment, with the number of its bytes.
 #[derive(Clone, Copy)]
 pub enum Piece<'a> {
-    Blank,
+    Nothing(usize),
     Token(Says<'a>, usize),
 }
 
@@ -49,7 +49,7 @@ pub fn front(text: &[u8], place: u32) -> Result<Piece<'_>, LexFault>
         None => unreachable!(),
     };
     if blank(first) {
-        Ok(Piece::Blank)
+        Ok(Piece::Nothing(1))
     } else if run_byte(first) {
         let (run, after) = split_run(text);
         run_front(run, after, place)
@@ -59,6 +59,8 @@ pub fn front(text: &[u8], place: u32) -> Result<Piece<'_>, LexFault>
         barred(after, place)
     } else if first == b'"' {
         quoted(after, place)
+    } else if first == b'#' {
+        Ok(Piece::Nothing(line_len(after) + 1))
     } else {
         Err(LexFault::BadByte(place))
     }
@@ -87,6 +89,14 @@ fn run_front<'a>(run: &'a [u8], after: &[u8], place: u32) -> Result<Piece<'a>, L
         Run::WideNumber if !begins_fraction(after) => Err(LexFault::WideNumber(place)),
         Run::Number(_) | Run::WideNumber | Run::Float => Err(LexFault::FloatNumber(place)),
     }
+}
+
+/// How many bytes stand before the end of the line.
+fn line_len(after: &[u8]) -> usize
+    ensures count { result ≡ prefix_len (λ c. not (c == 10)) after.now }
+    ensures within { result ≤ length after.now }
+{
+    after.iter().take_while(|byte| **byte != b'\n').count()
 }
 
 /// A word in bars, behind the first bar.

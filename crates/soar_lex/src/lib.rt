@@ -13,6 +13,3 @@ pub use bytes::{blank, capital, digit, run_byte};
 pub use cut::lex;
 pub use defs_text::{LexFault, Token, TokenKind};
 pub use run::{Run, run_kind};
-
-#[cfg(test)]
-mod tests;

@@ -8,7 +8,7 @@ ghost use Rattle.soar_lex.specs.Answers.{IsKind};
 use crate::number::{integer, is_float, is_integer};
 
 /// What a run of bytes is (Soar manual, production syntax).
-#[derive(Clone, Copy, Debug, PartialEq, Eq)]
+#[derive(Clone, Copy, PartialEq, Eq)]
 pub enum Run {
     Arrow,
     OpenSet,
@@ -136,6 +136,3 @@ fn has_no_angle(bytes: &[u8]) -> bool
 {
     bytes.iter().all(|b| !angle(*b))
 }
-
-#[cfg(test)]
-mod tests;

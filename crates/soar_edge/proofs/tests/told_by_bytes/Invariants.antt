@@ -1,5 +1,0 @@
-use Rattle.std.proofs.Common.{◌≡◌, false}
-use Rattle.soar_edge.proofs.tests.told_by_bytes.Given as goal
-
-abbrev pub invariant-bytes : goal.invariant-bytes
-invariant-bytes l = record { fed : l.cutter.fed ≡ l.byte-index; closed : l.cutter.closed ≡ false }
