@@ -13,7 +13,7 @@ use Rattle.soar_rule.specs.Variables.{is_among, with_each, plain_in_test, plain_
 use Rattle.soar_wm.specs.declared.element.Element.{Element}
 use Rattle.defs_match.specs.Conflict.{paired, instance_of, bindings_of}
 use Rattle.defs_match.specs.Laws.{IsIn}
-use Rattle.defs_match.specs.Rows.{rows, rows_after, rows_from, Row, extend, by_element, with_element, bindings_at, takes_marks, empty_row}
+use Rattle.defs_match.specs.Rows.{rows, rows_with, rows_from, Row, extend, by_element, with_matched, bindings_at, takes_marks, empty_row}
 use Rattle.defs_match.specs.Testing.{Bindings, symbol_of, bind, after_plain, others_pass, passes}
 use Rattle.defs_match.proofs.RowLemmas.{in_flat_map, from_only, if_in}
 
@@ -111,25 +111,25 @@ element_of p e bs =
 abbrev pub BindsAlso : List ℕ → Row → Row → Type 0
 BindsAlso vs r x = variables_in x.bindings ≡ with_each (variables_in r.bindings) vs
 
-from_element : (r x : Row) (e : Element) (o : Option Bindings) (vs : List ℕ) → AreOf vs o → IsIn x (with_element r e o) → variables_in x.bindings ≡ vs
+from_element : (r x : Row) (e : Element) (o : Option Bindings) (vs : List ℕ) → AreOf vs o → IsIn x (with_matched r e o) → variables_in x.bindings ≡ vs
 from_element r x e None vs h i = absurd i
 from_element r x e (Some bs) vs h (inl q) = ap (λ (s : Row). variables_in s.bindings) (sym q) ∙ h
 from_element r x e (Some bs) vs h (inr i) = absurd i
 
-after_of : (c : Condition) (w : List Element) (r x : Row) → IsIn x (rows_after c w r) → BindsAlso (bound_by c) r x
+after_of : (c : Condition) (w : List Element) (r x : Row) → IsIn x (rows_with c w r) → BindsAlso (bound_by c) r x
 after_of (positive p) w r x h =
     let found = in_flat_map (by_element p r) x w h in
     let e = found.0 in
     from_element r x e (bindings_at p e r.bindings) (with_each (variables_in r.bindings) (plain_of_pattern p))
-    (element_of p e r.bindings) (if_in (takes_marks p e) x (with_element r e (bindings_at p e r.bindings)) found.2)
+    (element_of p e r.bindings) (if_in (takes_marks p e) x (with_matched r e (bindings_at p e r.bindings)) found.2)
 after_of (negated p) w r x h = ap (λ (s : Row). variables_in s.bindings) (from_only r x (extend p w r) h).0
 after_of (conjunctive cs) w r x h = ap (λ (s : Row). variables_in s.bindings) (from_only r x (rows_from cs w (r ∷ [])) h).0
 
 from_of : (cs : Conditions) (w : List Element) (rs : List Row) (x : Row) → IsIn x (rows_from cs w rs) → (s : Row) × IsIn s rs × BindsAlso (plain_outside cs) s x
 from_of no_more w rs x h = (x, h, refl)
 from_of (condition_and c cs) w rs x h =
-    let deep = from_of cs w (flat_map (rows_after c w) rs) x h in
-    let from = in_flat_map (rows_after c w) deep.0 rs deep.1 in
+    let deep = from_of cs w (flat_map (rows_with c w) rs) x h in
+    let from = in_flat_map (rows_with c w) deep.0 rs deep.1 in
     let near : BindsAlso (bound_by c) from.0 deep.0 = after_of c w from.0 deep.0 from.2 in (
       from.0,
       from.1,

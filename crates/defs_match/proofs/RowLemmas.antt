@@ -4,7 +4,7 @@ use Rattle.soar_wm.specs.declared.element.Element.{Element}
 use Rattle.soar_rule.specs.declared.cond.Pattern.{Pattern}
 use Rattle.soar_rule.specs.Conditions.{Condition, positive, negated, conjunctive, Conditions, no_more, condition_and}
 use Rattle.defs_match.specs.Laws.{IsIn, TagsDiffer, ElementsDiffer, followed_by, inside, IsNegation, StartsWith}
-use Rattle.defs_match.specs.Rows.{rows, rows_after, rows_from, Row, extend, by_element, with_element, bindings_at, takes_marks, only_without, empty_row}
+use Rattle.defs_match.specs.Rows.{rows, rows_with, rows_from, Row, extend, by_element, with_matched, bindings_at, takes_marks, only_without, empty_row}
 use Rattle.defs_match.specs.Testing.{Bindings}
 
 in_append : {A : Type 0} (x : A) (xs ys : List A) → IsIn x (xs ++ ys) → IsIn x xs ⊎ IsIn x ys
@@ -63,7 +63,7 @@ append_nil (x ∷ xs) = ap (λ l. x ∷ l) (append_nil xs)
 same_row : (r x : Row) → x ≡ r → Extends 0 r x
 same_row r x e = ([], ap (λ s. s.tags) e ∙ sym (append_nil r.tags), refl)
 
-from_element : (r x : Row) (e : Element) (o : Option Bindings) → IsIn x (with_element r e o) → x.tags ≡ r.tags ++ e.tag ∷ []
+from_element : (r x : Row) (e : Element) (o : Option Bindings) → IsIn x (with_matched r e o) → x.tags ≡ r.tags ++ e.tag ∷ []
 from_element r x e None h = absurd h
 from_element r x e (Some bs) (inl q) = ap (λ s. s.tags) (sym q)
 from_element r x e (Some bs) (inr h) = absurd h
@@ -75,7 +75,7 @@ if_in false x xs h = absurd h
 by_tag : (p : Pattern) (r x : Row) (e : Element) → IsIn x (by_element p r e) → x.tags ≡ r.tags ++ e.tag ∷ []
 by_tag p r x e h = from_element r x e (bindings_at p e r.bindings) (if_in (takes_marks p e) x _ h)
 
-after_extends : (c : Condition) (w : List Element) (r x : Row) → IsIn x (rows_after c w r) → Extends (positives_in c) r x
+after_extends : (c : Condition) (w : List Element) (r x : Row) → IsIn x (rows_with c w r) → Extends (positives_in c) r x
 after_extends (positive p) w r x h =
     let found = in_flat_map (by_element p r) x w h in (found.0.tag ∷ [], by_tag p r x found.0 found.2, refl)
 after_extends (negated p) w r x h = same_row r x (from_only r x (extend p w r) h).0
@@ -135,7 +135,7 @@ only_differs : (r : Row) (rs : List Row) → TagsDiffer (only_without r rs)
 only_differs r [] = one_differs r
 only_differs r (s ∷ rs) = tt
 
-with_differs : (r : Row) (e : Element) (o : Option Bindings) → TagsDiffer (with_element r e o)
+with_differs : (r : Row) (e : Element) (o : Option Bindings) → TagsDiffer (with_matched r e o)
 with_differs r e None = tt
 with_differs r e (Some bs) = ((λ x h. absurd h), tt)
 
@@ -147,13 +147,13 @@ extend_differs : (p : Pattern) (r : Row) (w : List Element) → ElementsDiffer w
 extend_differs p r [] h = tt
 extend_differs p r (e ∷ es) h =
     differ_append (by_element p r e) (extend p es r)
-    (if_differs (takes_marks p e) (with_element r e (bindings_at p e r.bindings)) (with_differs r e (bindings_at p e r.bindings)))
+    (if_differs (takes_marks p e) (with_matched r e (bindings_at p e r.bindings)) (with_differs r e (bindings_at p e r.bindings)))
     (extend_differs p r es h.1)
     (λ x y i j q. let from = in_flat_map (by_element p r) y es j in
     h.0 from.0 from.1 (head_same from.0.tag e.tag [] [] (cancel_front r.tags (from.0.tag ∷ []) (e.tag ∷ [])
     (sym (by_tag p r y from.0 from.2) ∙ q ∙ by_tag p r x e i))))
 
-after_differs : (c : Condition) (w : List Element) (r : Row) → ElementsDiffer w → TagsDiffer (rows_after c w r)
+after_differs : (c : Condition) (w : List Element) (r : Row) → ElementsDiffer w → TagsDiffer (rows_with c w r)
 after_differs (positive p) w r h = extend_differs p r w h
 after_differs (negated p) w r h = only_differs r (extend p w r)
 after_differs (conjunctive cs) w r h = only_differs r (rows_from cs w (r ∷ []))
@@ -161,8 +161,8 @@ after_differs (conjunctive cs) w r h = only_differs r (rows_from cs w (r ∷ [])
 from_differs : (cs : Conditions) (w : List Element) → ElementsDiffer w → (rs : List Row) → TagsDiffer rs → TagsDiffer (rows_from cs w rs)
 from_differs no_more w h rs k = k
 from_differs (condition_and c cs) w h rs k =
-    from_differs cs w h (flat_map (rows_after c w) rs)
-    (differ_flat_map (positives_in c) (rows_after c w) (λ r. after_differs c w r h) (λ r x i. after_extends c w r x i) rs k)
+    from_differs cs w h (flat_map (rows_with c w) rs)
+    (differ_flat_map (positives_in c) (rows_with c w) (λ r. after_differs c w r h) (λ r x i. after_extends c w r x i) rs k)
 
 -- The tags tell a row: each list of tags is that of at most one row, and no row is listed twice.
 pub rows_differ : (cs : Conditions) (w : List Element) → ElementsDiffer w → TagsDiffer (rows cs w)
@@ -172,7 +172,7 @@ rows_differ cs w h = from_differs cs w h (empty_row ∷ []) (one_differs empty_r
 
 rows_then : (cs ds : Conditions) (w : List Element) (rs : List Row) → rows_from (followed_by cs ds) w rs ≡ rows_from ds w (rows_from cs w rs)
 rows_then no_more ds w rs = refl
-rows_then (condition_and c cs) ds w rs = rows_then cs ds w (flat_map (rows_after c w) rs)
+rows_then (condition_and c cs) ds w rs = rows_then cs ds w (flat_map (rows_with c w) rs)
 
 -- each row comes from one row, and what comes from one row comes from any list with it
 from_one : (cs : Conditions) (w : List Element) (rs : List Row) (x : Row)
@@ -180,13 +180,13 @@ from_one : (cs : Conditions) (w : List Element) (rs : List Row) (x : Row)
 from_one no_more w rs x = ((λ h. (x, h, inl refl)), (λ h. elim (h.2) [ inl e ↦ subst (λ y. IsIn y rs) e h.1 | inr e ↦ absurd e ]))
 from_one (condition_and c cs) w rs x = (
   (λ h.
-      let deep = (from_one cs w (flat_map (rows_after c w) rs) x).0 h in
-      let from = in_flat_map (rows_after c w) deep.0 rs deep.1 in
-      (from.0, from.1, (from_one cs w (rows_after c w from.0 ++ []) x).1 (deep.0, in_left deep.0 (rows_after c w from.0) [] from.2, deep.2))),
+      let deep = (from_one cs w (flat_map (rows_with c w) rs) x).0 h in
+      let from = in_flat_map (rows_with c w) deep.0 rs deep.1 in
+      (from.0, from.1, (from_one cs w (rows_with c w from.0 ++ []) x).1 (deep.0, in_left deep.0 (rows_with c w from.0) [] from.2, deep.2))),
   (λ h.
-      let deep = (from_one cs w (rows_after c w h.0 ++ []) x).0 h.2 in
-      let of = subst (λ l. IsIn deep.0 l) (append_nil (rows_after c w h.0)) deep.1 in
-      (from_one cs w (flat_map (rows_after c w) rs) x).1 (deep.0, in_flat_map_back (rows_after c w) h.0 deep.0 rs h.1 of, deep.2)),
+      let deep = (from_one cs w (rows_with c w h.0 ++ []) x).0 h.2 in
+      let of = subst (λ l. IsIn deep.0 l) (append_nil (rows_with c w h.0)) deep.1 in
+      (from_one cs w (flat_map (rows_with c w) rs) x).1 (deep.0, in_flat_map_back (rows_with c w) h.0 deep.0 rs h.1 of, deep.2)),
 )
 
 positives_first : (c : Condition) (cs : Conditions) → positives (condition_and c cs) ≡ positives_in c + positives cs
@@ -201,8 +201,8 @@ append_assoc (x ∷ xs) ys zs = ap (λ l. x ∷ l) (append_assoc xs ys zs)
 from_extends : (cs : Conditions) (w : List Element) (rs : List Row) (x : Row) → IsIn x (rows_from cs w rs) → (s : Row) × IsIn s rs × Extends (positives cs) s x
 from_extends no_more w rs x h = (x, h, same_row x x refl)
 from_extends (condition_and c cs) w rs x h =
-    let deep = from_extends cs w (flat_map (rows_after c w) rs) x h in
-    let from = in_flat_map (rows_after c w) deep.0 rs deep.1 in
+    let deep = from_extends cs w (flat_map (rows_with c w) rs) x h in
+    let from = in_flat_map (rows_with c w) deep.0 rs deep.1 in
     let near : Extends (positives_in c) from.0 deep.0 = after_extends c w from.0 deep.0 from.2 in
     let far : Extends (positives cs) deep.0 x = deep.2 in (
       from.0,
@@ -231,7 +231,7 @@ tags_count cs w r h =
     ]
 
 -- the row stays exactly where its inside has no row
-kept_where_none : (c : Condition) (w : List Element) (r s : Row) → IsNegation c → IsIn r (rows_after c w s) → (r ≡ s) × (rows_from (inside c) w (s ∷ []) ≡ [])
+kept_where_none : (c : Condition) (w : List Element) (r s : Row) → IsNegation c → IsIn r (rows_with c w s) → (r ≡ s) × (rows_from (inside c) w (s ∷ []) ≡ [])
 kept_where_none (positive p) w r s n h = absurd n
 kept_where_none (negated p) w r s n h = let k = from_only s r (extend p w s) h in (k.0, append_nil (extend p w s) ∙ k.1)
 kept_where_none (conjunctive cs) w r s n h = from_only s r (rows_from cs w (s ∷ [])) h
@@ -240,7 +240,7 @@ only_kept : (r : Row) (rs : List Row) → ((x : Row) → IsIn x rs → ⊥) → 
 only_kept r [] h = inl refl
 only_kept r (x ∷ rs) h = absurd (h x (inl refl))
 
-kept_if_none : (c : Condition) (w : List Element) (r : Row) → IsNegation c → ((x : Row) → IsIn x (rows_from (inside c) w (r ∷ [])) → ⊥) → IsIn r (rows_after c w r)
+kept_if_none : (c : Condition) (w : List Element) (r : Row) → IsNegation c → ((x : Row) → IsIn x (rows_from (inside c) w (r ∷ [])) → ⊥) → IsIn r (rows_with c w r)
 kept_if_none (positive p) w r n h = absurd n
 kept_if_none (negated p) w r n h = only_kept r (extend p w r) (λ x i. h x (in_left x (extend p w r) [] i))
 kept_if_none (conjunctive cs) w r n h = only_kept r (rows_from cs w (r ∷ [])) h
@@ -251,7 +251,7 @@ pub negation_keeps : (cs : Conditions) (c : Condition) (w : List Element) (r : R
 negation_keeps cs c w r differ n here = (
   (λ h x i starts.
       let h' = subst (λ l. IsIn r l) (rows_then cs (condition_and c no_more) w (empty_row ∷ [])) h in
-      let from = in_flat_map (rows_after c w) r (rows cs w) h' in
+      let from = in_flat_map (rows_with c w) r (rows cs w) h' in
       let kept = kept_where_none c w r from.0 n from.2 in
       let i' = subst (λ l. IsIn x l) (rows_then cs (inside c) w (empty_row ∷ [])) i in
       let origin = (from_one (inside c) w (rows cs w) x).0 i' in
@@ -272,5 +272,5 @@ negation_keeps cs c w r differ n here = (
       let begins : StartsWith r.tags x.tags = elim (g.1) [ inl e ↦ (g.2.0, subst (λ (y : Row). x.tags ≡ y.tags ++ g.2.0) (sym e) g.2.1) | inr e ↦ absurd e ] in
       none x (subst (λ l. IsIn x l) (sym (rows_then cs (inside c) w (empty_row ∷ []))) there) begins) in
       subst (λ l. IsIn r l) (sym (rows_then cs (condition_and c no_more) w (empty_row ∷ [])))
-      (in_flat_map_back (rows_after c w) r r (rows cs w) here kept)),
+      (in_flat_map_back (rows_with c w) r r (rows cs w) here kept)),
 )

@@ -1,5 +1,5 @@
 -- What a matcher holds: rules by number and elements by tag, and what each call changes.
-use Rattle.std.specs.Prelude.{◌≡◌, ℕ, Bool, true, false, ◌==◌, nat_lt, not, List, [], ◌∷◌, filter, if◌then◌else◌}
+use Rattle.std.specs.Prelude.{◌≡◌, ℕ, Bool, true, false, ◌==◌, nat_lt, not, List, [], ◌∷◌, filter, Option, Some, None, if◌then◌else◌}
 use Rattle.std.specs.List.{list_any}
 use Rattle.soar_rule.specs.AsItStands.{can_be_matched}
 use Rattle.soar_wm.specs.declared.element.Element.{Element}
@@ -18,6 +18,11 @@ with_rule (q ∷ rules) r = if nat_lt r.number q.number then r ∷ q ∷ rules e
 
 abbrev pub is_numbered : ℕ → RuleOf → Bool
 is_numbered number rule = rule.number == number
+
+-- the first rule of a number
+abbrev pub rule_numbered : ℕ → List RuleOf → Option RuleOf
+rule_numbered number [] = None
+rule_numbered number (rule ∷ rules) = if is_numbered number rule then Some rule else rule_numbered number rules
 
 abbrev pub without_rule : List RuleOf → ℕ → List RuleOf
 without_rule rules number = filter (λ rule. not (is_numbered number rule)) rules

@@ -1,7 +1,7 @@
 // The rows that conditions make of rows.
 ghost use Rattle.std.specs.Prelude.{◌≡◌, [], ◌∷◌, ◌++◌, if◌then◌else◌, flat_map, length, IfOk, OnOk};
 ghost use Rattle.soar_rule.specs.Conditions.{condition, conditions};
-ghost use Rattle.defs_match.specs.Rows.{by_element, extend, only_without, rows, rows_after, rows_from};
+ghost use Rattle.defs_match.specs.Rows.{by_element, extend, only_without, rows, rows_with, rows_from};
 
 use crate::row::Row;
 use crate::taking::takes;
@@ -44,7 +44,7 @@ fn rows_by(
     elements: &[Element],
     rows: List<Row>,
 ) -> Result<List<Row>, NoMemory>
-    ensures { IfOk result (λ r. r ≡ flat_map (rows_after (condition cond.now) elements.now) rows) }
+    ensures { IfOk result (λ r. r ≡ flat_map (rows_with (condition cond.now) elements.now) rows) }
 {
     let mut out = List::new(alloc);
     'rows: for row in rows.into_vec() {
@@ -62,7 +62,7 @@ fn add_rows(
     row: Row,
     out: &mut List<Row>,
 ) -> Result<(), NoMemory>
-    ensures { OnOk result (out.new ≡ out.old ++ rows_after (condition cond.now) elements.now row) }
+    ensures { OnOk result (out.new ≡ out.old ++ rows_with (condition cond.now) elements.now row) }
 {
     match cond {
         Cond::Pos(pattern) => add_extended(alloc, pattern, elements, &row, out),

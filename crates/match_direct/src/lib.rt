@@ -11,6 +11,3 @@ mod testing;
 
 pub use direct::Direct;
 pub use enumeration::conflict;
-
-#[cfg(test)]
-mod tests;

@@ -6,7 +6,7 @@ use std::alloc::Global;
 use std::marker::Model;
 
 /// A row of a partial match: the tags of its elements, and what its variables stand for, by their numbers.
-#[derive(Debug, Drop)]
+#[derive(Drop)]
 pub struct Row {
     tags: List<u32>,
     bindings: List<(u32, Sym)>,

@@ -55,7 +55,7 @@ module _ (order : List Condition) (other bound : List ℕ) (waits : waits_for ot
       none_of : (a b c : Option ℕ) → a ≡ None → b ≡ None → c ≡ None → or_else a (or_else b c) ≡ None
       none_of a b c e f g = cc
 
-  inside_in_order : (inside : Bool) → InOrder true (plain_outside ds) bound order → readiness (conjunctive ds) inside other bound ≡ is_ready (conjunctive ds)
+  pub inside_in_order : (inside : Bool) → InOrder true (plain_outside ds) bound order → readiness (conjunctive ds) inside other bound ≡ is_ready (conjunctive ds)
   inside_in_order inside o = readiness_inside ds inside other bound ∙ of (inside_taken ds bound) (all_in_place order true (plain_outside ds) bound o)
     where
       of : (t : Taken) → InPlace ds (nothing_taken bound) order t → unless_missing (lack_inside ds other bound t) (conjunctive (all_of t.order)) ≡ is_ready (conjunctive ds)

@@ -1,6 +1,5 @@
 -- Faults that are told one after another.
-use Rattle.std.proofs.Common.{◌≡◌, Bool, ◌||◌, List, [], ◌∷◌, Option, None, Result, Ok, Err, map, refl, sym, ap, subst, ◌∙◌}
-use Rattle.std.specs.List.{list_any}
+use Rattle.std.proofs.Common.{◌≡◌, Option, None, Result, Ok, Err, sym, ap, subst, ◌∙◌}
 use Rattle.soar_rule.specs.declared.fault.CheckFault.{CheckFault}
 use Rattle.soar_rule.specs.declared.fault.CheckFault.TheVariants as faults
 use Rattle.soar_rule.specs.declared.production.Production.{Production}
@@ -10,10 +9,6 @@ use Rattle.soar_rule.specs.Conditions.{all_of}
 use Rattle.soar_rule.specs.MatchOrder.{taken_in_order}
 use Rattle.soar_rule.specs.Productions.{ProductionOf, production_seen}
 use Rattle.soar_rule.specs.Telling.{Tells}
-
-pub list_any_map : {X Y : Type 0} (p : X → Bool) (h : Y → X) (ys : List Y) → list_any p (map h ys) ≡ list_any (λ y. p (h y)) ys
-list_any_map p h [] = refl
-list_any_map p h (y ∷ ys) = ap (λ b. p (h y) || b) (list_any_map p h ys)
 
 ordered_is : (p : ProductionOf) (fault : Option Fault) → fault_of p (taken_in_order p.conditions) ≡ fault
     → ordered p ≡ unless_fault fault (record p { conditions = all_of (taken_in_order p.conditions).order })

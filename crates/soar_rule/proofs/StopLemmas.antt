@@ -6,6 +6,7 @@ use Rattle.soar_rule.specs.Checking.{unbound, unconnected, told, lack_of_linked,
 use Rattle.soar_rule.specs.Conditions.{Condition, positive, negated, conjunctive, Conditions, no_more, condition_and}
 use Rattle.soar_rule.specs.Levels.{left_from}
 use Rattle.soar_rule.specs.MatchOrder.{or_else, missing_in, is_linked, is_unlinked, unless_missing, Taken, first_lack}
+use Rattle.soar_rule.specs.Stops.{stop_seen}
 use Rattle.soar_rule.specs.Variables.{is_among, plain_outside}
 use Rattle.soar_rule.proofs.AgreeLemmas.{lack_or_rest}
 
@@ -30,8 +31,8 @@ linked_lack (condition_and (negated p) cs) outside place t = linked_lack cs outs
 linked_lack (condition_and (conjunctive ds) cs) outside place t = linked_lack cs outside (suc place) t ∙ passed_step (is_among t.places place) (first_lack cs true false outside (suc place) t) _
 
 pub stop_left : (cs : Conditions) (t : Taken) (left : Left) → left ≡ left_from cs false (plain_outside cs) 0 t
-    → or_else (option_map unbound left.positive) (or_else (option_map (λ place. unconnected (told place)) left.place) (option_map unbound left.negation)) ≡ stop_of cs t
+    → stop_seen left ≡ stop_of cs t
 stop_left cs t left same =
-    ap (λ (l : Left). or_else (option_map unbound l.positive) (or_else (option_map (λ place. unconnected (told place)) l.place) (option_map unbound l.negation))) same
+    ap stop_seen same
     ∙ ap (λ lack. or_else (option_map unbound lack) (or_else (option_map (λ place. unconnected (told place)) (place_left cs 0 t)) (option_map unbound (first_lack cs false false (plain_outside cs) 0 t))))
     (sym (linked_lack cs (plain_outside cs) 0 t))

@@ -33,8 +33,7 @@ fn join_pattern(marks: &mut Marks, pattern: &Pattern) -> Result<(), NoMemory>
 {
     join_field(marks, &pattern.id)?;
     join_field(marks, &pattern.attr)?;
-    join_field(marks, &pattern.value)?;
-    Ok(())
+    join_field(marks, &pattern.value)
 }
 
 /// Joins the variables that a condition binds to these.

@@ -14,13 +14,14 @@ ghost use Rattle.soar_rule.specs.Telling.{Tells};
 
 use crate::action::{Action, Pref, Value};
 use crate::cond::{Atom, Cond};
-use crate::copy::{copy_actions, copy_doc};
 use crate::fault::CheckFault;
+use crate::level::Left;
 use crate::linking::linked_variables;
 use crate::marks::Marks;
-use crate::order::{OrderStop, Ordered, take_in_order};
+use crate::order::take_in_order;
 use crate::production::Production;
 use crate::sizes::{are_deeper, has_deeper_calls, size_of_all, told};
+use crate::taking::InOrder;
 use crate::unbound::first_unbound;
 use soar_sym::architecture::OPERATOR;
 use soar_sym::{List, NoMemory, is_symbol};
@@ -45,42 +46,20 @@ pub fn check(alloc: Global, production: &Production) -> Result<Production, Check
 {
     let taken = take_in_order(alloc, production.conds.as_slice(), production.vars.len())?;
     check_all(alloc, production, &taken)?;
-    Ok(with_conds(alloc, production, taken.conds)?)
-}
-
-fn with_conds(
-    alloc: Global,
-    production: &Production,
-    conds: List<Cond>,
-) -> Result<Production, NoMemory>
-    requires { IsTrue (conds_below (length production.now.vars) conds) }
-    ensures { IfOk result (λ copy. production_seen copy ≡ record (production_seen production.now) { conditions = conditions conds }) }
-{
-    let doc = copy_doc(&production.doc, alloc)?;
-    let vars = List::from_slice(alloc, production.vars.as_slice())?;
-    let actions = copy_actions(production.actions.as_slice(), alloc)?;
-    Ok(Production {
-        name: production.name,
-        doc,
-        kind: production.kind,
-        support: production.support,
-        vars,
-        conds,
-        actions,
-    })
+    Ok(production.with_conds(taken.conds, alloc)?)
 }
 
 // ---- faults, in the order in which they are told
 
-fn check_all(alloc: Global, production: &Production, taken: &Ordered) -> Result<(), CheckFault>
+fn check_all(alloc: Global, production: &Production, taken: &InOrder) -> Result<(), CheckFault>
     requires bound { AreMarked taken.now.bound.marks (taken_in_order (conditions production.now.conds)).bound }
-    requires stop { option_map stop_seen taken.now.stop ≡ stop_of (conditions production.now.conds) (taken_in_order (conditions production.now.conds)) }
+    requires stop { stop_seen taken.now.left ≡ stop_of (conditions production.now.conds) (taken_in_order (conditions production.now.conds)) }
     ensures { Tells (fault_of (production_seen production.now) (taken_in_order (conditions production.now.conds))) result }
 {
     let conds = production.conds.as_slice();
     let actions = production.actions.as_slice();
     check_state(conds)?;
-    check_order(taken.stop)?;
+    check_order(taken.left)?;
     check_bound(alloc, actions, &taken.bound)?;
     check_number(conds, production.vars.len())?;
     check_depth(conds, actions)?;
@@ -116,13 +95,19 @@ fn is_of_state(cond: &Cond) -> bool
     }
 }
 
-fn check_order(stop: Option<OrderStop>) -> Result<(), CheckFault>
-    ensures { Tells (option_map stop_seen stop) result }
+/// Tells what a positive condition lacks, where one stands, or what a negation lacks.
+fn check_order(left: Left) -> Result<(), CheckFault>
+    ensures { Tells (stop_seen left) result }
 {
-    match stop {
+    if let Some(number) = left.positive {
+        return Err(CheckFault::Unbound(number));
+    }
+    if let Some(place) = left.place {
+        return Err(CheckFault::Unconnected(told(place)));
+    }
+    match left.negation {
+        Some(number) => Err(CheckFault::Unbound(number)),
         None => Ok(()),
-        Some(OrderStop::Unbound(number)) => Err(CheckFault::Unbound(number)),
-        Some(OrderStop::Unconnected(place)) => Err(CheckFault::Unconnected(place)),
     }
 }
 
@@ -149,7 +134,6 @@ fn check_number(conds: &[Cond], variables: usize) -> Result<(), CheckFault>
     Ok(())
 }
 
-#[tactic(auto, using(crate::proofs::CheckingLemmas::list_any_map))]
 fn check_depth(conds: &[Cond], actions: &[Action]) -> Result<(), CheckFault>
     ensures { Tells (fault_if (nat_lt 8 (depth_of_all (conditions conds.now)) || list_any (λ a. nat_lt 8 (calls_of a)) (map action_seen actions.now)) too_deep) result }
 {
@@ -160,27 +144,25 @@ fn check_depth(conds: &[Cond], actions: &[Action]) -> Result<(), CheckFault>
 }
 
 fn any_deeper_calls(actions: &[Action]) -> bool
-    ensures { result ≡ list_any (λ a. nat_lt 8 (calls_of (action_seen a))) actions.now }
+    ensures { result ≡ list_any (λ a. nat_lt 8 (calls_of a)) (map action_seen actions.now) }
 {
-    actions
-        .iter()
-        .any(|action| has_deeper_calls(action, GREATEST_DEPTH))
+    'actions: for action in actions {
+        if has_deeper_calls(action, GREATEST_DEPTH) {
+            return true;
+        }
+    }
+    false
 }
 
-#[tactic(auto, using(crate::proofs::CheckingLemmas::list_any_map))]
 fn check_preferences(actions: &[Action]) -> Result<(), CheckFault>
     ensures { Tells (fault_if (list_any is_bad (map action_seen actions.now)) bad_preference) result }
 {
-    if any_bad(actions) {
-        return Err(CheckFault::BadPref);
+    'actions: for action in actions {
+        if is_bad(action) {
+            return Err(CheckFault::BadPref);
+        }
     }
     Ok(())
-}
-
-fn any_bad(actions: &[Action]) -> bool
-    ensures { result ≡ list_any (λ a. is_bad (action_seen a)) actions.now }
-{
-    actions.iter().any(|action| is_bad(action))
 }
 
 fn is_bad(action: &Action) -> bool

@@ -74,12 +74,9 @@ impl Level {
         ensures conds { IfOk result (λ level. level.conds ≡ []) }
         ensures bound { IfOk result (λ level. level.bound ≡ bound) }
     {
-        let mut standings = List::new(alloc);
-        'places: for _place in 0..count {
-            standings.push(Standing::Open)?;
-        }
+        let standings = vec![in alloc; Standing::Open; count]?;
         Ok(Level {
-            standings,
+            standings: List::from_vec(standings),
             conds: List::new(alloc),
             bound,
         })
@@ -100,9 +97,9 @@ impl Level {
         ensures bound { OnOk result (Joined self.old.bound.marks self.new.bound.marks (bound_by (condition cond))) }
     {
         self.standings.set(place, Standing::Taken);
-        join_bound(&mut self.bound, &cond)?;
+        let joined = join_bound(&mut self.bound, &cond);
         self.conds.push(cond)?;
-        Ok(())
+        joined
     }
 
     /// Notes what the condition at a place lacks, and answers it where it is ready.

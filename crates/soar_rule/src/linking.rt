@@ -68,11 +68,9 @@ fn join_referent(pref: &Pref, marks: &mut Marks) -> Result<bool, NoMemory>
     ensures joined { OnOk result (Joined marks.old.marks marks.new.marks (of_referent lone_variable (referent_value (preference_seen pref.now)))) }
     ensures same { IfOk result (λ is_new. is_new ≡ false → marks.new ≡ marks.old) }
 {
-    match pref {
-        Pref::Better(value) => join_lone(value, marks),
-        Pref::Worse(value) => join_lone(value, marks),
-        Pref::IndifferentTo(value) => join_lone(value, marks),
-        _ => Ok(false),
+    match pref.referent() {
+        Some(value) => join_lone(value, marks),
+        None => Ok(false),
     }
 }
 

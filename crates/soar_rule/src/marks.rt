@@ -6,7 +6,7 @@ use soar_sym::{List, NoMemory};
 use std::alloc::Global;
 
 /// Variables, by their numbers: a mark for each number up to the last that is among them.
-#[derive(Debug, Drop)]
+#[derive(Drop)]
 pub struct Marks {
     marks: List<bool>,
 }

@@ -9,7 +9,7 @@ use soar_sym::{List, NoMemory, Sym};
 use std::alloc::Global;
 
 /// Variables in the order in which they were met. The new number of each is its place.
-#[derive(Debug, Drop)]
+#[derive(Drop)]
 pub struct Numbering {
     order: List<u32>,
 

@@ -105,17 +105,9 @@ fn meet_action(numbering: &mut Numbering, action: &Action) -> Result<(), NoMemor
 fn meet_pref(numbering: &mut Numbering, pref: &Pref) -> Result<(), NoMemory>
     ensures { OnOk result (numbering.new.order ≡ with_each numbering.old.order (of_referent variables_of_value (referent_value (preference_seen pref.now)))) }
 {
-    match pref {
-        Pref::Better(value) => meet_value(numbering, value),
-        Pref::Worse(value) => meet_value(numbering, value),
-        Pref::IndifferentTo(value) => meet_value(numbering, value),
-        Pref::Accept => Ok(()),
-        Pref::Reject => Ok(()),
-        Pref::Require => Ok(()),
-        Pref::Prohibit => Ok(()),
-        Pref::Best => Ok(()),
-        Pref::Worst => Ok(()),
-        Pref::Indifferent => Ok(()),
+    match pref.referent() {
+        Some(value) => meet_value(numbering, value),
+        None => Ok(()),
     }
 }
 

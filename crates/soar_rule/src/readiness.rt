@@ -6,9 +6,9 @@ ghost use Rattle.soar_rule.specs.MatchOrder.{readiness};
 ghost use Rattle.soar_rule.specs.Members.{members};
 
 use crate::cond::{Cond, Pattern};
-use crate::copy::copy_pattern;
 use crate::lacking::{is_linked, missing_in};
 use crate::marks::Marks;
+use crate::renumbering::renumber_pattern;
 use crate::waiting::awaited_in_pattern;
 use soar_sym::NoMemory;
 use std::alloc::Global;
@@ -40,7 +40,7 @@ pub(crate) fn positive_readiness(
     }
     match missing_in(bound, pattern) {
         Some(number) => Ok(Readiness::Waits(number)),
-        None => Ok(Readiness::Ready(Cond::Pos(copy_pattern(pattern, alloc)?))),
+        None => Ok(Readiness::Ready(Cond::Pos(renumber_pattern(None, pattern, alloc)?))),
     }
 }
 
@@ -58,6 +58,6 @@ pub(crate) fn negated_readiness(
     }
     match missing_in(bound, pattern) {
         Some(number) => Ok(Readiness::Lacks(number)),
-        None => Ok(Readiness::Ready(Cond::Neg(copy_pattern(pattern, alloc)?))),
+        None => Ok(Readiness::Ready(Cond::Neg(renumber_pattern(None, pattern, alloc)?))),
     }
 }

@@ -1,11 +1,13 @@
-// Copies of conditions and actions with new numbers of variables.
-ghost use Rattle.std.specs.Prelude.{◌≡◌, map, IfOk};
-ghost use Rattle.soar_rule.specs.Canonical.{renumbered};
+// Copies of conditions and actions, with new numbers of variables, or with those that there are.
+ghost use Rattle.std.specs.Prelude.{◌≡◌, map, None, IfOk};
+ghost use Rattle.std.specs.Option.{option_copied};
 ghost use Rattle.soar_rule.specs.Conditions.{condition, conditions};
 ghost use Rattle.soar_rule.specs.Productions.{action_seen, preference_seen, value_seen};
+ghost use Rattle.soar_rule.specs.Renumbering.{renumbered_by};
 ghost use Rattle.soar_rule.specs.Renaming.{action_with, condition_with, conditions_with, field_with, pattern_with, preference_with, test_with, value_with};
 
 use crate::action::{Action, Pref, Value};
+use crate::adding::added;
 use crate::cond::{Atom, Cond, Field, Pattern, Test};
 use crate::numbering::Numbering;
 use soar_sym::{List, NoMemory};
@@ -15,22 +17,28 @@ use std::alloc::Global;
 
 #[cycle(conditions)]
 pub fn renumber_conds(
-    numbering: &Numbering,
+    numbering: Option<&Numbering>,
     conds: &[Cond],
     alloc: Global,
 ) -> Result<List<Cond>, NoMemory>
-    ensures { IfOk result (λ copy. conditions copy ≡ conditions_with (renumbered numbering.now.order) (conditions conds.now)) }
+    ensures renumbered { IfOk result (λ copy. conditions copy ≡ conditions_with (renumbered_by (option_copied numbering.entry)) (conditions conds.now)) }
+    ensures kept { numbering.entry ≡ None → IfOk result (λ copy. copy ≡ conds.now) }
 {
     let mut out = List::new(alloc);
     'conds: for cond in conds {
-        out.push(renumber_cond(numbering, cond, alloc)?)?;
+        out = added(out, renumber_cond(numbering, cond, alloc))?;
     }
     Ok(out)
 }
 
 #[cycle(conditions)]
-fn renumber_cond(numbering: &Numbering, cond: &Cond, alloc: Global) -> Result<Cond, NoMemory>
-    ensures { IfOk result (λ copy. condition copy ≡ condition_with (renumbered numbering.now.order) (condition cond.now)) }
+fn renumber_cond(
+    numbering: Option<&Numbering>,
+    cond: &Cond,
+    alloc: Global,
+) -> Result<Cond, NoMemory>
+    ensures renumbered { IfOk result (λ copy. condition copy ≡ condition_with (renumbered_by (option_copied numbering.entry)) (condition cond.now)) }
+    ensures kept { numbering.entry ≡ None → IfOk result (λ copy. copy ≡ cond.now) }
 {
     match cond {
         Cond::Pos(pattern) => Ok(Cond::Pos(renumber_pattern(numbering, pattern, alloc)?)),
@@ -39,12 +47,13 @@ fn renumber_cond(numbering: &Numbering, cond: &Cond, alloc: Global) -> Result<Co
     }
 }
 
-fn renumber_pattern(
-    numbering: &Numbering,
+pub fn renumber_pattern(
+    numbering: Option<&Numbering>,
     pattern: &Pattern,
     alloc: Global,
 ) -> Result<Pattern, NoMemory>
-    ensures { IfOk result (λ copy. copy ≡ pattern_with (renumbered numbering.now.order) pattern.now) }
+    ensures renumbered { IfOk result (λ copy. copy ≡ pattern_with (renumbered_by (option_copied numbering.entry)) pattern.now) }
+    ensures kept { numbering.entry ≡ None → IfOk result (λ copy. copy ≡ pattern.now) }
 {
     let id = renumber_field(numbering, &pattern.id, alloc)?;
     let attr = renumber_field(numbering, &pattern.attr, alloc)?;
@@ -58,30 +67,28 @@ fn renumber_pattern(
     })
 }
 
-fn renumber_field(numbering: &Numbering, field: &Field, alloc: Global) -> Result<Field, NoMemory>
-    ensures { IfOk result (λ copy. copy ≡ field_with (renumbered numbering.now.order) field.now) }
-{
-    Ok(Field {
-        tests: renumber_tests(numbering, field.tests.as_slice(), alloc)?,
-    })
-}
-
-fn renumber_tests(
-    numbering: &Numbering,
-    tests: &[Test],
+fn renumber_field(
+    numbering: Option<&Numbering>,
+    field: &Field,
     alloc: Global,
-) -> Result<List<Test>, NoMemory>
-    ensures { IfOk result (λ copy. copy ≡ map (test_with (renumbered numbering.now.order)) tests.now) }
+) -> Result<Field, NoMemory>
+    ensures renumbered { IfOk result (λ copy. copy ≡ field_with (renumbered_by (option_copied numbering.entry)) field.now) }
+    ensures kept { numbering.entry ≡ None → IfOk result (λ copy. copy ≡ field.now) }
 {
-    let mut out = List::new(alloc);
-    'tests: for test in tests {
-        out.push(renumber_test(numbering, test, alloc)?)?;
+    let mut tests = List::new(alloc);
+    'tests: for test in field.tests.as_slice() {
+        tests = added(tests, renumber_test(numbering, test, alloc))?;
     }
-    Ok(out)
+    Ok(Field { tests })
 }
 
-fn renumber_test(numbering: &Numbering, test: &Test, alloc: Global) -> Result<Test, NoMemory>
-    ensures { IfOk result (λ copy. copy ≡ test_with (renumbered numbering.now.order) test.now) }
+fn renumber_test(
+    numbering: Option<&Numbering>,
+    test: &Test,
+    alloc: Global,
+) -> Result<Test, NoMemory>
+    ensures renumbered { IfOk result (λ copy. copy ≡ test_with (renumbered_by (option_copied numbering.entry)) test.now) }
+    ensures kept { numbering.entry ≡ None → IfOk result (λ copy. copy ≡ test.now) }
 {
     match test {
         Test::Plain(atom) => Ok(Test::Plain(renumber_atom(numbering, *atom))),
@@ -90,37 +97,39 @@ fn renumber_test(numbering: &Numbering, test: &Test, alloc: Global) -> Result<Te
     }
 }
 
-fn renumber_atom(numbering: &Numbering, atom: Atom) -> Atom
-    ensures { result ≡ renumbered numbering.now.order atom }
+fn renumber_atom(numbering: Option<&Numbering>, atom: Atom) -> Atom
+    ensures { result ≡ renumbered_by (option_copied numbering.entry) atom }
 {
-    match atom {
-        Atom::Const(symbol) => Atom::Const(symbol),
-        Atom::Var(variable) => Atom::Var(numbering.number(variable)),
+    match (atom, numbering) {
+        (Atom::Var(variable), Some(numbering)) => Atom::Var(numbering.number(variable)),
+        _ => atom,
     }
 }
 
 // ---- actions
 
 pub fn renumber_actions(
-    numbering: &Numbering,
+    numbering: Option<&Numbering>,
     actions: &[Action],
     alloc: Global,
 ) -> Result<List<Action>, NoMemory>
-    ensures { IfOk result (λ copy. map action_seen copy ≡ map (action_with (renumbered numbering.now.order)) (map action_seen actions.now)) }
+    ensures renumbered { IfOk result (λ copy. map action_seen copy ≡ map (action_with (renumbered_by (option_copied numbering.entry))) (map action_seen actions.now)) }
+    ensures kept { numbering.entry ≡ None → IfOk result (λ copy. copy ≡ actions.now) }
 {
     let mut out = List::new(alloc);
     'actions: for action in actions {
-        out.push(renumber_action(numbering, action, alloc)?)?;
+        out = added(out, renumber_action(numbering, action, alloc))?;
     }
     Ok(out)
 }
 
 fn renumber_action(
-    numbering: &Numbering,
+    numbering: Option<&Numbering>,
     action: &Action,
     alloc: Global,
 ) -> Result<Action, NoMemory>
-    ensures { IfOk result (λ copy. action_seen copy ≡ action_with (renumbered numbering.now.order) (action_seen action.now)) }
+    ensures renumbered { IfOk result (λ copy. action_seen copy ≡ action_with (renumbered_by (option_copied numbering.entry)) (action_seen action.now)) }
+    ensures kept { numbering.entry ≡ None → IfOk result (λ copy. copy ≡ action.now) }
 {
     match action {
         Action::Make {
@@ -148,8 +157,13 @@ fn renumber_action(
     }
 }
 
-fn renumber_pref(numbering: &Numbering, pref: &Pref, alloc: Global) -> Result<Pref, NoMemory>
-    ensures { IfOk result (λ copy. preference_seen copy ≡ preference_with (renumbered numbering.now.order) (preference_seen pref.now)) }
+fn renumber_pref(
+    numbering: Option<&Numbering>,
+    pref: &Pref,
+    alloc: Global,
+) -> Result<Pref, NoMemory>
+    ensures renumbered { IfOk result (λ copy. preference_seen copy ≡ preference_with (renumbered_by (option_copied numbering.entry)) (preference_seen pref.now)) }
+    ensures kept { numbering.entry ≡ None → IfOk result (λ copy. copy ≡ pref.now) }
 {
     match pref {
         Pref::Accept => Ok(Pref::Accept),
@@ -169,22 +183,28 @@ fn renumber_pref(numbering: &Numbering, pref: &Pref, alloc: Global) -> Result<Pr
 
 #[cycle(values)]
 fn renumber_values(
-    numbering: &Numbering,
+    numbering: Option<&Numbering>,
     values: &[Value],
     alloc: Global,
 ) -> Result<List<Value>, NoMemory>
-    ensures { IfOk result (λ copy. map value_seen copy ≡ map (value_with (renumbered numbering.now.order)) (map value_seen values.now)) }
+    ensures renumbered { IfOk result (λ copy. map value_seen copy ≡ map (value_with (renumbered_by (option_copied numbering.entry))) (map value_seen values.now)) }
+    ensures kept { numbering.entry ≡ None → IfOk result (λ copy. copy ≡ values.now) }
 {
     let mut out = List::new(alloc);
     'values: for value in values {
-        out.push(renumber_value(numbering, value, alloc)?)?;
+        out = added(out, renumber_value(numbering, value, alloc))?;
     }
     Ok(out)
 }
 
 #[cycle(values)]
-fn renumber_value(numbering: &Numbering, value: &Value, alloc: Global) -> Result<Value, NoMemory>
-    ensures { IfOk result (λ copy. value_seen copy ≡ value_with (renumbered numbering.now.order) (value_seen value.now)) }
+fn renumber_value(
+    numbering: Option<&Numbering>,
+    value: &Value,
+    alloc: Global,
+) -> Result<Value, NoMemory>
+    ensures renumbered { IfOk result (λ copy. value_seen copy ≡ value_with (renumbered_by (option_copied numbering.entry)) (value_seen value.now)) }
+    ensures kept { numbering.entry ≡ None → IfOk result (λ copy. copy ≡ value.now) }
 {
     match value {
         Value::Atom(atom) => Ok(Value::Atom(renumber_atom(numbering, *atom))),

@@ -89,11 +89,9 @@ pub fn has_deeper_calls(action: &Action, limit: usize) -> bool
 fn referent_calls_deeper(pref: &Pref, limit: usize) -> bool
     ensures { result ≡ nat_lt limit (calls_of_referent (referent_value (preference_seen pref.now))) }
 {
-    match pref {
-        Pref::Better(value) => calls_deeper(value, limit),
-        Pref::Worse(value) => calls_deeper(value, limit),
-        Pref::IndifferentTo(value) => calls_deeper(value, limit),
-        _ => false,
+    match pref.referent() {
+        Some(value) => calls_deeper(value, limit),
+        None => false,
     }
 }
 

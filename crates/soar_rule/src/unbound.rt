@@ -32,7 +32,13 @@ fn unbound_in(action: &Action, bound: &Marks, linked: &Marks) -> Option<u32>
             attr,
             value,
             pref,
-        } => unmarked_in_atom(*id, linked).or_else(|| unmarked_beside(attr, value, pref, bound)),
+        } => {
+            let unmarked = unmarked_in_atom(*id, linked);
+            if unmarked.is_some() {
+                return unmarked;
+            }
+            unmarked_beside(attr, value, pref, bound)
+        }
         Action::Write(values) => unmarked_in_values(values.as_slice(), bound),
         Action::Halt => None,
     }
@@ -43,9 +49,15 @@ fn unbound_in(action: &Action, bound: &Marks, linked: &Marks) -> Option<u32>
 fn unmarked_beside(attr: &Value, value: &Value, pref: &Pref, marks: &Marks) -> Option<u32>
     ensures { result ≡ first_unmarked marks.now.marks (variables_of_value (value_seen attr.now) ++ (called_variables (value_seen value.now) ++ of_referent called_variables (referent_value (preference_seen pref.now)))) }
 {
-    unmarked_in_value(attr, marks)
-        .or_else(|| unmarked_in_calls(value, marks))
-        .or_else(|| unmarked_in_referent(pref, marks))
+    let unmarked = unmarked_in_value(attr, marks);
+    if unmarked.is_some() {
+        return unmarked;
+    }
+    let unmarked = unmarked_in_calls(value, marks);
+    if unmarked.is_some() {
+        return unmarked;
+    }
+    unmarked_in_referent(pref, marks)
 }
 
 fn unmarked_in_atom(atom: Atom, marks: &Marks) -> Option<u32>
@@ -71,11 +83,9 @@ fn unmarked_in_calls(value: &Value, marks: &Marks) -> Option<u32>
 fn unmarked_in_referent(pref: &Pref, marks: &Marks) -> Option<u32>
     ensures { result ≡ first_unmarked marks.now.marks (of_referent called_variables (referent_value (preference_seen pref.now))) }
 {
-    match pref {
-        Pref::Better(value) => unmarked_in_calls(value, marks),
-        Pref::Worse(value) => unmarked_in_calls(value, marks),
-        Pref::IndifferentTo(value) => unmarked_in_calls(value, marks),
-        _ => None,
+    match pref.referent() {
+        Some(value) => unmarked_in_calls(value, marks),
+        None => None,
     }
 }
 

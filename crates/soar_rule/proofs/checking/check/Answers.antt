@@ -16,4 +16,4 @@ returns c =
     let seen : ProductionOf = production_seen c.args.production.now in
     let order : conditions c.in_ok-taken.taken.conds ≡ all_of (taken_in_order seen.conditions).order =
     c.in_ok-taken.ensures.order ∙ ap (λ conds. all_of (taken_in_order (conditions conds)).order) c.as_slice.ensures in
-    checked_whole seen c.in_ok-with_conds.field-0 c.in_ok-check_all.ensures (c.in_ok-with_conds.ensures ∙ ap (λ (cs : Conditions). record seen { conditions = cs }) order)
+    checked_whole seen c.in_ok-with_conds.field-0 c.in_ok-check_all.ensures (c.in_ok-with_conds.ensures.seen ∙ ap (λ (cs : Conditions). record seen { conditions = cs }) order)

@@ -1,4 +1,5 @@
-use Rattle.std.proofs.Common.{false, [], ◌∙◌}
+use Rattle.std.proofs.Common.{false, []}
+use Rattle.std.proofs.lemmas.Result.{IfOk-weaker}
 use Rattle.soar_rule.specs.Conditions.{conditions}
 use Rattle.soar_rule.specs.MatchOrder.{taken_in_order}
 use Rattle.soar_rule.proofs.OrderBelowLemmas.{conds_stay_below}
@@ -7,9 +8,9 @@ use Rattle.soar_rule.proofs.order.take_in_order.Goals as goal
 
 pub returns-clause-below : goal.returns-clause-below
 returns-clause-below c =
-    conds_stay_below c.args.count c.args.conds.now c.in_ok-order.order.conds false [] c.requires (c.in_ok-order.ensures [] c.new.ensures).taken
+    IfOk-weaker c.take_all.result _ _ (λ order taken. conds_stay_below c.args.count c.args.conds.now order.conds false [] c.requires taken.taken) (c.take_all.ensures [] c.new.ensures)
 
 pub returns-clause-stop : goal.returns-clause-stop
 unfolding taken_in_order
 returns-clause-stop c =
-    c.stop_at.ensures ∙ stop_left (conditions c.args.conds.now) (taken_in_order (conditions c.args.conds.now)) c.in_ok-order.order.left (c.in_ok-order.ensures [] c.new.ensures).left
+    IfOk-weaker c.take_all.result _ _ (λ order taken. stop_left (conditions c.args.conds.now) (taken_in_order (conditions c.args.conds.now)) order.left taken.left) (c.take_all.ensures [] c.new.ensures)

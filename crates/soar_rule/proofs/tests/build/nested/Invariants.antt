@@ -1,6 +1,0 @@
-use Rattle.std.specs.Prelude.{IsTrue}
-use Rattle.soar_rule.specs.Below.{value_below}
-use Rattle.soar_rule.proofs.tests.build.nested.Given as goal
-
-abbrev pub invariant-calls : goal.invariant-calls
-invariant-calls l = IsTrue (value_below 9 l.value)

@@ -1,0 +1,17 @@
+// Lists that grow by what a call answers.
+ghost use Rattle.std.specs.Prelude.{◌≡◌, ◌++◌, [], ◌∷◌, IfOk};
+ghost use Rattle.std.specs.Result.{IsOkAnd};
+
+use soar_sym::{List, NoMemory};
+
+/// The list with an item more, where there is one.
+///
+/// It takes the list and gives it back, so that a loop has nothing to let go where it ends with an `Err`.
+pub fn added<T: Drop>(list: List<T>, item: Result<T, NoMemory>) -> Result<List<T>, NoMemory>
+    ensures { IfOk result (λ more. IsOkAnd item (λ x. more ≡ list ++ x ∷ [])) }
+{
+    let item = item?;
+    let mut list = list;
+    list.push(item)?;
+    Ok(list)
+}
