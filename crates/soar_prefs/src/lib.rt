@@ -2,13 +2,12 @@
 #![tactic(auto)]
 
 mod fault;
+mod index;
+mod key;
 mod prefs;
-mod rows;
 mod same;
+mod store;
 
 pub use defs_soar::{PrefKind, Preference, Wish};
 pub use fault::PrefFault;
 pub use prefs::Prefs;
-
-#[cfg(test)]
-mod tests;

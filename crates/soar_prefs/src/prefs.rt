@@ -1,27 +1,33 @@
-ghost use Rattle.std.specs.Prelude.{◌≡◌, [], ◌∷◌, IfOk, OnErr};
+ghost use Rattle.std.specs.Prelude.{◌≡◌, [], ◌∷◌, IfOk, OnErr, length};
 ghost use Rattle.defs_soar.specs.Preferences.{slot_of, without_firings, without_id};
 ghost use Rattle.soar_prefs.specs.Memory.{Adds, without_triple};
 
 use crate::fault::PrefFault;
-use crate::rows;
+use crate::key::Key;
+use crate::store::Store;
 use defs_soar::Preference;
 use soar_sym::{List, NoMemory, Sym, Triple};
 use std::alloc::Global;
+use std::collections::btree_map::Values;
 use std::marker::Model;
 
 /// Preference memory: rows in order of adding, at most so many.
 #[derive(Drop)]
 pub struct Prefs {
-    rows: Vec<Preference>,
+    store: Store,
     limit: u32,
 }
 
 impl Model for Prefs {
+    ghost use Rattle.std.specs.Map.{values_of};
     ghost use Rattle.soar_prefs.specs.Memory.{PreferenceMemory};
+    ghost use Rattle.soar_prefs.specs.Store.{IsStore};
 
     ghost Value = { PreferenceMemory };
 
-    ghost view = { λ p. record { rows = p.rows.items; limit = p.limit } };
+    ghost view = { λ p. record { rows = values_of p.store.rows.entries; limit = p.limit } };
+
+    ghost invariant = { λ p. IsStore p.store.rows.entries p.store.numbers.entries p.store.next };
 }
 
 impl Prefs {
@@ -30,7 +36,7 @@ impl Prefs {
         ensures { IfOk result (λ prefs. prefs ≡ record { rows = []; limit = limit }) }
     {
         Ok(Prefs {
-            rows: Vec::new(alloc),
+            store: Store::new(alloc),
             limit,
         })
     }
@@ -40,13 +46,13 @@ impl Prefs {
         ensures answer { Adds self.old self.new row result }
         ensures err { OnErr result (self.new ≡ self.old) }
     {
-        if rows::is_kept_already(self.rows.as_slice(), &row) {
+        if self.store.is_kept_already(&row) {
             return Ok(());
         }
-        if self.rows.len() >= self.limit as usize {
+        if self.store.rows.len() >= self.limit as usize {
             return Err(PrefFault::Full);
         }
-        match self.rows.push(row) {
+        match self.store.add(row) {
             Ok(()) => Ok(()),
             Err(_) => Err(PrefFault::NoMemory),
         }
@@ -56,34 +62,49 @@ impl Prefs {
     pub fn retract(&mut self, firing: u64)
         ensures { self.new ≡ record self.old { rows = without_firings self.old.rows (firing ∷ []) } }
     {
-        rows::drop_firing(&mut self.rows, firing);
+        self.store.drop_key(Key::Firing(false, firing));
     }
 
     /// Takes all rows of a triple away.
     pub fn reject_now(&mut self, triple: Triple)
         ensures { self.new ≡ record self.old { rows = without_triple self.old.rows triple } }
     {
-        rows::drop_triple(&mut self.rows, triple);
+        self.store
+            .drop_key(Key::Triple(triple.id, triple.attr, triple.value));
     }
 
     /// Takes the rows of an identifier away.
     pub fn drop_id(&mut self, id: Sym)
         ensures { self.new ≡ record self.old { rows = without_id self.old.rows id } }
     {
-        rows::drop_id(&mut self.rows, id);
+        self.store.drop_key(Key::Id(id));
+    }
+
+    /// How many rows there are.
+    pub fn len(&self) -> usize
+        ensures { result ≡ length self.now.rows }
+    {
+        self.store.rows.len()
     }
 
     /// All rows, in order of adding.
-    pub fn rows(&self) -> &[Preference]
-        ensures { result.now ≡ self.now.rows }
+    pub fn rows(&self) -> Values<'_, u64, Preference>
+        ensures { result ≡ self.now.rows }
     {
-        self.rows.as_slice()
+        self.store.rows.values()
     }
 
-    /// The rows of a slot, in order of adding.
+    /// Copies of all rows, in order of adding.
+    pub fn all(&self, alloc: Global) -> Result<List<Preference>, NoMemory>
+        ensures { IfOk result (λ rows. rows ≡ self.now.rows) }
+    {
+        self.store.all(alloc)
+    }
+
+    /// Copies of the rows of a slot, in order of adding.
     pub fn slot(&self, alloc: Global, id: Sym, attr: Sym) -> Result<List<Preference>, NoMemory>
         ensures { IfOk result (λ rows. rows ≡ slot_of self.now.rows id attr) }
     {
-        rows::copy_of_slot(alloc, self.rows.as_slice(), id, attr)
+        self.store.of_key(alloc, Key::Variablized(id, attr))
     }
 }

@@ -1,18 +1,16 @@
 -- Working memory stays lawful as elements come and go.
-use Rattle.std.proofs.Common.{◌≡◌, ℕ, ◌+◌, ◌<◌, ◌≤◌, Bool, true, false, ◌&&◌, cond, List, [], ◌∷◌, ◌++◌, length, Option, Some, None, refl, sym, ap₂, subst, ◌∙◌, arith, length-append}
+use Rattle.std.proofs.Common.{◌≡◌, ℕ, ◌+◌, ◌<◌, ◌≤◌, Bool, true, false, ◌&&◌, cond, List, [], ◌∷◌, ◌++◌, length, Some, None, refl, sym, ap₂, subst, ◌∙◌, arith, length-append}
 use Rattle.std.proofs.lemmas.Cmp.{nat_eq_equiv, int_eq_equiv}
-use Rattle.std.proofs.lemmas.List.{length-map}
 use Rattle.soar_sym.specs.Equality.{symbol_eq, mark_eq}
 use Rattle.soar_sym.specs.declared.symbol.Sym.{Sym}
 use Rattle.soar_sym.specs.declared.symbol.Sym.TheVariants.{Ident, Word, Int}
 use Rattle.soar_sym.specs.declared.symbol.Triple.{Triple}
 use Rattle.soar_wm.specs.declared.element.Element.{Element}
-use Rattle.soar_wm.specs.Cells.{element_at, seen}
 use Rattle.soar_wm.specs.WorkingMemory.{WorkingMemory, has_triple, tag_of, has_tag, without_tag, triple_of, element_for, with_triple, IsBelow, IsRising, IsGiven, Lacks, IsDistinct, IsLawful}
 
 -- which of two triples is asked for is the same
 
-symbol_eq-symm : (a b : Sym) → symbol_eq a b ≡ symbol_eq b a
+pub symbol_eq-symm : (a b : Sym) → symbol_eq a b ≡ symbol_eq b a
 symbol_eq-symm (Ident a m) (Ident b n) = ap₂ (λ p q. p && q) (nat_eq_equiv.symm a b) (nat_eq_equiv.symm m n)
 symbol_eq-symm (Ident a m) (Word n) = refl
 symbol_eq-symm (Ident a m) (Int n) = refl
@@ -75,15 +73,12 @@ lawful_with m t of_state lawful none room =
       few = omega (arith, length-append m.elements (new ∷ []));
     }
 
--- the same of what a look-up gives, where `slice` is the list of keys as a slice
-pub lawful_add : (cells : ℕ → Option Element) (order slice : List ℕ) (new : List Element) (limit last : ℕ) (t : Triple) (of_state : Bool) → slice ≡ order
-    → IsLawful (record { elements = seen cells order; limit = limit; last = last }) → None ≡ tag_of t (seen cells slice) → length order < limit
-    → new ≡ seen cells order ++ element_for (last + 1) t of_state ∷ [] → IsLawful (record { elements = new; limit = limit; last = last + 1 })
-lawful_add cells order slice new limit last t of_state same lawful none room is =
-    let missing : tag_of t (seen cells order) ≡ None = subst (λ keys. tag_of t (seen cells keys) ≡ None) same (sym none) in
-    let fits : length (seen cells order) < limit = omega (arith, length-map order (element_at cells)) in
+-- the same, where the list is written out
+pub lawful_add : (old new : List Element) (limit last : ℕ) (t : Triple) (of_state : Bool) → IsLawful (record { elements = old; limit = limit; last = last }) → tag_of t old ≡ None → length old < limit
+    → new ≡ old ++ element_for (last + 1) t of_state ∷ [] → IsLawful (record { elements = new; limit = limit; last = last + 1 })
+lawful_add old new limit last t of_state lawful none room is =
     subst (λ es. IsLawful (record { elements = es; limit = limit; last = last + 1 })) (sym is)
-    (lawful_with (record { elements = seen cells order; limit = limit; last = last }) t of_state lawful missing fits)
+    (lawful_with (record { elements = old; limit = limit; last = last }) t of_state lawful none room)
 
 -- one element less
 

@@ -1,0 +1,5 @@
+pub mod FirstLemmas
+pub mod KeyLemmas
+pub mod MarkLemmas
+pub mod RangeLemmas
+pub mod StoreLemmas

@@ -1,0 +1,84 @@
+-- Rows by number, and the numbers by what rows are found. No public clause cites this.
+use Rattle.std.specs.Prelude.{◌≡◌, ℕ, ◌-◌, ◌^◌, ◌<◌, ◌==◌, Bool, false, ◌&&◌, cond, List, [], ◌∷◌, Option, Some, None, is_some}
+use Rattle.std.specs.BTreeMap.Range.{entries_between}
+use Rattle.std.specs.Map.{lookup}
+use Rattle.std.specs.Ordering.{is_eq, nat_cmp, ordering_then}
+use Rattle.std.specs.declared.cmp.Ordering.{Ordering}
+use Rattle.std.specs.declared.ops.Bound.TheVariants.{Included}
+use Rattle.soar_sym.specs.Equality.{symbol_eq, mark_eq}
+use Rattle.defs_soar.specs.declared.preference.Preference.{Preference}
+use Rattle.soar_prefs.specs.contracts.key.KeyOrd.TheImpl as key_order
+use Rattle.soar_prefs.specs.declared.key.Key.{Key}
+use Rattle.soar_prefs.specs.declared.key.Key.TheVariants.{Firing, Id, Variablized, Triple}
+
+abbrev pub same_key : Key → Key → Bool
+same_key (Firing s f) (Firing t g) = mark_eq s t && (f == g)
+same_key (Id a) (Id b) = symbol_eq a b
+same_key (Variablized a b) (Variablized x y) = symbol_eq a x && symbol_eq b y
+same_key (Triple a b c) (Triple x y z) = symbol_eq a x && (symbol_eq b y && symbol_eq c z)
+same_key a b = false
+
+-- the row is found by the key
+abbrev pub is_of : Key → Preference → Bool
+is_of (Firing s f) row = mark_eq row.operator_support s && (row.firing == f)
+is_of (Id id) row = symbol_eq row.wish.id id
+is_of (Variablized id attr) row = symbol_eq row.wish.id id && symbol_eq row.wish.attr attr
+is_of (Triple id attr value) row = symbol_eq row.wish.id id && (symbol_eq row.wish.attr attr && symbol_eq row.wish.value value)
+
+-- rows with their numbers
+abbrev pub Rows : Type 0
+Rows = List (ℕ × Preference)
+
+-- keys with the numbers of their rows
+abbrev pub Numbers : Type 0
+Numbers = List ((Key × ℕ) × Unit {0})
+
+abbrev pub number_cmp : Key × ℕ → Key × ℕ → Ordering
+number_cmp a b = ordering_then (key_order.ghosts.cmp a.0 b.0) (nat_cmp a.1 b.1)
+
+abbrev pub row_at : Rows → ℕ → Option Preference
+row_at rows n = lookup (λ k. is_eq (nat_cmp n k)) rows
+
+-- whether the number stands under the key
+abbrev pub has : Numbers → Key × ℕ → Bool
+has numbers q = is_some (lookup (λ k. is_eq (number_cmp q k)) numbers)
+
+-- the part of a key
+abbrev pub of_key : Key → Numbers → Numbers
+of_key key numbers = entries_between number_cmp (Included (key, 0)) (Included (key, 2 ^ 64 - 1)) numbers
+
+abbrev pub same_place : Key × ℕ → Key × ℕ → Bool
+same_place p q = same_key p.0 q.0 && (p.1 == q.1)
+
+-- the place is one of the row
+abbrev pub is_own : Preference → ℕ → Key × ℕ → Bool
+is_own row number q = is_of q.0 row && (number == q.1)
+
+-- at the places of the row this stands now, and at others what stood there
+abbrev pub Marks : Preference → ℕ → Bool → Numbers → Numbers → Type 0
+Marks row number now old new = (q : Key × ℕ) → has new q ≡ cond (is_own row number q) now (has old q)
+
+-- at other places stands what stood there
+abbrev pub MarksOthers : Preference → ℕ → Numbers → Numbers → Type 0
+MarksOthers row number old new = (q : Key × ℕ) → is_own row number q ≡ false → has new q ≡ has old q
+
+-- whether a row is found by a key, if there is one
+abbrev pub is_held : Key → Option Preference → Bool
+is_held key None = false
+is_held key (Some row) = is_of key row
+
+-- the number is below those of the rows
+abbrev pub IsBefore : ℕ → Rows → Type 0
+IsBefore n [] = Unit {0}
+IsBefore n (e ∷ rows) = (n < e.0) × IsBefore n rows
+
+-- numbers rise, up to the next one
+abbrev pub IsNumbered : ℕ → Rows → Type 0
+IsNumbered next [] = Unit {0}
+IsNumbered next (e ∷ rows) = (e.0 < next) × IsBefore e.0 rows × IsNumbered next rows
+
+-- each row stands under its keys, and nothing else does
+pub record IsStore (rows : Rows) (numbers : Numbers) (next : ℕ) : Type 0 where
+  pub numbered : IsNumbered next rows
+  pub small : next < 2 ^ 64
+  pub found : (q : Key × ℕ) → has numbers q ≡ is_held q.0 (row_at rows q.1)

@@ -1,0 +1,5 @@
+//! Tests of `soar_prefs`.
+#![tactic(auto)]
+
+#[cfg(test)]
+mod tests;

@@ -1,0 +1,5 @@
+//! Tests of `soar_wm`.
+#![tactic(auto)]
+
+#[cfg(test)]
+mod tests;
