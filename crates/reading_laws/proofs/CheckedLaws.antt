@@ -23,7 +23,7 @@ shallow p q e = by (is_too_deep p) (each_none p.conditions p.actions (length p.v
     by false f = refl
 
 -- only the conditions have another order
-only_order : (p q : ProductionOf) → ordered p ≡ Ok q → record p { conditions = q.conditions } ≡ q
+pub only_order : (p q : ProductionOf) → ordered p ≡ Ok q → record p { conditions = q.conditions } ≡ q
 only_order p q e =
     let same = (checked_as p q e).1 in
     (λ i. record p { conditions = (same i).conditions }) ∙ sym same

@@ -55,3 +55,6 @@ pub mod BracketLaws
 pub mod InOrderLaws
 pub mod InOrderPrintable
 pub mod CheckedLaws
+pub mod LaterPrintable
+pub mod LaterText
+pub mod LaterLaws

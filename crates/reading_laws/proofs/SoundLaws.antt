@@ -9,7 +9,7 @@ use Rattle.std.proofs.lemmas.Str.{IsUtf8-nil, IsUtf8-from_is_utf8}
 use Rattle.defs_text.specs.Bytes.{is_run_byte, is_angle}
 use Rattle.defs_text.specs.Runs.{RunKind, an_arrow, opens_set, closes_set, a_sign, a_variable, a_number, a_float, has_angle, a_word, is_sign, sign_place, signs, is_variable, front_of, ends_with, is_empty, inside_of, is_integer, integer_of, is_float, angles_before, run_kind, fits_integer}
 use Rattle.defs_text.specs.Quotes.{closing, meant, bad_escape, no_utf8, lesser, fault_inside}
-use Rattle.defs_text.specs.Lexing.{Saying, integer, documentation, Piece, token, nothing, fault, Front, a_blank, a_run, a_mark, a_bar, a_quote, no_front, begins_fraction, number_piece, run_piece, run_of, after_run, quoted_word, inside_piece, quoted_piece, front_at, piece_of, with_token, lexed_from, lexed, Lexed, wide_number}
+use Rattle.defs_text.specs.Lexing.{Saying, integer, documentation, Piece, token, nothing, fault, Front, a_blank, a_run, a_mark, a_bar, a_quote, a_comment, no_front, begins_fraction, number_piece, run_piece, run_of, after_run, quoted_word, inside_piece, quoted_piece, front_at, piece_of, with_token, lexed_from, lexed, Lexed, wide_number}
 use Rattle.reading_laws.specs.Printable.{IsName}
 use Rattle.reading_laws.specs.Sound.{IsSound, AreSound}
 use Rattle.reading_laws.specs.WayBack.{tokens_in}
@@ -184,6 +184,7 @@ piece_sound a_run place b bytes = run_sound place (run_of (b ∷ bytes)) (after_
 piece_sound a_mark place b bytes = tt
 piece_sound a_bar place b bytes = quoted_sound 124 place quoted_word bytes (closing 124 bytes) (λ text u. u)
 piece_sound a_quote place b bytes = quoted_sound 34 place documentation bytes (closing 34 bytes) (λ text u. u)
+piece_sound a_comment place b bytes = tt
 piece_sound no_front place b bytes = tt
 
 from_sound : (skip place : ℕ) (bytes : List ℕ) → AreSound (tokens_in (lexed_from skip place bytes))

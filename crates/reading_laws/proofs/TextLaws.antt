@@ -5,7 +5,7 @@ use Rattle.std.specs.List.{prefix_len, list_all}
 use Rattle.std.proofs.lemmas.Bool.Decides.{nat_tests}
 use Rattle.defs_text.specs.Bytes.{is_among, is_blank, is_run_byte, is_mark}
 use Rattle.defs_text.specs.Runs.{run_kind}
-use Rattle.defs_text.specs.Lexing.{Saying, mark, Piece, token, nothing, fault, a_blank, a_run, a_mark, a_bar, a_quote, no_front, front_at, piece_of, run_piece, run_of, after_run, begins_fraction, Lexed, with_token, lexed_from}
+use Rattle.defs_text.specs.Lexing.{Saying, mark, Piece, token, nothing, fault, a_blank, a_run, a_mark, a_bar, a_quote, a_comment, no_front, front_at, piece_of, run_piece, run_of, after_run, begins_fraction, Lexed, with_token, lexed_from}
 use Rattle.defs_read.specs.Spelling.{Tokens}
 use Rattle.reading_laws.specs.Lawful.{AllOf}
 use Rattle.reading_laws.specs.WayBack.{tokens_in}
@@ -131,8 +131,8 @@ run_begins b e = go (is_blank b) refl
   where
     go : (t : Bool) → is_blank b ≡ t → front_at b ≡ a_run
     go true f = let g : is_run_byte b ≡ false = among (λ c. is_run_byte c ≡ false) (32 ∷ 9 ∷ 13 ∷ 12 ∷ 10 ∷ []) b f (refl, (refl, (refl, (refl, (refl, tt))))) in absurd (cc)
-    go false f = ap (λ t. if t then a_blank else if is_run_byte b then a_run else if is_mark b then a_mark else if b == 124 then a_bar else if b == 34 then a_quote else no_front) f
-        ∙ ap (λ t. if t then a_run else if is_mark b then a_mark else if b == 124 then a_bar else if b == 34 then a_quote else no_front) e
+    go false f = ap (λ t. if t then a_blank else if is_run_byte b then a_run else if is_mark b then a_mark else if b == 124 then a_bar else if b == 34 then a_quote else if b == 35 then a_comment else no_front) f
+        ∙ ap (λ t. if t then a_run else if is_mark b then a_mark else if b == 124 then a_bar else if b == 34 then a_quote else if b == 35 then a_comment else no_front) e
 
 pub cut_run : (rest text : List ℕ) (says : Saying) → IsRun text says → Ends rest → Cut rest text (says ∷ [])
 cut_run rest text says r e =

@@ -37,7 +37,7 @@ first_word words w state known e = ap (λ o. unwrap_or o 0) (sym (known_place wo
 
 -- ---- a table that has grown
 
-position_kept : (test : List ℕ → Bool) (i n : ℕ) (words more : Texts) → position_from test i words ≡ Some n → position_from test i (words ++ more) ≡ Some n
+pub position_kept : (test : List ℕ → Bool) (i n : ℕ) (words more : Texts) → position_from test i words ≡ Some n → position_from test i (words ++ more) ≡ Some n
 position_kept test i n [] more e = absurd (cc)
 position_kept test i n (x ∷ words) more e = go (test x) refl e (position_kept test (i + 1) n words more)
   where

@@ -7,3 +7,4 @@ pub mod TreeBack
 pub mod Printable
 pub mod WayBack
 pub mod Sound
+pub mod Later

@@ -1,6 +1,7 @@
 //! That the reading of productions is exact against their grammar, and that printed productions are read back.
 #![tactic(auto)]
 
+ghost use Rattle.reading_laws.specs.Later as later;
 ghost use Rattle.reading_laws.specs.Laws as laws;
 ghost use Rattle.reading_laws.specs.WayBack as back;
 
@@ -22,6 +23,17 @@ pub fn printing_reads_back()
     ensures printed { back.PrintedIsRead }
     ensures printable { back.ReadIsPrintable }
     ensures checked { back.CheckedIsRead }
+{
+    checked_is_in_order();
+}
+
+/// Words join a table at its end. With each table that begins with the words that were there once a
+/// text was read, the production can be printed still, its text is the same, and this text is read
+/// back to it; and likewise with what the check gives for it.
+pub fn later_tables_read_back()
+    ensures printable { later.ReadStaysPrintable }
+    ensures read { later.ReadIsReadLater }
+    ensures checked { later.CheckedIsReadLater }
 {
     checked_is_in_order();
 }

@@ -10,7 +10,7 @@ use Rattle.defs_read.specs.FreshNames.{Fresh, Expanded, fresh_variable}
 use Rattle.defs_read.specs.Grammar.{a_variable, Term, simple, called, Terms, no_terms, term_and, WishTree, accepting, rejecting, requiring, prohibiting, comparing, ItemTree, AttributeMake, ActionTree, making, writing, halting}
 use Rattle.soar_read.proofs.FieldFits.{atom_of_fits, fresh_fits}
 use Rattle.soar_read.proofs.FitLemmas.{atom_fits, value_fits, values_fit, preference_fits, action_fits, atom_stays, value_stays, action_stays, all_stay, count, Fits, all_append}
-use Rattle.soar_read.proofs.TextLemmas.{and-true, both-true}
+use Rattle.read_parts.proofs.TextLemmas.{and-true, both-true}
 
 abbrev pub acts_fit : ℕ → ℕ → List ActionOf → Bool
 acts_fit known n actions = list_all (action_fits known n) actions

@@ -23,8 +23,8 @@ use Rattle.soar_rule.specs.Productions.{ValueOf, value_seen, value_step as seen_
 use Rattle.soar_read.proofs.ActionFits.{acts_fit}
 use Rattle.soar_read.proofs.ConditionFits.{conds_fit}
 use Rattle.soar_read.proofs.FitLemmas.{atom_fits, test_fits, field_fits, pattern_fits, condition_fits, conditions_fit, value_fits, values_fit, preference_fits, action_fits}
-use Rattle.soar_read.proofs.TextLemmas.{and-true, both-true}
-use Rattle.soar_read.proofs.UseLemmas.{all_mapped}
+use Rattle.read_parts.proofs.TextLemmas.{and-true, both-true}
+use Rattle.read_parts.proofs.UseLemmas.{all_mapped}
 
 -- ---- conditions
 

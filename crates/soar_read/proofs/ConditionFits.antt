@@ -14,7 +14,7 @@ use Rattle.defs_read.specs.FreshNames.{Fresh, Expanded, fresh_variable}
 use Rattle.defs_read.specs.Grammar.{FieldTree, ValueTest, AttributeTest, Group, Part, grouped, joined, Parts, no_parts, part_and}
 use Rattle.soar_read.proofs.FieldFits.{fresh_fits, field_of_fits, plain_fits}
 use Rattle.soar_read.proofs.FitLemmas.{atom_fits, field_fits, condition_fits, field_stays, condition_stays, all_stay, count, Fits, all_append, all_conditions}
-use Rattle.soar_read.proofs.TextLemmas.{and-true, both-true}
+use Rattle.read_parts.proofs.TextLemmas.{and-true, both-true}
 
 abbrev pub conds_fit : ℕ → ℕ → List Condition → Bool
 conds_fit known n cs = list_all (condition_fits known n) cs

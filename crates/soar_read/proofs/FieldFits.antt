@@ -16,8 +16,8 @@ use Rattle.defs_read.specs.FieldExpansion.{symbol_of, atom_of, test_by_sign, tes
 use Rattle.defs_read.specs.FreshNames.{Fresh, Expanded, expanded, has_name, place_of_name, fresh_variable, free_number, new_name}
 use Rattle.defs_read.specs.Grammar.{Constant, named, number, Single, a_variable, a_constant, Simple, one_of, tested, FieldTree}
 use Rattle.soar_read.proofs.FitLemmas.{symbol_fits, atom_fits, test_fits, field_fits, test_stays, count, Fits}
-use Rattle.soar_read.proofs.NameLemmas.{same-bytes, place_last}
-use Rattle.soar_read.proofs.TextLemmas.{both-true, place_within}
+use Rattle.read_parts.proofs.NameLemmas.{same-bytes, place_last}
+use Rattle.read_parts.proofs.TextLemmas.{both-true, place_within}
 
 -- ---- constants and variables
 

@@ -13,8 +13,8 @@ use Rattle.soar_rule.specs.declared.cond.Pattern.{Pattern}
 use Rattle.soar_rule.specs.Conditions.{Condition, positive, negated, conjunctive, Conditions, no_more, condition_and, all_of}
 use Rattle.soar_rule.specs.Productions.{ValueOf, atom_value, call_value, ValuesOf, no_values, value_and, PreferenceOf, accepts, rejects, requires_it, prohibits, is_best, is_worst, is_indifferent, is_better_than, is_worse_than, is_indifferent_to, ActionOf, makes, writes, halts}
 use Rattle.defs_read.specs.FreshNames.{Fresh, Expanded}
-use Rattle.soar_read.proofs.TextLemmas.{and-true, both-true}
-use Rattle.soar_read.proofs.UseLemmas.{all_mapped}
+use Rattle.read_parts.proofs.TextLemmas.{and-true, both-true}
+use Rattle.read_parts.proofs.UseLemmas.{all_mapped}
 
 -- ---- what fits: so many words are known, and so many names
 

@@ -10,13 +10,13 @@ use Rattle.soar_sym.specs.Words.{Texts, place_of, text_of, with_texts, word_of}
 use Rattle.defs_text.specs.Numbered.{word_in}
 use Rattle.soar_read.specs.Answers.{Grown}
 use Rattle.soar_read.specs.Joining.{is_own_name, IsWordOf, Joins, AreWordsOf, AllJoin}
-use Rattle.soar_read.specs.Naming.{name_text, new_text}
+use Rattle.read_parts.specs.Naming.{name_text, new_text}
 use Rattle.soar_read.specs.declared.fault.ReadFault.{ReadFault}
 use Rattle.soar_read.specs.declared.fault.ReadFault.TheVariants as fault
-use Rattle.soar_read.specs.declared.names.Name.{Name}
-use Rattle.soar_read.specs.declared.names.Name.TheVariants.{Given, New}
+use Rattle.read_parts.specs.declared.names.Name.{Name}
+use Rattle.read_parts.specs.declared.names.Name.TheVariants.{Given, New}
 use Rattle.soar_read.proofs.GrownLemmas.{grown_all, grown_then, grown_length, texts_after, word_is, word_stays}
-use Rattle.soar_read.proofs.TextLemmas.{and-true, place_of_own}
+use Rattle.read_parts.proofs.TextLemmas.{and-true, place_of_own}
 
 -- ---- words that are kept
 

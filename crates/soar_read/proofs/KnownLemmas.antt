@@ -17,7 +17,7 @@ use Rattle.soar_rule.specs.Symbols.{AreKnown, constants_of_atom, constants_of_te
 use Rattle.soar_rule.specs.Variables.{referent_value}
 use Rattle.defs_text.specs.Numbered.{word_in}
 use Rattle.soar_read.proofs.FitLemmas.{symbol_fits, atom_fits, test_fits, field_fits, pattern_fits, condition_fits, conditions_fit, value_fits, values_fit, preference_fits, action_fits}
-use Rattle.soar_read.proofs.TextLemmas.{and-true, place_within}
+use Rattle.read_parts.proofs.TextLemmas.{and-true, place_within}
 
 -- the table has so many words at least
 pub record Holds (words : Texts) (known : ℕ) : Type 0 where

@@ -7,7 +7,3 @@ pub mod GrownLemmas
 pub mod JoinLemmas
 pub mod KnownLemmas
 pub mod MeaningLemmas
-pub mod NameLemmas
-pub mod TextLemmas
-pub mod UseLemmas
-pub mod ValueLemmas

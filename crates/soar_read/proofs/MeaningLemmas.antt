@@ -15,19 +15,19 @@ use Rattle.defs_read.specs.FreshNames.{Fresh, Expanded, expanded, has_name, new_
 use Rattle.defs_read.specs.Grammar.{part_and}
 use Rattle.defs_read.specs.Reading.{parts_of}
 use Rattle.defs_read.specs.Sayings.{sayings, word_text}
-use Rattle.soar_tree.specs.Seen.{action_seen as tree_action_seen, part_seen, tree_seen}
-use Rattle.soar_tree.specs.declared.production.Tree.{Tree}
+use Rattle.tree_parts.specs.Seen.{action_seen as tree_action_seen, part_seen, tree_seen}
+use Rattle.tree_parts.specs.declared.production.Tree.{Tree}
 use Rattle.soar_read.specs.Answers.{meaning}
 use Rattle.soar_read.specs.Joining.{is_own_name, AreWordsOf, AllJoin}
 use Rattle.soar_read.specs.Meaning.{no_names, conditions_from, actions_from, meaning_from, completed, IsHead, IsMeant}
-use Rattle.soar_read.specs.Naming.{name_text, new_text}
-use Rattle.soar_read.specs.Using.{is_variable}
-use Rattle.soar_read.specs.Words.{is_own, texts_of}
+use Rattle.read_parts.specs.Naming.{name_text, new_text}
+use Rattle.read_parts.specs.Using.{is_variable}
+use Rattle.read_parts.specs.Words.{is_own, texts_of}
 use Rattle.soar_read.specs.declared.fault.ReadFault.{ReadFault}
 use Rattle.soar_read.specs.declared.fault.ReadFault.TheVariants as fault
-use Rattle.soar_read.specs.declared.names.Name.{Name}
-use Rattle.soar_read.specs.declared.names.Name.TheVariants.{Given, New}
-use Rattle.soar_read.specs.declared.names.Names.{Names}
+use Rattle.read_parts.specs.declared.names.Name.{Name}
+use Rattle.read_parts.specs.declared.names.Name.TheVariants.{Given, New}
+use Rattle.read_parts.specs.declared.names.Names.{Names}
 use Rattle.soar_read.specs.declared.production.Body.{Body}
 use Rattle.soar_read.proofs.ActionFits.{acts_fit, actions_of_fit}
 use Rattle.soar_read.proofs.BelowLemmas.{conds_are_below, actions_are_below}
@@ -36,8 +36,8 @@ use Rattle.soar_read.proofs.FitLemmas.{condition_fits, condition_stays, all_stay
 use Rattle.soar_read.proofs.GrownLemmas.{grown_all, grown_length}
 use Rattle.soar_read.proofs.JoinLemmas.{words_in}
 use Rattle.soar_read.proofs.KnownLemmas.{Holds, known_append, conditions_known, actions_known, word_known, names_known}
-use Rattle.soar_read.proofs.TextLemmas.{and-true}
-use Rattle.soar_read.proofs.UseLemmas.{all_mapped}
+use Rattle.read_parts.proofs.TextLemmas.{and-true}
+use Rattle.read_parts.proofs.UseLemmas.{all_mapped}
 
 -- ---- the meaning of tokens
 

@@ -5,12 +5,12 @@ use Rattle.soar_sym.specs.declared.symbol.Sym.{Sym}
 use Rattle.soar_sym.specs.declared.symbol.Sym.TheVariants.{Word}
 use Rattle.defs_read.specs.FreshNames.{new_name}
 use Rattle.soar_read.specs.Answers.{Grown}
-use Rattle.soar_read.specs.Naming.{name_text, new_text}
-use Rattle.soar_read.specs.Words.{is_own}
+use Rattle.read_parts.specs.Naming.{name_text, new_text}
+use Rattle.read_parts.specs.Words.{is_own}
 use Rattle.soar_read.specs.declared.fault.ReadFault.{ReadFault}
 use Rattle.soar_read.specs.declared.fault.ReadFault.TheVariants as fault
-use Rattle.soar_read.specs.declared.names.Name.{Name}
-use Rattle.soar_read.specs.declared.names.Name.TheVariants.{Given, New}
+use Rattle.read_parts.specs.declared.names.Name.{Name}
+use Rattle.read_parts.specs.declared.names.Name.TheVariants.{Given, New}
 
 -- a given name is found by its text
 abbrev pub is_own_name : Texts → Name → Bool

@@ -15,8 +15,8 @@ use Rattle.defs_read.specs.Grammar.{part_and}
 use Rattle.defs_read.specs.Reading.{parts_of}
 use Rattle.defs_read.specs.Sayings.{word_text}
 use Rattle.defs_text.specs.Numbered.{word_in}
-use Rattle.soar_tree.specs.Seen.{action_seen as tree_action_seen, flag_seen, part_seen, tree_seen}
-use Rattle.soar_tree.specs.declared.production.Tree.{Tree}
+use Rattle.tree_parts.specs.Seen.{action_seen as tree_action_seen, flag_seen, part_seen, tree_seen}
+use Rattle.tree_parts.specs.declared.production.Tree.{Tree}
 use Rattle.soar_read.specs.Answers.{Grown}
 use Rattle.soar_read.specs.declared.fault.ReadFault.{ReadFault}
 use Rattle.soar_read.specs.declared.fault.ReadFault.TheVariants as fault

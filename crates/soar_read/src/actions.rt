@@ -3,16 +3,14 @@ ghost use Rattle.std.specs.Prelude.{◌≡◌, [], ◌∷◌, ◌++◌, true, ma
 ghost use Rattle.soar_rule.specs.Productions.{accepts, action_seen, atom_value, makes, preference_seen, value_seen};
 ghost use Rattle.defs_read.specs.ActionExpansion.{action_of, action_path, actions_of, items_actions, makes_actions, value_of, wished_actions, wishes_actions};
 ghost use Rattle.defs_read.specs.FreshNames.{expanded, fresh_variable, then_expand};
-ghost use Rattle.soar_tree.specs.Seen.{action_seen as tree_seen, attribute_make_seen, item_seen, term_seen, wish_seen};
-ghost use Rattle.soar_read.specs.Naming.{are_kept, fresh_seen};
+ghost use Rattle.tree_parts.specs.Seen.{action_seen as tree_seen, attribute_make_seen, item_seen, term_seen, wish_seen};
+ghost use Rattle.read_parts.specs.Naming.{are_kept, fresh_seen};
 
-use crate::names::{Names, fresh, named};
-use crate::source::Source;
-use crate::values::{copy_value, preference, value, values};
+use read_parts::{Names, Source, copy_value, fresh, named, preference, value, values};
 use soar_rule::{Action, Atom, Pref, Value};
 use soar_sym::{List, NoMemory};
-use soar_tree::{ActionTree, AttributeMake, ItemTree, WishTree};
 use std::alloc::Global;
+use tree_parts::{ActionTree, AttributeMake, ItemTree, WishTree};
 
 fn single(alloc: Global, action: Action) -> Result<List<Action>, NoMemory>
     ensures { IfOk result (λ actions. map action_seen actions ≡ action_seen action ∷ []) }

@@ -3,10 +3,10 @@ ghost use Rattle.std.specs.Prelude.{◌≡◌, map};
 ghost use Rattle.soar_rule.specs.declared.production.Kind.TheVariants.{User};
 ghost use Rattle.soar_rule.specs.declared.production.Support.TheVariants.{Unset};
 ghost use Rattle.defs_read.specs.Expansion.{kind_of, support_of, with_kind, with_support};
-ghost use Rattle.soar_tree.specs.Seen.{flag_seen};
+ghost use Rattle.tree_parts.specs.Seen.{flag_seen};
 
 use soar_rule::{Kind, Support};
-use soar_tree::Flag;
+use tree_parts::Flag;
 
 fn with_support(support: Support, flag: Flag) -> Support
     ensures { result ≡ with_support support (flag_seen flag) }

@@ -4,7 +4,7 @@ ghost use Rattle.std.specs.List.{list_all};
 ghost use Rattle.soar_read.specs.Joining.{is_own_name, AllJoin, Joins, JoinsText};
 
 use crate::fault::ReadFault;
-use crate::names::{Name, new_name};
+use read_parts::{Name, new_name};
 use soar_sym::{InternFault, List, Sym, SymTable};
 use std::alloc::Global;
 

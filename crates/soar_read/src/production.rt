@@ -6,26 +6,24 @@ ghost use Rattle.soar_rule.specs.Productions.{action_seen, production_seen};
 ghost use Rattle.soar_rule.specs.Symbols.{AreKnown, symbols_of};
 ghost use Rattle.defs_read.specs.FreshNames.{expanded};
 ghost use Rattle.defs_read.specs.Sayings.{AreTokensKnown};
-ghost use Rattle.soar_tree.specs.Seen.{tree_seen};
+ghost use Rattle.tree_parts.specs.Seen.{tree_seen};
 ghost use Rattle.soar_read.specs.Answers.{meaning};
 ghost use Rattle.soar_read.specs.Meaning.{actions_from, completed, conditions_from, meaning_from, IsHead, IsMeant};
-ghost use Rattle.soar_read.specs.Naming.{are_kept, fresh_seen, used_texts};
-ghost use Rattle.soar_read.specs.Using.{AreUses};
-ghost use Rattle.soar_read.specs.Words.{texts_of};
+ghost use Rattle.read_parts.specs.Naming.{are_kept, fresh_seen, used_texts};
+ghost use Rattle.read_parts.specs.Using.{AreUses};
+ghost use Rattle.read_parts.specs.Words.{texts_of};
 
 use crate::actions::actions;
 use crate::conditions::conditions;
 use crate::fault::ReadFault;
 use crate::flags::{kind_of, support_of};
 use crate::joining::join_all;
-use crate::names::Names;
-use crate::source::Source;
-use crate::uses::{Uses, uses_of};
 use defs_text::Token;
+use read_parts::{Names, Source, Uses, uses_of};
 use soar_rule::{Action, Cond, Kind, Production, Support};
 use soar_sym::{List, NoMemory, Sym, SymTable, Text};
-use soar_tree::Tree;
 use std::alloc::Global;
+use tree_parts::Tree;
 
 /// The parts of a production, before the names of its new variables join the table.
 #[derive(Drop)]

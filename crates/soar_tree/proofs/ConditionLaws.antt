@@ -8,10 +8,10 @@ use Rattle.defs_read.specs.Readers.{begins, then_read, flag}
 use Rattle.defs_read.specs.Reading.{part_at, grouped_at, joined_at}
 use Rattle.defs_read.specs.ReadingTokens.{ReadOf, is_mark, is_sign}
 use Rattle.defs_read.specs.Spelling.{Tokens}
-use Rattle.soar_tree.specs.declared.condition.Part.{Part, fold-roll-Part}
-use Rattle.soar_tree.specs.declared.condition.Part.TheVariants.{Joined, rolls-Joined}
-use Rattle.soar_tree.specs.declared.condition.Part.TheOpen as F
-use Rattle.soar_tree.specs.Known.{part_step, is_part_known}
+use Rattle.tree_parts.specs.declared.condition.Part.{Part, fold-roll-Part}
+use Rattle.tree_parts.specs.declared.condition.Part.TheVariants.{Joined, rolls-Joined}
+use Rattle.tree_parts.specs.declared.condition.Part.TheOpen as F
+use Rattle.tree_parts.specs.Known.{part_step, is_part_known}
 
 pub known_joined : (words : Texts) (negative : Bool) (parts : List Part) → is_part_known words (Joined negative parts) ≡ list_all (is_part_known words) parts
 known_joined words negative parts =

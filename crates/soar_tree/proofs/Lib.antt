@@ -1,3 +1,2 @@
 pub mod ConditionLaws
-pub mod LoopLaws
-pub mod ValueLaws
+pub mod EndingLaws

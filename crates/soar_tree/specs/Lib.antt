@@ -1,5 +1,2 @@
 pub mod Answers
-pub mod Known
 pub mod Reading
-pub mod Seen
-pub mod Underway

@@ -1,53 +1,32 @@
 -- What the private readers answer. No public clause cites this module.
-use Rattle.std.specs.Prelude.{◌≡◌, true, false, Bool, ◌<◌, ◌≤◌, List, length, Result, Ok, Err}
-use Rattle.std.specs.Borrow.{Bor}
+use Rattle.std.specs.Prelude.{true, false, List, length, map, Ok, Err}
 use Rattle.soar_sym.specs.Words.{Texts}
-use Rattle.defs_text.specs.Lexing.{Saying}
-use Rattle.defs_text.specs.declared.token.Token.{Token}
-use Rattle.defs_read.specs.Grammar.{Part}
-use Rattle.defs_read.specs.Readers.{unexpected, deep, begins, token}
-use Rattle.defs_read.specs.Reading.{opens, Seen}
-use Rattle.defs_read.specs.ReadingTokens.{ReadOf}
+use Rattle.defs_read.specs.Grammar.{ActionTree, Part, Tree}
+use Rattle.defs_read.specs.Readers.{unexpected, deep, begins, then_read, token, many}
+use Rattle.defs_read.specs.Reading.{begins_part, opens, part_at, parts_of}
+use Rattle.defs_read.specs.ReadingActions.{action_at, most_open}
+use Rattle.defs_read.specs.ReadingTokens.{is_arrow, is_mark, ReadOf}
+use Rattle.defs_read.specs.Sayings.{word_text}
 use Rattle.defs_read.specs.Spelling.{Tokens}
-use Rattle.defs_read.specs.Sayings.{AreTokensKnown, sayings}
-use Rattle.soar_tree.specs.declared.reading_flags.SeenFlags.{SeenFlags}
-use Rattle.soar_tree.specs.declared.stop.Stop.{Stop}
-use Rattle.soar_tree.specs.declared.stop.Stop.TheVariants as stop
-
--- a stop is where reading stops, unless memory runs out
-abbrev pub Stops : {A : Type 0} → Stop → ReadOf A → Type 0
-Stops stop.NoMemory read = Unit {0}
-Stops (stop.Unexpected left) read = read ≡ Err (unexpected, left)
-Stops (stop.Deep left) read = read ≡ Err (deep, left)
-
--- what was read, as it is seen, and the tokens that are left, are what the definition gives
-abbrev pub Gives : {X A : Type 0} → (X → A) → Texts → Result (X × Bor (List Token)) Stop → ReadOf A → Type 0
-Gives view words (Ok x) read = read ≡ Ok (view x.0, sayings words x.1.now)
-Gives view words (Err e) read = Stops e read
-
--- what was read of these tokens is what the definition reads of them
-abbrev pub Reads : {X A : Type 0} → (Texts → X → A) → (Tokens → ReadOf A) → Texts → List Token → Result (X × Bor (List Token)) Stop → Type 0
-Reads view read words tokens result = Gives (view words) words result (read (sayings words tokens))
-
--- one such token was taken
-abbrev pub Takes : (Saying → Bool) → Texts → List Token → Result (Bor (List Token)) Stop → Type 0
-Takes is words tokens (Ok rest) = token is (sayings words tokens) ≡ Ok (record {}, sayings words rest.now)
-Takes is words tokens (Err e) = Stops e (token is (sayings words tokens))
-
--- tokens that are left once one or more were taken
-pub record IsLater (words : Texts) (before after : List Token) : Type 0 where
-  pub known : AreTokensKnown words after
-  pub less : length after < length before
-
--- tokens that are left once some were taken
-pub record IsRest (words : Texts) (before after : List Token) : Type 0 where
-  pub known : AreTokensKnown words after
-  pub within : length after ≤ length before
+use Rattle.tree_parts.specs.Seen.{flag_seen}
+use Rattle.soar_tree.specs.declared.production.Head.{Head}
 
 -- no condition, where no more brackets may be open
 abbrev pub nothing_at : Tokens → ReadOf Part
 nothing_at ts = elim (begins opens ts) [ true ↦ Err (deep, length ts) | false ↦ Err (unexpected, length ts) ]
 
--- which flags have been read
-abbrev pub seen_flags : SeenFlags → Seen
-seen_flags s = record { support = s.support; kind = s.kind }
+-- the arrow, the actions and the last brace
+abbrev pub ending_at : Tokens → ReadOf (List ActionTree)
+ending_at ts =
+    then_read (token is_arrow ts) (λ _ rest. then_read (many (is_mark 40) (action_at 63) rest) (λ actions rest. then_read (token (is_mark 125) rest) (λ _ rest. Ok (actions, rest))))
+
+-- the same, behind these conditions
+abbrev pub actions_behind : Texts → Head → Part → List Part → Tokens → ReadOf Tree
+actions_behind words head part parts ts =
+    then_read (token is_arrow ts) (λ _ rest. then_read (many (is_mark 40) (action_at 63) rest) (λ actions rest. then_read (token (is_mark 125) rest) (λ _ rest.
+    Ok (record { name = word_text words head.name; bare = head.bare; doc = head.doc; flags = map flag_seen head.flags; part = part; parts = parts_of parts; actions = actions }, rest))))
+
+-- the conditions and what follows, behind name, documentation and flags
+abbrev pub conditions_behind : Texts → Head → Tokens → ReadOf Tree
+conditions_behind words head ts =
+    then_read (part_at most_open ts) (λ part rest. then_read (many begins_part (part_at most_open) rest) (λ parts rest. actions_behind words head part parts rest))

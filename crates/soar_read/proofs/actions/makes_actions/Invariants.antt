@@ -1,9 +1,9 @@
 use Rattle.std.proofs.Common.{◌≡◌, ◌∷◌, true, map, drop}
 use Rattle.soar_rule.specs.Productions.{action_seen}
 use Rattle.defs_read.specs.ActionExpansion.{makes_actions}
-use Rattle.soar_tree.specs.Seen.{attribute_make_seen}
-use Rattle.soar_read.specs.Expanding.{behind}
-use Rattle.soar_read.specs.Naming.{are_kept, fresh_seen}
+use Rattle.tree_parts.specs.Seen.{attribute_make_seen}
+use Rattle.read_parts.specs.Expanding.{behind}
+use Rattle.read_parts.specs.Naming.{are_kept, fresh_seen}
 use Rattle.soar_read.proofs.actions.makes_actions.Given as goal
 
 abbrev pub invariant-others : goal.invariant-others

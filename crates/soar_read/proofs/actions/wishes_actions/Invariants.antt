@@ -1,9 +1,9 @@
 use Rattle.std.proofs.Common.{◌≡◌, true, map, drop}
 use Rattle.soar_rule.specs.Productions.{action_seen, value_seen}
 use Rattle.defs_read.specs.ActionExpansion.{wishes_actions}
-use Rattle.soar_tree.specs.Seen.{wish_seen}
-use Rattle.soar_read.specs.Expanding.{behind}
-use Rattle.soar_read.specs.Naming.{are_kept, fresh_seen}
+use Rattle.tree_parts.specs.Seen.{wish_seen}
+use Rattle.read_parts.specs.Expanding.{behind}
+use Rattle.read_parts.specs.Naming.{are_kept, fresh_seen}
 use Rattle.soar_read.proofs.actions.wishes_actions.Given as goal
 
 abbrev pub invariant-wishes : goal.invariant-wishes

@@ -2,9 +2,9 @@ use Rattle.std.proofs.Common.{◌≡◌, true, map, drop}
 use Rattle.soar_rule.specs.Conditions.{condition}
 use Rattle.defs_read.specs.ConditionExpansion.{parts_conditions}
 use Rattle.defs_read.specs.Reading.{parts_of}
-use Rattle.soar_tree.specs.Seen.{part_seen}
-use Rattle.soar_read.specs.Expanding.{behind}
-use Rattle.soar_read.specs.Naming.{are_kept, fresh_seen}
+use Rattle.tree_parts.specs.Seen.{part_seen}
+use Rattle.read_parts.specs.Expanding.{behind}
+use Rattle.read_parts.specs.Naming.{are_kept, fresh_seen}
 use Rattle.soar_read.proofs.conditions.+parts.Given as goal
 
 abbrev pub invariant-parts-trees : goal.invariant-parts-trees

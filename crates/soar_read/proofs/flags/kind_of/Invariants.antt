@@ -1,7 +1,7 @@
 use Rattle.std.proofs.Common.{◌≡◌, map, drop}
 use Rattle.soar_rule.specs.declared.production.Kind.TheVariants.{User}
 use Rattle.defs_read.specs.Expansion.{kind_of}
-use Rattle.soar_tree.specs.Seen.{flag_seen}
+use Rattle.tree_parts.specs.Seen.{flag_seen}
 use Rattle.soar_read.proofs.flags.kind_of.Given as goal
 
 abbrev pub invariant-flags : goal.invariant-flags

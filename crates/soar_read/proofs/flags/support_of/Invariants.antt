@@ -1,7 +1,7 @@
 use Rattle.std.proofs.Common.{◌≡◌, map, drop}
 use Rattle.soar_rule.specs.declared.production.Support.TheVariants.{Unset}
 use Rattle.defs_read.specs.Expansion.{support_of}
-use Rattle.soar_tree.specs.Seen.{flag_seen}
+use Rattle.tree_parts.specs.Seen.{flag_seen}
 use Rattle.soar_read.proofs.flags.support_of.Given as goal
 
 abbrev pub invariant-flags : goal.invariant-flags

@@ -5,9 +5,9 @@ use Rattle.soar_rule.specs.Productions.{ProductionOf}
 use Rattle.soar_rule.specs.Symbols.{AreKnown, symbols_of}
 use Rattle.soar_read.specs.Joining.{is_own_name, AreWordsOf}
 use Rattle.soar_read.specs.Meaning.{meaning_from}
-use Rattle.soar_read.specs.Naming.{new_text}
-use Rattle.soar_read.specs.Words.{texts_of}
-use Rattle.soar_read.specs.declared.names.Name.{Name}
+use Rattle.read_parts.specs.Naming.{new_text}
+use Rattle.read_parts.specs.Words.{texts_of}
+use Rattle.read_parts.specs.declared.names.Name.{Name}
 use Rattle.soar_read.proofs.MeaningLemmas.{IsBody, own_names, conds_closed, actions_closed, meant, meaning_known}
 use Rattle.soar_read.proofs.production.joined.Goals as goal
 

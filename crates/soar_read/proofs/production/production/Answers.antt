@@ -1,9 +1,9 @@
 use Rattle.std.proofs.Common.{sym, subst}
 use Rattle.defs_read.specs.Expansion.{ProductionRead}
 use Rattle.soar_read.specs.Meaning.{IsMeant}
-use Rattle.soar_read.specs.Words.{texts_of}
+use Rattle.read_parts.specs.Words.{texts_of}
 use Rattle.soar_read.proofs.MeaningLemmas.{meaning_by_names}
-use Rattle.soar_read.proofs.TextLemmas.{room_of}
+use Rattle.read_parts.proofs.TextLemmas.{room_of}
 use Rattle.soar_read.proofs.production.production.Goals as goal
 
 pub joined-requires-clause-room : goal.joined-requires-clause-room

@@ -8,7 +8,7 @@ use Rattle.defs_read.specs.Readers.{unexpected, then_read, at_end}
 use Rattle.defs_read.specs.ReadingActions.{production_at, tree_of}
 use Rattle.defs_read.specs.ReadingTokens.{ReadOf}
 use Rattle.defs_read.specs.Sayings.{saying_of, sayings}
-use Rattle.soar_tree.specs.Seen.{tree_seen}
+use Rattle.tree_parts.specs.Seen.{tree_seen}
 use Rattle.soar_tree.proofs.tree.read_tree.Goals as goal
 
 left_over : (words : Texts) (tokens rest : List Token) (tree : Tree) → production_at (sayings words tokens) ≡ Ok (tree, sayings words rest) → (rest ≡ [] → ⊥)

@@ -1,0 +1,4 @@
+pub mod NameLemmas
+pub mod TextLemmas
+pub mod UseLemmas
+pub mod ValueLemmas

@@ -1,8 +1,0 @@
-use Rattle.std.proofs.Common.{◌≡◌, ◌∷◌, map, take}
-use Rattle.defs_read.specs.FieldExpansion.{symbol_of}
-use Rattle.soar_tree.specs.Seen.{constant_seen}
-use Rattle.soar_read.proofs.fields.symbols.Given as goal
-
-abbrev pub invariant-others : goal.invariant-others
-invariant-others l =
-    l.symbols ≡ symbol_of l.source.table.now (constant_seen l.source.table.now l.fn.first) ∷ map (symbol_of l.source.table.now) (map (constant_seen l.source.table.now) (take l.constant-index l.others))
