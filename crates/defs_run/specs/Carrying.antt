@@ -50,7 +50,7 @@ excised name s = quiet (with_agent s (record s.agent { program = without_name na
 -- ---- running
 
 abbrev pub told_of : Agent → Said → Told
-told_of a said = record { pieces = pieces_of a.names.words said.events; drawn = said.drawn }
+told_of a said = record { pieces = pieces_of a.names.words said.events; totals = said.totals }
 
 -- words are never taken from the table, so the last table has the texts of all steps
 abbrev pub followed : Session → Course → Reply
@@ -81,12 +81,12 @@ abbrev pub lists_slot : Session → Operand → Operand → Reply
 lists_slot s id attr =
     let i = resolved s id in
     let a = resolved i.session attr in
-    draws (i.drawn ++ a.drawn) (says a.session (preference_lines a.session.agent i.symbol a.symbol))
+    draws (i.totals ++ a.totals) (says a.session (preference_lines a.session.agent i.symbol a.symbol))
 
 abbrev pub lists_elements : Session → Operand → Reply
 lists_elements s id =
     let i = resolved s id in
-    draws i.drawn (says i.session (element_lines s.agent.names.words (elements_of i.symbol s.agent.holding.elements)))
+    draws i.totals (says i.session (element_lines s.agent.names.words (elements_of i.symbol s.agent.holding.elements)))
 
 -- ---- the order
 

@@ -9,8 +9,8 @@ use Rattle.defs_soar.specs.Agents.{Agent}
 use Rattle.defs_soar.specs.Cycle.{held_with}
 use Rattle.defs_soar.specs.Goals.{is_operator_slot, plain_triple}
 use Rattle.defs_soar.specs.Levels.{level}
-use Rattle.defs_soar.specs.Limits.{Drawn}
-use Rattle.defs_soar.specs.Resettling.{Step, resettled}
+use Rattle.defs_soar.specs.Limits.{Total}
+use Rattle.defs_soar.specs.Resettling.{AgentStep, resettled}
 use Rattle.defs_soar.specs.Trace.{pieces_of}
 use Rattle.defs_soar.specs.Values.{triple_eq, has_triple_among}
 use Rattle.defs_run.specs.Orders.{Operand, is_symbol, is_label, Refusal, unknown_identifier, not_of_the_top_state, reserved_attribute, already_there, not_an_input}
@@ -21,8 +21,8 @@ pub data Carried : Type 0 where
   does : Reply → Carried
   refuses : Refusal → Carried
 
-abbrev pub told_by : Agent → Step → Told
-told_by a step = record { pieces = pieces_of step.agent.names.words step.events; drawn = step.drawn }
+abbrev pub told_by : Agent → AgentStep → Told
+told_by a step = record { pieces = pieces_of step.agent.names.words step.events; totals = step.totals }
 
 -- the session with these inputs, settled
 abbrev pub with_inputs : List Triple → Session → Reply
@@ -32,14 +32,14 @@ with_inputs inputs s = let step = resettled s.agent (held_with s.agent inputs) i
 pub record Spelled : Type 0 where
   pub session : Session
   pub triple : Triple
-  pub drawn : List Drawn
+  pub totals : List Total
 
 abbrev pub spelled : Session → Operand → Operand → Operand → Spelled
 spelled s id attr value =
     let i = resolved s id in
     let a = resolved i.session attr in
     let v = resolved a.session value in
-    record { session = v.session; triple = plain_triple i.symbol a.symbol v.symbol; drawn = i.drawn ++ (a.drawn ++ v.drawn) }
+    record { session = v.session; triple = plain_triple i.symbol a.symbol v.symbol; totals = i.totals ++ (a.totals ++ v.totals) }
 
 abbrev pub or_else : {A : Type 0} → Option A → Option A → Option A
 or_else (Some a) later = Some a
@@ -73,7 +73,7 @@ is_reserved s t = is_operator_slot s.agent.holding.goals t.id t.attr
 
 abbrev pub unless_there : Spelled → Option ℕ → Carried
 unless_there t (Some tag) = refuses (already_there tag)
-unless_there t None = does (draws t.drawn (with_inputs (t.session.agent.holding.inputs ++ t.triple ∷ []) t.session))
+unless_there t None = does (draws t.totals (with_inputs (t.session.agent.holding.inputs ++ t.triple ∷ []) t.session))
 
 -- an element that is there for another cause becomes no input
 abbrev pub added : Spelled → Carried
@@ -94,7 +94,7 @@ removed s e =
 abbrev pub with_queued : Bool → Spelled → Reply
 with_queued adds t =
     let a = t.session.agent in
-    draws t.drawn (quiet (with_agent t.session (record a { queues = record a.queues { input = a.queues.input ++ record { adds = adds; triple = t.triple } ∷ [] } })))
+    draws t.totals (quiet (with_agent t.session (record a { queues = record a.queues { input = a.queues.input ++ record { adds = adds; triple = t.triple } ∷ [] } })))
 
 abbrev pub queued : Bool → Spelled → Carried
 queued adds t = if is_reserved t.session t.triple then refuses reserved_attribute else does (with_queued adds t)

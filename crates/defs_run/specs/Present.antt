@@ -2,7 +2,7 @@
 use Rattle.std.specs.Prelude.{ℕ, zero, suc, true, false, List, [], ◌∷◌, map, drop, Option, Some, None, option_and_then, Result, Ok, Err, if◌then◌else◌, codes}
 use Rattle.std.specs.Str.{bytes_eq}
 use Rattle.soar_sym.specs.Words.{Texts}
-use Rattle.soar_edge.specs.Cutting.{cuts_of, uncommented}
+use Rattle.soar_edge.specs.Cutting.{cuts_of}
 use Rattle.soar_edge.specs.declared.filed.Filed.{Filed}
 use Rattle.soar_rule.specs.Checking.{ordered}
 use Rattle.soar_rule.specs.Productions.{ProductionOf}
@@ -10,6 +10,7 @@ use Rattle.defs_text.specs.Lexing.{lexed, Spelled}
 use Rattle.defs_soar.specs.Agents.{Agent}
 use Rattle.defs_soar.specs.Cycle.{then_phase, then_course}
 use Rattle.defs_soar.specs.Events.{proposal_phase}
+use Rattle.defs_soar.specs.Learning.{without_learning}
 use Rattle.defs_soar.specs.Limits.{counts_to}
 use Rattle.defs_soar.specs.Phases.{Said, Course, still}
 use Rattle.defs_run.specs.Arguments.{Argument, argument_in}
@@ -66,7 +67,7 @@ read_order f text words tokens = record { words = words; order = or_not_built (o
 
 abbrev pub read_by : Texts → List ℕ → Option Form → Reading
 read_by words text None = record { words = words; order = Err unknown_command }
-read_by words text (Some f) = unless_faulty words (lexed (uncommented text)) (read_order f text)
+read_by words text (Some f) = unless_faulty words (lexed text) (read_order f text)
 
 abbrev pub read_present : Texts → List ℕ → Reading
 read_present words text = if bytes_eq (first_run text) (codes "sp") then read_sp judged words text else read_by words text (form_of (first_run text))
@@ -77,11 +78,11 @@ read_present words text = if bytes_eq (first_run text) (codes "sp") then read_sp
 abbrev pub started : Agent → Course
 started a = record {
   agent = record a { counts = record a.counts { cycles = suc a.counts.cycles } };
-  steps = record { events = []; drawn = counts_to (suc a.counts.cycles) ∷ [] } ∷ [];
+  steps = record { events = []; totals = counts_to (suc a.counts.cycles) ∷ [] } ∷ [];
 }
 
 abbrev pub cycle : Agent → Course
-cycle a = then_phase proposal_phase true (started a)
+cycle a = then_phase without_learning proposal_phase true (started a)
 
 abbrev pub cycles : ℕ → Course → Course
 cycles zero c = c

@@ -74,7 +74,7 @@ at_limit watch mid limit = record { written = rendered watch mid (line 0 (limit_
 abbrev pub told_written : ℕ → Bool → List Told → Rendered
 told_written watch mid [] = record { written = record { text = []; mid_line = mid }; limit = None }
 told_written watch mid (t ∷ told) =
-    elim (first_passed t.drawn) [
+    elim (first_passed t.totals) [
       | Some limit ↦ at_limit watch mid limit
       | None ↦ let w = rendered watch mid t.pieces in behind_written w (told_written watch w.mid_line told)
     ]

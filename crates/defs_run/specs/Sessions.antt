@@ -6,7 +6,7 @@ use Rattle.soar_sym.specs.declared.symbol.Sym.{Sym}
 use Rattle.soar_sym.specs.declared.symbol.Sym.TheVariants.{Ident, Word, Int}
 use Rattle.defs_text.specs.Symbols.{symbol_text}
 use Rattle.defs_soar.specs.Agents.{Agent}
-use Rattle.defs_soar.specs.Limits.{Drawn, identifiers_to}
+use Rattle.defs_soar.specs.Limits.{Total, identifiers_to}
 use Rattle.defs_soar.specs.Naming.{letter_from}
 use Rattle.defs_soar.specs.Start.{first_agent}
 use Rattle.defs_soar.specs.Trace.{Piece, line}
@@ -31,7 +31,7 @@ first_session watch = record { agent = first_agent watch; labels = []; mid_line 
 -- what one step says, and what it draws
 pub record Told : Type 0 where
   pub pieces : List Piece
-  pub drawn : List Drawn
+  pub totals : List Total
 
 -- what follows a command: the next one, the commands of a file, or the end
 pub data Sequel : Type 0 where
@@ -60,14 +60,14 @@ as_lines [] = []
 as_lines (text ∷ texts) = line 0 text ∷ as_lines texts
 
 abbrev pub says : Session → List (List ℕ) → Reply
-says s texts = replied s (record { pieces = as_lines texts; drawn = [] } ∷ [])
+says s texts = replied s (record { pieces = as_lines texts; totals = [] } ∷ [])
 
 -- a refused command leaves the session as it was
 abbrev pub refused_by : Refusal → List ℕ → ℕ → Session → Reply
 refused_by r from number s = record (says s (refusal_text r from number ∷ [])) { refused = true }
 
-abbrev pub draws : List Drawn → Reply → Reply
-draws drawn reply = record reply { told = record { pieces = []; drawn = drawn } ∷ reply.told }
+abbrev pub draws : List Total → Reply → Reply
+draws totals reply = record reply { told = record { pieces = []; totals = totals } ∷ reply.told }
 
 -- ---- labels
 
@@ -79,7 +79,7 @@ label_in (l ∷ labels) name = if bytes_eq l.name name then Some l.symbol else l
 pub record Resolved : Type 0 where
   pub session : Session
   pub symbol : Sym
-  pub drawn : List Drawn
+  pub totals : List Total
 
 abbrev pub with_label : Session → List ℕ → ℕ → ℕ → Resolved
 with_label s name letter number = record {
@@ -88,16 +88,16 @@ with_label s name letter number = record {
     labels = s.labels ++ record { name = name; symbol = Ident letter number } ∷ [];
   };
   symbol = Ident letter number;
-  drawn = identifiers_to number ∷ [];
+  totals = identifiers_to number ∷ [];
 }
 
 -- a label that is used for the first time becomes a new identifier
 abbrev pub labelled : Session → List ℕ → Option Sym → Resolved
-labelled s name (Some symbol) = record { session = s; symbol = symbol; drawn = [] }
+labelled s name (Some symbol) = record { session = s; symbol = symbol; totals = [] }
 labelled s name None = with_label s name (letter_from name) (last_of s.agent.names.letters (letter_from name) + 1)
 
 abbrev pub resolved : Session → Operand → Resolved
-resolved s (is_symbol symbol) = record { session = s; symbol = symbol; drawn = [] }
+resolved s (is_symbol symbol) = record { session = s; symbol = symbol; totals = [] }
 resolved s (is_label name) = labelled s name (label_in s.labels name)
 
 -- ---- identifiers that were never given

@@ -6,7 +6,7 @@ use Rattle.std.specs.Str.{bytes_eq}
 use Rattle.std.specs.Str.Lossy.{utf8_valid_len}
 use Rattle.soar_sym.specs.Words.{Texts}
 use Rattle.soar_sym.specs.declared.symbol.Sym.{Sym}
-use Rattle.soar_edge.specs.Cutting.{Inside, open_text, after_byte, is_comment, uncommented}
+use Rattle.soar_edge.specs.Cutting.{Inside, open_text, after_byte, is_comment}
 use Rattle.soar_rule.specs.Checking.{Fault, no_state, unbound, unconnected, too_many, too_deep, bad_preference, ordered}
 use Rattle.soar_rule.specs.Productions.{ProductionOf}
 use Rattle.defs_text.specs.Bytes.{is_blank}
@@ -78,7 +78,7 @@ abbrev pub read_tokens : Judge → Texts → List Spelled → Reading
 read_tokens judge words tokens = read_tree judge words tokens (tree_of (map (λ t. t.says) tokens))
 
 abbrev pub read_sp : Judge → Texts → List ℕ → Reading
-read_sp judge words text = unless_faulty words (lexed (uncommented text)) (read_tokens judge)
+read_sp judge words text = unless_faulty words (lexed text) (read_tokens judge)
 
 -- ---- files
 
@@ -128,7 +128,7 @@ read_arguments words text l order =
 
 abbrev pub by_form : Texts → List ℕ → Option Form → Reading
 by_form words text None = record { words = words; order = Err unknown_command }
-by_form words text (Some f) = read_arguments words text (lexed (uncommented text)) f.order
+by_form words text (Some f) = read_arguments words text (lexed text) f.order
 
 -- the order of a command, or its refusal, and the table with its words
 unfoldable pub read_whole : Texts → List ℕ → Reading
@@ -136,5 +136,5 @@ read_whole words text =
     let word = first_run text in
     if bytes_eq word (codes "sp") then read_sp checked words text
     else if bytes_eq word (codes "source") then read_source words text
-    else if bytes_eq word (codes "random") then read_arguments words text (random_lexed 0 0 (uncommented text)) (λ read. random_order)
+    else if bytes_eq word (codes "random") then read_arguments words text (random_lexed 0 0 text) (λ read. random_order)
     else by_form words text (form_in forms word)

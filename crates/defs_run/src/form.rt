@@ -1,23 +1,26 @@
+use soar_rule::Production;
 use soar_sym::{Sym, Text};
 
 /// A symbol, or a label by its name without brackets.
-#[derive(Debug, Drop)]
+#[derive(Drop)]
 pub enum Operand {
     Symbol(Sym),
     Label(Text),
 }
 
 /// The identifier, the attribute and the value of an element.
-#[derive(Debug, Drop)]
+#[derive(Drop)]
 pub struct Addition {
     pub id: Operand,
     pub attr: Operand,
     pub value: Operand,
 }
 
-/// What a command other than `sp` asks for. A count of cycles is from 1 to 1,000,000.
-#[derive(Debug, Drop)]
+/// What a command asks for. A count of cycles is from 1 to 1,000,000.
+#[derive(Drop)]
 pub enum Order {
+    /// To load a production.
+    Load(Production),
     Add(Addition),
     Remove(u64),
     Run(u32),

@@ -9,7 +9,7 @@ use Rattle.defs_match.specs.declared.instance.Instance.{Instance}
 use Rattle.defs_soar.specs.declared.choice.Mode.{Mode}
 use Rattle.defs_soar.specs.declared.preference.Preference.{Preference}
 use Rattle.defs_soar.specs.declared.goal.Goal.{Goal}
-use Rattle.defs_soar.specs.History.{Past, ChainOf}
+use Rattle.defs_soar.specs.History.{RecordedFiring, ChainOf}
 
 -- a firing that was not retracted yet, with the depth of its match goal
 pub record LiveFiring : Type 0 where
@@ -76,6 +76,6 @@ pub record Agent : Type 0 where
   pub program : Program
   pub counts : Counts
   pub settings : Settings
-  pub history : List Past
+  pub history : List RecordedFiring
   pub output : List Triple  -- as of the last output phase
   pub halted : Bool

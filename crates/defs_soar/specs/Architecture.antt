@@ -1,12 +1,48 @@
--- The architecture's words, by name.
+-- The architecture's words, letters and identifiers, by name.
+use Rattle.std.specs.Prelude.{ℕ}
 use Rattle.soar_sym.specs.declared.symbol.Sym.{Sym}
-use Rattle.soar_sym.specs.declared.symbol.Sym.TheVariants.{Word}
+use Rattle.soar_sym.specs.declared.symbol.Sym.TheVariants.{Ident, Word}
+
+-- ---- letters
+
+-- I, of links and of what has no letter of its own
+abbrev pub link_letter : ℕ
+link_letter = 73
+
+-- S, of states
+abbrev pub state_letter : ℕ
+state_letter = 83
+
+-- ---- identifiers at the start
+
+abbrev pub top_state : Sym
+top_state = Ident state_letter 1
+
+abbrev pub io_identifier : Sym
+io_identifier = Ident link_letter 1
+
+abbrev pub input_identifier : Sym
+input_identifier = Ident link_letter 2
+
+abbrev pub output_identifier : Sym
+output_identifier = Ident link_letter 3
+
+-- ---- words
 
 abbrev pub state_word : Sym
 state_word = Word 0
 
 abbrev pub nil_word : Sym
 nil_word = Word 1
+
+abbrev pub io_word : Sym
+io_word = Word 2
+
+abbrev pub input_link_word : Sym
+input_link_word = Word 3
+
+abbrev pub output_link_word : Sym
+output_link_word = Word 4
 
 abbrev pub superstate_word : Sym
 superstate_word = Word 5

@@ -1,4 +1,7 @@
--- The rule that an explanation gives (Soar manual, chunking; order and names are this engine's).
+-- The rule that an explanation gives, in its two forms (Soar manual, chunking; order and names are this engine's).
+--
+-- The grounds are its positive conditions, with the tests taken over; then come negations; the results are its actions.
+-- In the general form identifiers are variables: a chunk. In the literal form they stay: a justification.
 use Rattle.std.specs.Prelude.{ℕ, suc, ◌+◌, Bool, true, false, pos, List, [], ◌∷◌, ◌++◌, map, flat_map, Option, Some, None, if◌then◌else◌}
 use Rattle.soar_sym.specs.Words.{Texts}
 use Rattle.soar_sym.specs.declared.symbol.Sym.{Sym}
@@ -24,7 +27,7 @@ use Rattle.defs_soar.specs.CarriedTests.{Placed, carried_tests, placed_tests, te
 use Rattle.defs_soar.specs.ConditionOrder.{Ordered, ordered_grounds}
 use Rattle.defs_soar.specs.History.{ChainOf}
 use Rattle.defs_soar.specs.Negations.{negations_taken_over}
-use Rattle.defs_soar.specs.Slots.{Slot, slot_eq, slot_of_atom, slots_of_conditions, slots_of_wish, each_slot_once, names_from}
+use Rattle.defs_soar.specs.Variablized.{Variablized, variablized_eq, variablized_in_atom, variablized_in_conditions, variablized_in_wish, each_variablized_once, names_from}
 
 -- ---- conditions and actions over symbols, in which only negations have variables, of their own
 
@@ -76,16 +79,16 @@ action_of w = makes (Const w.id) (symbol_value w.attr) (symbol_value w.value) (p
 
 -- ---- the two forms
 
-abbrev pub slot_place : ℕ → List Slot → Slot → ℕ
-slot_place n [] s = n
-slot_place n (t ∷ slots) s = if slot_eq s t then n else slot_place (suc n) slots s
+abbrev pub variablized_place : ℕ → List Variablized → Variablized → ℕ
+variablized_place n [] s = n
+variablized_place n (t ∷ variablized) s = if variablized_eq s t then n else variablized_place (suc n) variablized s
 
-abbrev pub as_variable : List Slot → Atom → List Slot → Atom
-as_variable slots a [] = a
-as_variable slots a (s ∷ others) = Var (slot_place 0 slots s)
+abbrev pub as_variable : List Variablized → Atom → List Variablized → Atom
+as_variable variablized a [] = a
+as_variable variablized a (s ∷ others) = Var (variablized_place 0 variablized s)
 
-abbrev pub with_variables : Bool → List Slot → Atom → Atom
-with_variables general slots a = as_variable slots a (slot_of_atom general a)
+abbrev pub with_variables : Bool → List Variablized → Atom → Atom
+with_variables general variablized a = as_variable variablized a (variablized_in_atom general a)
 
 -- a production without a name yet, and the texts of its variables
 pub record Form : Type 0 where
@@ -94,7 +97,7 @@ pub record Form : Type 0 where
 
 abbrev pub form_of : Bool → Kind → ChainOf → Conditions → Form
 form_of general k c conditions =
-    let slots = each_slot_once [] (slots_of_conditions general conditions ++ flat_map (slots_of_wish general) c.results) in
+    let variablized = each_variablized_once [] (variablized_in_conditions general conditions ++ flat_map (variablized_in_wish general) c.results) in
     record {
       production = record {
         name = Int (pos 0);
@@ -102,10 +105,10 @@ form_of general k c conditions =
         kind = k;
         support = Unset;
         vars = [];
-        conditions = conditions_with (with_variables general slots) conditions;
-        actions = map (λ w. action_with (with_variables general slots) (action_of w)) c.results;
+        conditions = conditions_with (with_variables general variablized) conditions;
+        actions = map (λ w. action_with (with_variables general variablized) (action_of w)) c.results;
       };
-      names = names_from [] slots;
+      names = names_from [] variablized;
     }
 
 -- the grounds in the order of the conditions; in the literal form those that the order does not reach follow by tag

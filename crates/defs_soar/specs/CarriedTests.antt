@@ -1,4 +1,7 @@
 -- The tests between identifiers that a learned rule takes over (Soar manual, chunking; the places are this engine's).
+--
+-- A `<>` or `<=>` of a step's positive condition is taken over where a side is an identifier and neither side is the chain's own affair.
+-- It stands at the field in which the later of its two sides first occurs, so that both are bound there.
 use Rattle.std.specs.Prelude.{ℕ, ◌+◌, Bool, true, false, ◌&&◌, ◌||◌, ◌==◌, not, nat_lt, List, [], ◌∷◌, ◌++◌, map, flat_map, filter, Option, Some, None, if◌then◌else◌}
 use Rattle.std.specs.List.{list_any}
 use Rattle.soar_sym.specs.Equality.{symbol_eq}

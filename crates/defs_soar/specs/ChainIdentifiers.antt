@@ -1,4 +1,7 @@
 -- What a chain tells of its identifiers: which are higher ones, and which its firings made (Soar manual, chunking; the reading is this engine's).
+--
+-- The chain is read by itself, without the agent. An identifier is higher where a ground holds it or a `^superstate` leads to it,
+-- and it is no state of the chain's own depth. It is made by the chain where some firing made it new and no ground holds it.
 use Rattle.std.specs.Prelude.{ℕ, Bool, true, false, ◌&&◌, ◌||◌, ◌==◌, not, List, [], ◌∷◌, flat_map}
 use Rattle.std.specs.List.{list_any}
 use Rattle.soar_sym.specs.Equality.{symbol_eq}

@@ -1,4 +1,7 @@
 -- The order of a learned rule's positive conditions (the order is this engine's).
+--
+-- States have the first variables, the highest first. Then, again and again, the least ground comes whose identifier has a variable,
+-- by that variable's place, then attribute, value and mark; its own identifiers get the next variables.
 use Rattle.std.specs.Prelude.{ℕ, suc, Bool, true, false, ◌==◌, not, List, [], ◌∷◌, ◌++◌, length, filter, Option, Some, None, if◌then◌else◌}
 use Rattle.std.specs.Ordering.{nat_cmp, bool_cmp, ordering_then, is_lt}
 use Rattle.std.specs.declared.cmp.Ordering.{Ordering}

@@ -1,20 +1,21 @@
 -- The cycle: input, proposal, decision, application, output (Soar manual, execution cycle).
 use Rattle.std.specs.Prelude.{ℕ, suc, Bool, true, false, ◌&&◌, not, List, [], ◌∷◌, ◌++◌, map, filter, if◌then◌else◌}
-use Rattle.soar_sym.specs.declared.symbol.Sym.TheVariants.{Ident}
 use Rattle.soar_sym.specs.declared.symbol.Triple.{Triple}
 use Rattle.soar_rule.specs.Repeat.{Turn, ends, goes_on, turns}
 use Rattle.soar_wm.specs.WorkingMemory.{triple_of}
 use Rattle.defs_soar.specs.Agents.{Agent, Queued}
+use Rattle.defs_soar.specs.Architecture.{output_identifier}
 use Rattle.defs_soar.specs.Decision.{decided_by}
 use Rattle.defs_soar.specs.Events.{Part, input_phase, proposal_phase, application_phase, output_phase, Event, begins, is_cut, shows_no_longer, shows, halts}
 use Rattle.defs_soar.specs.Goals.{goal_ids, is_goal}
 use Rattle.defs_soar.specs.Levels.{reached_from}
 use Rattle.defs_soar.specs.Limits.{counts_to}
 use Rattle.defs_soar.specs.Phases.{Said, Course, then_step, still, phase}
-use Rattle.defs_soar.specs.Resettling.{Step, resettled}
+use Rattle.defs_soar.specs.Resettling.{AgentStep, resettled}
 use Rattle.defs_soar.specs.Sorted.{has_symbol, in_order}
-use Rattle.defs_soar.specs.Trimming.{Trimmed}
+use Rattle.defs_soar.specs.Trimming.{Remains}
 use Rattle.defs_soar.specs.Values.{triple_eq, has_triple_among}
+use Rattle.defs_soar.specs.WaveAtHand.{WaveEnd}
 
 -- ---- input
 
@@ -27,30 +28,30 @@ abbrev pub with_changes : List Triple → List Queued → List Triple
 with_changes inputs [] = inputs
 with_changes inputs (q ∷ changes) = with_changes (with_change inputs q) changes
 
-abbrev pub held_with : Agent → List Triple → Trimmed
+abbrev pub held_with : Agent → List Triple → Remains
 held_with a inputs = record { goals = a.holding.goals; rows = a.holding.rows; inputs = inputs; live = a.holding.live; removed = [] }
 
 -- the queued changes in order; the number of the cycle rises by one
-unfoldable pub after_input : Agent → Step
+unfoldable pub after_input : Agent → AgentStep
 after_input a =
     let cycle_number = suc a.counts.cycles in
     let next : Agent = record a { counts = record a.counts { cycles = cycle_number; learned = 0 }; queues = record a.queues { input = [] } } in
     let s = resettled next (held_with a (with_changes a.holding.inputs a.queues.input)) in
-    record s { events = begins input_phase ∷ s.events; drawn = counts_to cycle_number ∷ s.drawn }
+    record s { events = begins input_phase ∷ s.events; totals = counts_to cycle_number ∷ s.totals }
 
 -- ---- output
 
 -- what walks from the output link reach, its own elements included; a goal's elements are not among them
 abbrev pub output_of : Agent → List Triple
 output_of a =
-    let reached = reached_from (goal_ids a.holding.goals) (map triple_of a.holding.elements) (Ident 73 3) in
+    let reached = reached_from (goal_ids a.holding.goals) (map triple_of a.holding.elements) output_identifier in
     map triple_of (filter (λ e. has_symbol reached e.id && not (is_goal a.holding.goals e.id)) a.holding.elements)
 
 abbrev pub without_triples : List Triple → List Triple → List Triple
 without_triples others triples = filter (λ t. not (has_triple_among others t)) triples
 
 -- what the output link shows no longer, then what is new there, each in order of triple
-unfoldable pub after_output : Agent → Step
+unfoldable pub after_output : Agent → AgentStep
 after_output a =
     let now = output_of a in
     record {
@@ -58,14 +59,14 @@ after_output a =
       events = begins output_phase
           ∷ (map shows_no_longer (in_order a.names.words (without_triples now a.output))
           ++ (map shows (in_order a.names.words (without_triples a.output now)) ++ (if a.halted then halts ∷ [] else [])));
-      drawn = [];
+      totals = [];
       halted = false;
     }
 
 -- ---- phases
 
 abbrev pub told_alone : Event → Said
-told_alone e = record { events = e ∷ []; drawn = [] }
+told_alone e = record { events = e ∷ []; totals = [] }
 
 abbrev pub then_course : Course → Course → Course
 then_course c d = record { agent = d.agent; steps = c.steps ++ d.steps }
@@ -78,8 +79,8 @@ abbrev pub cut_line : Part → Bool → Course → Course
 cut_line part true c = record c { steps = c.steps ++ told_alone (is_cut part) ∷ [] }
 cut_line part false c = c
 
-abbrev pub then_phase : Part → Bool → Course → Course
-then_phase part proposing c = let p = phase proposing c.agent in cut_line part p.is_cut (then_course (begun part c) p.course)
+abbrev pub then_phase : WaveEnd → Part → Bool → Course → Course
+then_phase end part proposing c = let p = phase end proposing c.agent in cut_line part p.is_cut (then_course (begun part c) p.course)
 
 abbrev pub unless_halted : (Course → Course) → Course → Course
 unless_halted f c = elim (c.agent.halted) [ true ↦ c | false ↦ f c ]
@@ -87,8 +88,8 @@ unless_halted f c = elim (c.agent.halted) [ true ↦ c | false ↦ f c ]
 abbrev pub then_decision : Course → Course
 then_decision c = then_step c (decided_by c.agent)
 
-abbrev pub then_application : Course → Course
-then_application c = then_phase application_phase false c
+abbrev pub then_application : WaveEnd → Course → Course
+then_application end c = then_phase end application_phase false c
 
 abbrev pub then_output : Course → Course
 then_output c = then_step c (after_output c.agent)
@@ -96,17 +97,17 @@ then_output c = then_step c (after_output c.agent)
 -- ---- the cycle
 
 -- after a halt the phases before output are left out
-unfoldable pub cycle : Agent → Course
-cycle a =
-    then_output (unless_halted then_application (unless_halted then_decision (then_phase proposal_phase true (then_step (still a) (after_input a)))))
+unfoldable pub cycle : WaveEnd → Agent → Course
+cycle end a =
+    then_output (unless_halted (then_application end) (unless_halted then_decision (then_phase end proposal_phase true (then_step (still a) (after_input a)))))
 
-abbrev pub one_cycle : Course → Turn Course
-one_cycle c = elim (c.agent.halted) [ true ↦ ends c | false ↦ goes_on (then_course c (cycle c.agent)) ]
+abbrev pub one_cycle : WaveEnd → Course → Turn Course
+one_cycle end c = elim (c.agent.halted) [ true ↦ ends c | false ↦ goes_on (then_course c (cycle end c.agent)) ]
 
 abbrev pub course_of : Turn Course → Course
 course_of (ends c) = c
 course_of (goes_on c) = c
 
 -- so many cycles, or until the agent halts
-unfoldable pub run : ℕ → Agent → Course
-run n a = course_of (turns n one_cycle (still a))
+unfoldable pub run : WaveEnd → ℕ → Agent → Course
+run end n a = course_of (turns n (one_cycle end) (still a))

@@ -10,19 +10,19 @@ use Rattle.defs_soar.specs.declared.goal.Goal.{Goal}
 use Rattle.defs_soar.specs.declared.goal.Impasse.{Impasse}
 use Rattle.defs_soar.specs.declared.goal.Item.{Item}
 use Rattle.defs_soar.specs.Agents.{Agent, Queues}
-use Rattle.defs_soar.specs.Architecture.{name_word}
+use Rattle.defs_soar.specs.Architecture.{state_letter, name_word}
 use Rattle.defs_soar.specs.Events.{begins, decision, Event, removes, selects, substates, reaches_goal_limit}
 use Rattle.defs_soar.specs.Limits.{identifiers_to}
-use Rattle.defs_soar.specs.Resettling.{Step, resettled}
+use Rattle.defs_soar.specs.Resettling.{AgentStep, resettled}
 use Rattle.defs_soar.specs.Sorted.{with_symbol}
-use Rattle.defs_soar.specs.Trimming.{Trimmed, without_goals}
+use Rattle.defs_soar.specs.Trimming.{Remains, without_goals}
 use Rattle.defs_soar.specs.Walk.{selects_operator, meets, Walked, View, walked}
 
 abbrev pub view_of : Agent → View
 view_of a = record { words = a.names.words; rows = a.holding.rows; elements = a.holding.elements; mode = a.settings.mode; random = a.queues.random }
 
 -- the goals below those that stay go
-abbrev pub cut_below : Agent → List Goal → Trimmed
+abbrev pub cut_below : Agent → List Goal → Remains
 cut_below a goals =
     let t = without_goals (suc (length goals)) (record { goals = a.holding.goals; rows = a.holding.rows; inputs = a.holding.inputs; live = a.holding.live; removed = [] }) in
     record t { goals = goals }
@@ -54,43 +54,43 @@ abbrev pub is_removal : Event → Bool
 is_removal (removes s) = true
 is_removal other = false
 
-abbrev pub with_decision : List Event → Step → Step
+abbrev pub with_decision : List Event → AgentStep → AgentStep
 with_decision said s = record s { events = begins decision ∷ (filter is_removal s.events ++ (said ++ filter (λ e. not (is_removal e)) s.events)) }
 
 abbrev pub without_words : Bool → Queues → Queues
 without_words true queues = record queues { random = drop 1 queues.random }
 without_words false queues = queues
 
-abbrev pub after_selection : Agent → List Goal → Option Sym → Bool → Step
+abbrev pub after_selection : Agent → List Goal → Option Sym → Bool → AgentStep
 after_selection a goals operator takes =
     with_decision (selection_events a goals operator) (resettled (record a { queues = without_words takes a.queues }) (cut_below a goals))
 
 abbrev pub new_goal : Sym → Impasse → List Item → Goal
 new_goal id why items = record { id = id; impasse = why; items = items; selected = None; selected_tag = 0; selected_by = 0 }
 
-abbrev pub with_goal : Trimmed → Goal → Trimmed
+abbrev pub with_goal : Remains → Goal → Remains
 with_goal t goal = record t { goals = t.goals ++ goal ∷ [] }
 
-abbrev pub after_substate : Agent → List Goal → Impasse → List Item → Step
+abbrev pub after_substate : Agent → List Goal → Impasse → List Item → AgentStep
 after_substate a goals why items =
-    let number = last_of a.names.letters 83 + 1 in
-    let id = Ident 83 number in
-    let named = record a { names = record a.names { letters = with_last a.names.letters 83 number } } in
+    let number = last_of a.names.letters state_letter + 1 in
+    let id = Ident state_letter number in
+    let named = record a { names = record a.names { letters = with_last a.names.letters state_letter number } } in
     let s = resettled named (with_goal (cut_below a goals) (new_goal id why items)) in
-    with_decision (substates a.counts.cycles (length goals) id why ∷ []) (record s { drawn = identifiers_to number ∷ s.drawn })
+    with_decision (substates a.counts.cycles (length goals) id why ∷ []) (record s { totals = identifiers_to number ∷ s.totals })
 
 -- the hundredth goal is the last: where another would be due, the agent halts
-abbrev pub after_limit : Agent → List Goal → Step
+abbrev pub after_limit : Agent → List Goal → AgentStep
 after_limit a goals = let s = with_decision (reaches_goal_limit ∷ []) (resettled a (cut_below a goals)) in record s { halted = true }
 
-abbrev pub after_impasse : Agent → List Goal → Impasse → List Item → Step
+abbrev pub after_impasse : Agent → List Goal → Impasse → List Item → AgentStep
 after_impasse a goals why items = if nat_lt (length goals) 100 then after_substate a goals why items else after_limit a goals
 
-abbrev pub after_walk : Agent → Walked → Step
+abbrev pub after_walk : Agent → Walked → AgentStep
 after_walk a w = elim (w.decided) [
   | selects_operator operator takes ↦ after_selection a w.goals operator takes
   | meets why items ↦ after_impasse a w.goals why items
 ]
 
-unfoldable pub decided_by : Agent → Step
+unfoldable pub decided_by : Agent → AgentStep
 decided_by a = after_walk a (walked (view_of a) None a.holding.goals)

@@ -6,7 +6,7 @@ use Rattle.soar_sym.specs.declared.symbol.Sym.{Sym}
 use Rattle.soar_rule.specs.Symbols.{constants_of}
 use Rattle.defs_soar.specs.declared.preference.Wish.{Wish}
 use Rattle.defs_soar.specs.Explanation.{chain_of}
-use Rattle.defs_soar.specs.History.{Reach, FiringOf, Past}
+use Rattle.defs_soar.specs.History.{Reach, FiringOf, RecordedFiring}
 use Rattle.defs_soar.specs.Levels.{level_in}
 use Rattle.defs_soar.specs.Sorted.{has_symbol}
 use Rattle.defs_soar.specs.Values.{is_identifier}
@@ -40,18 +40,18 @@ is_goal_of None goal = false
 is_goal_of (Some s) goal = symbol_eq s goal
 
 -- an object of the goal's level, or one that is new in the firing
-abbrev pub is_local_to : ℕ → Past → Sym → Bool
+abbrev pub is_local_to : ℕ → RecordedFiring → Sym → Bool
 is_local_to depth past s = has_level past.before depth s || is_new_in past.firing s
 
 -- a firing of operator kind for the goal that added something lasting to a local object
-abbrev pub counts_for : Sym → ℕ → Past → Bool
+abbrev pub counts_for : Sym → ℕ → RecordedFiring → Bool
 counts_for goal depth past = past.operator_kind && (is_goal_of past.goal goal && list_any (is_local_to depth past) past.lasting)
 
 -- the grounds of its explanation that were of a higher level
-abbrev pub higher_grounds : List FiringOf → ℕ → Past → List ℕ
+abbrev pub higher_grounds : List FiringOf → ℕ → RecordedFiring → List ℕ
 higher_grounds firings depth past =
     map (λ e. e.tag) (filter (λ e. had_level_below past.before depth e.id) (chain_of firings (past.firing.number ∷ []) []).grounds)
 
 -- the tags on which a goal of this depth depends
-unfoldable pub dependency_set : List Past → Sym → ℕ → List ℕ
+unfoldable pub dependency_set : List RecordedFiring → Sym → ℕ → List ℕ
 dependency_set history goal depth = flat_map (higher_grounds (map (λ past. past.firing) history) depth) (filter (counts_for goal depth) history)

@@ -14,17 +14,17 @@ pub data Part : Type 0 where
   input_phase proposal_phase decision application_phase output_phase : Part
 
 -- how a preference is held: with instance support, with operator support, or by the learned firing to which it went over
-pub data Fate : Type 0 where
-  by_instance by_operator by_learned : Fate
+pub data WishSupport : Type 0 where
+  by_instance by_operator by_learned : WishSupport
 
 -- what learning from a firing came to
-pub data Lesson : Type 0 where
-  learns : ℕ → Sym → ℕ → List ℕ → Lesson  -- the learned firing, the chunk's name, the firing explained, the tags
-  justifies : ℕ → Sym → ℕ → List ℕ → Cause → Lesson
-  has_no_grounds : ℕ → Lesson
-  reuses : Sym → ℕ → Lesson  -- the name of the rule that is there
-  has_lost : ℕ → ℕ → Lesson  -- the tag that is gone
-  is_blocked : ℕ → ℕ → ℕ → Lesson  -- the place of the negation, and the tag that blocks it
+pub data LearningEvent : Type 0 where
+  learns : ℕ → Sym → ℕ → List ℕ → LearningEvent  -- the learned firing, the chunk's name, the firing explained, the tags
+  justifies : ℕ → Sym → ℕ → List ℕ → Cause → LearningEvent
+  has_no_grounds : ℕ → LearningEvent
+  reuses : Sym → ℕ → LearningEvent  -- the name of the rule that is there
+  has_lost : ℕ → ℕ → LearningEvent  -- the tag that is gone
+  is_blocked : ℕ → ℕ → ℕ → LearningEvent  -- the place of the negation, and the tag that blocks it
 
 pub data Event : Type 0 where
   begins : Part → Event
@@ -33,10 +33,10 @@ pub data Event : Type 0 where
   -- a firing, by its number, the name of its rule and its instance
   retracts fires : ℕ → Sym → Instance → Event
   -- under a firing: a preference, a dropped action, a written text
-  makes_wish : Wish → Fate → Event
+  makes_wish : Wish → WishSupport → Event
   drops : Dropped → Event
   writes_text : List ℕ → Event
-  learning : Lesson → Event
+  learning : LearningEvent → Event
   -- an element that went, and one that came
   goes comes : Element → Event
   -- in the cycle of a number, so many goals below the top: an operator, with its name where it has one; a substate

@@ -1,4 +1,7 @@
 -- What explains firings, and the steps of an explanation (Soar manual, backtracing).
+--
+-- A firing is explained by the makers of the elements that it used, and by theirs, back to elements of higher goals: the grounds.
+-- The steps are the architecture's own elements, then items, then firings, each in order, a selection just before the firing that first used it.
 use Rattle.std.specs.Prelude.{ℕ, Bool, ◌&&◌, ◌||◌, ◌==◌, not, nat_lt, List, [], ◌∷◌, ◌++◌, map, flat_map, filter, length, if◌then◌else◌}
 use Rattle.std.specs.List.{list_any}
 use Rattle.soar_rule.specs.Repeat.{until_same}
@@ -46,21 +49,21 @@ by_tag [] = []
 by_tag (e ∷ elements) = at_its_tag e (by_tag elements)
 
 -- an element that names another, by its tag and then by the tag named
-pub record Naming : Type 0 where
+pub record TagNaming : Type 0 where
   pub element : Element
   pub named : ℕ
 
-abbrev pub naming_eq : Naming → Naming → Bool
+abbrev pub naming_eq : TagNaming → TagNaming → Bool
 naming_eq a b = (a.element.tag == b.element.tag) && (a.named == b.named)
 
-abbrev pub is_naming_before : Naming → Naming → Bool
+abbrev pub is_naming_before : TagNaming → TagNaming → Bool
 is_naming_before a b = nat_lt a.element.tag b.element.tag || ((a.element.tag == b.element.tag) && nat_lt a.named b.named)
 
-abbrev pub with_naming : Naming → List Naming → List Naming
+abbrev pub with_naming : TagNaming → List TagNaming → List TagNaming
 with_naming a [] = a ∷ []
 with_naming a (b ∷ namings) = if naming_eq a b then b ∷ namings else if is_naming_before a b then a ∷ b ∷ namings else b ∷ with_naming a namings
 
-abbrev pub namings_in_order : List Naming → List Naming
+abbrev pub namings_in_order : List TagNaming → List TagNaming
 namings_in_order [] = []
 namings_in_order (a ∷ namings) = with_naming a (namings_in_order namings)
 
@@ -70,23 +73,23 @@ upper_of u = elim (u.how) [ how.Upper ↦ u.element ∷ [] | how.Architecture �
 abbrev pub architecture_of : Used → List Element
 architecture_of u = elim (u.how) [ how.Architecture ↦ u.element ∷ [] | how.Upper ↦ [] | how.Item tag ↦ [] | how.Selected tag ↦ [] | how.Made n ↦ [] ]
 
-abbrev pub item_of : Used → List Naming
+abbrev pub item_of : Used → List TagNaming
 item_of u = elim (u.how) [ how.Item tag ↦ record { element = u.element; named = tag } ∷ [] | how.Upper ↦ [] | how.Architecture ↦ [] | how.Selected tag ↦ [] | how.Made n ↦ [] ]
 
-abbrev pub selection_of : Used → List Naming
+abbrev pub selection_of : Used → List TagNaming
 selection_of u = elim (u.how) [ how.Selected tag ↦ record { element = u.element; named = tag } ∷ [] | how.Upper ↦ [] | how.Architecture ↦ [] | how.Item tag ↦ [] | how.Made n ↦ [] ]
 
-abbrev pub as_item_step : Naming → StepOf
+abbrev pub as_item_step : TagNaming → StepOf
 as_item_step n = item_step n.element n.named
 
-abbrev pub as_select_step : Naming → StepOf
+abbrev pub as_select_step : TagNaming → StepOf
 as_select_step n = select_step n.element n.named
 
-abbrev pub is_seen : List Naming → Naming → Bool
+abbrev pub is_seen : List TagNaming → TagNaming → Bool
 is_seen seen n = list_any (naming_eq n) seen
 
 -- the firings by number; before each stand the selections that none before it used
-abbrev pub firing_steps : List Naming → List FiringOf → List StepOf
+abbrev pub firing_steps : List TagNaming → List FiringOf → List StepOf
 firing_steps seen [] = []
 firing_steps seen (f ∷ firings) =
     let new = filter (λ n. not (is_seen seen n)) (namings_in_order (flat_map selection_of f.used)) in

@@ -4,6 +4,7 @@ use Rattle.soar_sym.specs.Words.{Texts}
 use Rattle.soar_sym.specs.declared.symbol.Sym.{Sym}
 use Rattle.soar_sym.specs.declared.symbol.Sym.TheVariants.{Int}
 use Rattle.soar_rule.specs.declared.cond.Atom.{Atom}
+use Rattle.soar_rule.specs.Checking.{told}
 use Rattle.soar_rule.specs.Productions.{ValueOf, ValuesOf, no_values, value_and, PreferenceOf, accepts, rejects, requires_it, prohibits, is_best, is_worst, is_indifferent, is_better_than, is_worse_than, is_indifferent_to, ActionOf, makes, writes, halts}
 use Rattle.defs_soar.specs.declared.preference.PrefKind.{PrefKind}
 use Rattle.defs_soar.specs.declared.preference.PrefKind.TheVariants as kind
@@ -91,8 +92,9 @@ pub record MadeSoFar : Type 0 where
   pub dropped : List Dropped
   pub naming : Naming
 
+-- a place beyond 2^32 - 1 is told as that
 abbrev pub with_dropped : ℕ → DropCause → MadeSoFar → MadeSoFar
-with_dropped place why made = record made { dropped = made.dropped ++ record { action = place; cause = why } ∷ [] }
+with_dropped place why made = record made { dropped = made.dropped ++ record { action = told place; cause = why } ∷ [] }
 
 abbrev pub with_wish : ℕ → MadeSoFar → Evaluated Wish → MadeSoFar
 with_wish place made e =

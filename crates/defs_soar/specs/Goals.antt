@@ -2,13 +2,13 @@
 use Rattle.std.specs.Prelude.{◌&&◌, not, Bool, false, pos, List, [], ◌∷◌, ◌++◌, map, filter, length, Option, Some, None}
 use Rattle.soar_sym.specs.Equality.{symbol_eq}
 use Rattle.soar_sym.specs.declared.symbol.Sym.{Sym}
-use Rattle.soar_sym.specs.declared.symbol.Sym.TheVariants.{Ident, Word, Int}
+use Rattle.soar_sym.specs.declared.symbol.Sym.TheVariants.{Int}
 use Rattle.soar_sym.specs.declared.symbol.Triple.{Triple}
 use Rattle.defs_soar.specs.declared.goal.Impasse.{Impasse}
 use Rattle.defs_soar.specs.declared.goal.Impasse.TheVariants as impasse
 use Rattle.defs_soar.specs.declared.goal.Item.{Item}
 use Rattle.defs_soar.specs.declared.goal.Goal.{Goal}
-use Rattle.defs_soar.specs.Architecture.{state_word, nil_word, superstate_word, type_word, operator_word, impasse_word, choices_word, attribute_word, quiescence_word, t_word, item_word, item_count_word, non_numeric_word, non_numeric_count_word, tie_word, conflict_word, constraint_failure_word, no_change_word, multiple_word, none_word}
+use Rattle.defs_soar.specs.Architecture.{io_identifier, input_identifier, output_identifier, io_word, input_link_word, output_link_word, state_word, nil_word, superstate_word, type_word, operator_word, impasse_word, choices_word, attribute_word, quiescence_word, t_word, item_word, item_count_word, non_numeric_word, non_numeric_count_word, tie_word, conflict_word, constraint_failure_word, no_change_word, multiple_word, none_word}
 use Rattle.defs_soar.specs.Sorted.{has_symbol}
 
 abbrev pub goal_ids : List Goal → List Sym
@@ -72,7 +72,7 @@ substate superstate id why items =
 -- the top goal's elements, with those of its links
 abbrev pub top_elements : Sym → List Triple
 top_elements id =
-    plain_triple (Ident 73 1) (Word 3) (Ident 73 2) ∷ plain_triple (Ident 73 1) (Word 4) (Ident 73 3) ∷ plain_triple id (Word 2) (Ident 73 1)
+    plain_triple io_identifier input_link_word input_identifier ∷ plain_triple io_identifier output_link_word output_identifier ∷ plain_triple id io_word io_identifier
     ∷ plain_triple id superstate_word nil_word ∷ plain_triple id type_word state_word ∷ []
 
 abbrev pub elements_below : Sym → List Goal → List Triple

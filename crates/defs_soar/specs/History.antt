@@ -29,7 +29,7 @@ pub record Reach : Type 0 where
   pub reached : List (List Sym)
 
 -- a firing of the history: its match goal, its kind, the identifiers of the operator-supported rows that it added, and the reach before its wave
-pub record Past : Type 0 where
+pub record RecordedFiring : Type 0 where
   pub firing : FiringOf
   pub goal : Option Sym
   pub operator_kind : Bool

@@ -1,12 +1,21 @@
--- Limits: a step draws numbers, and the first that is beyond its limit ends the program.
+-- Limits: a step brings totals to numbers, and the first that is beyond its limit ends the program.
+--
+-- The order in which a cycle comes to them:
+--   the number of the cycle; elements and tags of the input phase;
+--   in each wave: the number of the wave; the retractions; for each firing in order its number, and then its identifiers and words
+--   as they are needed; for each explanation in order the words of its candidate, the number of its name, the word of its name,
+--   the number of its rule, the number of its firing; preferences, after the rows are added and before rejects take any away;
+--   elements, after goals have gone; tags;
+--   in the decision: the number of a new substate's identifier; elements and tags.
+-- A command's words come before all else that it does.
 use Rattle.std.specs.Prelude.{ℕ, nat_lt, List, [], ◌∷◌, ◌++◌, Option, Some, None, if◌then◌else◌, codes}
 use Rattle.std.specs.Fmt.{decimal}
 use Rattle.defs_soar.specs.declared.limit.Which.{Which}
 use Rattle.defs_soar.specs.declared.limit.Which.TheVariants as which
 
--- what a step draws, with the number that it comes to by that
-pub data Drawn : Type 0 where
-  identifiers_to words_to preferences_to elements_to tags_to counts_to : ℕ → Drawn
+-- what a step adds to, with the number that it comes to by that
+pub data Total : Type 0 where
+  identifiers_to words_to preferences_to elements_to tags_to counts_to : ℕ → Total
 
 abbrev pub limit_of : Which → ℕ
 limit_of which.Identifiers = 4294967295
@@ -16,25 +25,25 @@ limit_of which.Elements = 4000000
 limit_of which.Tags = 4294967295
 limit_of which.Counts = 18446744073709551615
 
-abbrev pub passes : ℕ → Which → Option Which
-passes number limit = if nat_lt (limit_of limit) number then Some limit else None
+abbrev pub limit_passed : ℕ → Which → Option Which
+limit_passed number limit = if nat_lt (limit_of limit) number then Some limit else None
 
-abbrev pub passed_by : Drawn → Option Which
-passed_by (identifiers_to n) = passes n which.Identifiers
-passed_by (words_to n) = passes n which.Words
-passed_by (preferences_to n) = passes n which.Preferences
-passed_by (elements_to n) = passes n which.Elements
-passed_by (tags_to n) = passes n which.Tags
-passed_by (counts_to n) = passes n which.Counts
+abbrev pub passed_by : Total → Option Which
+passed_by (identifiers_to n) = limit_passed n which.Identifiers
+passed_by (words_to n) = limit_passed n which.Words
+passed_by (preferences_to n) = limit_passed n which.Preferences
+passed_by (elements_to n) = limit_passed n which.Elements
+passed_by (tags_to n) = limit_passed n which.Tags
+passed_by (counts_to n) = limit_passed n which.Counts
 
-abbrev pub or_else : Option Which → Option Which → Option Which
-or_else (Some limit) other = Some limit
-or_else None other = other
+abbrev pub or_limit : Option Which → Option Which → Option Which
+or_limit (Some limit) other = Some limit
+or_limit None other = other
 
--- the limit that a step passes first, in the order of its drawing
-abbrev pub first_passed : List Drawn → Option Which
+-- the limit that a step limit_passed first
+abbrev pub first_passed : List Total → Option Which
 first_passed [] = None
-first_passed (d ∷ drawn) = or_else (passed_by d) (first_passed drawn)
+first_passed (d ∷ totals) = or_limit (passed_by d) (first_passed totals)
 
 abbrev pub name_of : Which → List ℕ
 name_of which.Identifiers = codes "identifiers"

@@ -11,16 +11,17 @@ use Rattle.defs_text.specs.Numbered.{word_in}
 use Rattle.defs_match.specs.Testing.{Bindings, symbol_of}
 use Rattle.soar_rule.specs.Productions.{ValueOf, atom_value, call_value, ValuesOf, no_values, value_and}
 use Rattle.defs_soar.specs.declared.firing.DropCause.{DropCause}
+use Rattle.defs_soar.specs.Architecture.{link_letter}
 use Rattle.defs_soar.specs.Functions.{Computed, gives, spells, fails, computed}
-use Rattle.defs_soar.specs.Limits.{Drawn, identifiers_to, words_to}
+use Rattle.defs_soar.specs.Limits.{Total, identifiers_to, words_to}
 
--- what the variables stand for, the table of words, the letters, the names of variables, and what was drawn so far
+-- what the variables stand for, the table of words, the letters, the names of variables, and what was totals so far
 pub record Naming : Type 0 where
   pub bindings : Bindings
   pub words : Texts
   pub letters : List ℕ
   pub vars : List Sym
-  pub drawn : List Drawn
+  pub totals : List Total
 
 -- a value, or why there is none, and the naming after it
 pub record Evaluated (A : Type 0) : Type 0 where
@@ -31,8 +32,8 @@ pub record Evaluated (A : Type 0) : Type 0 where
 
 -- the first letter of the name in upper case, or I where it begins with no letter
 abbrev pub letter_from : List ℕ → ℕ
-letter_from [] = 73
-letter_from (b ∷ bytes) = if is_capital b then b else if is_small b then b - 32 else 73
+letter_from [] = link_letter
+letter_from (b ∷ bytes) = if is_capital b then b else if is_small b then b - 32 else link_letter
 
 abbrev pub name_at : List Sym → ℕ → Sym
 name_at [] n = Word 0
@@ -48,7 +49,7 @@ with_new variable letter number naming =
     record naming {
       bindings = naming.bindings ++ (variable, Ident letter number) ∷ [];
       letters = with_last naming.letters letter number;
-      drawn = naming.drawn ++ identifiers_to number ∷ [];
+      totals = naming.totals ++ identifiers_to number ∷ [];
     }
 
 abbrev pub new_identifier : ℕ → ℕ → Naming → Evaluated Sym
@@ -69,7 +70,7 @@ atom_of_action (Var variable) naming = variable_value variable naming (symbol_of
 
 abbrev pub with_word : List ℕ → Naming → Naming
 with_word text naming =
-    record naming { words = with_text naming.words text; drawn = naming.drawn ++ words_to (length (with_text naming.words text)) ∷ [] }
+    record naming { words = with_text naming.words text; totals = naming.totals ++ words_to (length (with_text naming.words text)) ∷ [] }
 
 abbrev pub as_evaluated : Naming → Computed → Evaluated Sym
 as_evaluated naming (gives s) = record { value = Ok s; naming = naming }

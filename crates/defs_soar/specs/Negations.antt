@@ -1,4 +1,7 @@
 -- The negations of a chain that a learned rule takes over: those about higher goals (Soar manual, chunking; the reading is this engine's).
+--
+-- A negation is about higher goals where each identifier field in it is bound to a higher identifier, or bound earlier inside it as a value.
+-- Any other is local. What is bound is taken over as its symbol; other variables are the negation's own.
 use Rattle.std.specs.Prelude.{ℕ, ◌+◌, Bool, true, false, ◌&&◌, ◌==◌, not, List, [], ◌∷◌, ◌++◌, map, flat_map, filter, length, Some, None, if◌then◌else◌}
 use Rattle.std.specs.List.{list_any, list_all}
 use Rattle.soar_rule.specs.declared.cond.Atom.{Atom}

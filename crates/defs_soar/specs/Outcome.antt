@@ -1,4 +1,7 @@
 -- What learning from an explanation comes to, apart from names and numbers (the cases and their order are this engine's).
+--
+-- The first that holds: a ground is lost, a negation is blocked, no state is among the grounds, a cause for a justification,
+-- a rule with the same body is there, 50 chunks were learned in this cycle (a justification, too). Else a chunk is learned.
 use Rattle.std.specs.Prelude.{ℕ, Bool, nat_lt, List, [], ◌∷◌, length, Option, Some, None, if◌then◌else◌}
 use Rattle.std.specs.List.{list_any}
 use Rattle.soar_sym.specs.Equality.{symbol_eq}

@@ -3,15 +3,16 @@ use Rattle.std.specs.Prelude.{Bool, true, false, ◌||◌, not, List, [], ◌∷
 use Rattle.soar_rule.specs.Repeat.{Turn, ends, goes_on, turns}
 use Rattle.defs_soar.specs.Agents.{Agent}
 use Rattle.defs_soar.specs.Events.{Event}
-use Rattle.defs_soar.specs.Limits.{Drawn}
+use Rattle.defs_soar.specs.Limits.{Total}
 use Rattle.defs_soar.specs.Pending.{pending, is_none}
-use Rattle.defs_soar.specs.Resettling.{Step}
+use Rattle.defs_soar.specs.Resettling.{AgentStep}
+use Rattle.defs_soar.specs.WaveAtHand.{WaveEnd}
 use Rattle.defs_soar.specs.Waves.{wave_of}
 
 -- what a step of a phase told and drew
 pub record Said : Type 0 where
   pub events : List Event
-  pub drawn : List Drawn
+  pub totals : List Total
 
 -- a state and the steps that led to it, in order
 pub record Course : Type 0 where
@@ -21,14 +22,14 @@ pub record Course : Type 0 where
 abbrev pub still : Agent → Course
 still a = record { agent = a; steps = [] }
 
-abbrev pub said_by : Step → Said
-said_by s = record { events = s.events; drawn = s.drawn }
+abbrev pub said_by : AgentStep → Said
+said_by s = record { events = s.events; totals = s.totals }
 
 -- a firing that halts halts the agent
-abbrev pub halting : Step → Agent
+abbrev pub halting : AgentStep → Agent
 halting s = record s.agent { halted = s.agent.halted || s.halted }
 
-abbrev pub then_step : Course → Step → Course
+abbrev pub then_step : Course → AgentStep → Course
 then_step c s = record { agent = halting s; steps = c.steps ++ said_by s ∷ [] }
 
 abbrev pub turn_by : Bool → Course → Turn Course
@@ -36,10 +37,10 @@ turn_by true c = ends c
 turn_by false c = goes_on c
 
 -- a wave, unless nothing is pending; a firing that halts is the last
-abbrev pub one_wave : Bool → Course → Turn Course
-one_wave proposing c =
+abbrev pub one_wave : WaveEnd → Bool → Course → Turn Course
+one_wave end proposing c =
     let work = pending proposing c.agent in
-    elim (is_none work) [ true ↦ ends c | false ↦ let s = wave_of c.agent work in turn_by s.halted (then_step c s) ]
+    elim (is_none work) [ true ↦ ends c | false ↦ let s = wave_of end c.agent work in turn_by s.halted (then_step c s) ]
 
 -- how a phase ended: at rest or halted, or cut
 pub record Phased : Type 0 where
@@ -51,5 +52,5 @@ phased_by proposing (ends c) = record { course = c; is_cut = false }
 phased_by proposing (goes_on c) = record { course = c; is_cut = not (is_none (pending proposing c.agent)) }
 
 -- as many waves as are allowed; it is cut where something is pending then
-unfoldable pub phase : Bool → Agent → Phased
-phase proposing a = phased_by proposing (turns a.settings.max_elaborations (one_wave proposing) (still a))
+unfoldable pub phase : WaveEnd → Bool → Agent → Phased
+phase end proposing a = phased_by proposing (turns a.settings.max_elaborations (one_wave end proposing) (still a))

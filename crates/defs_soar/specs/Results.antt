@@ -1,4 +1,8 @@
 -- What a firing made for higher goals (Soar manual, results), with what hangs on it.
+--
+-- Results are a firing's preferences for identifiers of a level above its match goal's. With a result goes what it leads to:
+-- each local or new identifier that is its value or referent, unless it is a goal, with all acceptable rows of that identifier, step by step.
+-- Goals are those before the wave. Of rows of one triple the least-numbered firing's counts.
 use Rattle.std.specs.Prelude.{ℕ, Bool, false, ◌&&◌, ◌||◌, not, nat_lt, List, [], ◌∷◌, ◌++◌, map, flat_map, filter, length, if◌then◌else◌}
 use Rattle.std.specs.Ordering.{is_lt}
 use Rattle.soar_sym.specs.Order.{triple_cmp}
@@ -10,7 +14,7 @@ use Rattle.defs_soar.specs.declared.preference.PrefKind.TheVariants as kind
 use Rattle.defs_soar.specs.declared.preference.Preference.{Preference}
 use Rattle.defs_soar.specs.declared.preference.Wish.{Wish}
 use Rattle.defs_soar.specs.Dependencies.{has_level, is_new_in, symbols_of_referent}
-use Rattle.defs_soar.specs.Goals.{plain_triple}
+use Rattle.defs_soar.specs.Goals.{is_goal, plain_triple}
 use Rattle.defs_soar.specs.History.{Reach, FiringOf}
 use Rattle.defs_soar.specs.Levels.{level_in, same_length}
 use Rattle.defs_soar.specs.Sorted.{has_symbol}
@@ -28,7 +32,7 @@ named_by w = w.value ∷ symbols_of_referent w.referent
 
 -- a local identifier that is no goal
 abbrev pub hangs : Reach → FiringOf → Sym → Bool
-hangs before f s = is_identifier s && (not (has_symbol f.goals s) && (has_level before f.depth s || is_new_in f s))
+hangs before f s = is_identifier s && (not (is_goal before.goals s) && (has_level before f.depth s || is_new_in f s))
 
 abbrev pub with_each_symbol : List Sym → List Sym → List Sym
 with_each_symbol seen [] = seen

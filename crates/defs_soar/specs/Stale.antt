@@ -1,4 +1,6 @@
 -- When an explanation is stale: a ground is gone, or a negation is blocked (the cases are this engine's).
+--
+-- What a firing explained before may hold no longer when learning comes to it. Then nothing is learned, and the cause is told.
 use Rattle.std.specs.Prelude.{ℕ, suc, List, [], ◌∷◌, Option, Some, None}
 use Rattle.soar_rule.specs.Conditions.{Condition, positive, negated, conjunctive}
 use Rattle.soar_wm.specs.declared.element.Element.{Element}

@@ -10,7 +10,7 @@ use Rattle.defs_soar.specs.declared.goal.Impasse.{Impasse}
 use Rattle.defs_soar.specs.declared.goal.Impasse.TheVariants as impasse
 use Rattle.defs_soar.specs.declared.learning.Cause.{Cause}
 use Rattle.defs_soar.specs.declared.learning.Cause.TheVariants as cause
-use Rattle.defs_soar.specs.Events.{Part, input_phase, proposal_phase, decision, application_phase, output_phase, Fate, by_instance, by_operator, by_learned, Lesson, learns, justifies, has_no_grounds, reuses, has_lost, is_blocked, Event, begins, removes, retracts, fires, makes_wish, drops, writes_text, learning, goes, comes, selects, substates, reaches_goal_limit, is_cut, shows_no_longer, shows, halts}
+use Rattle.defs_soar.specs.Events.{Part, input_phase, proposal_phase, decision, application_phase, output_phase, WishSupport, by_instance, by_operator, by_learned, LearningEvent, learns, justifies, has_no_grounds, reuses, has_lost, is_blocked, Event, begins, removes, retracts, fires, makes_wish, drops, writes_text, learning, goes, comes, selects, substates, reaches_goal_limit, is_cut, shows_no_longer, shows, halts}
 use Rattle.defs_soar.specs.Texts.{triple_text, tagged_text, wish_text, firing_text}
 
 -- ---- pieces of output
@@ -56,10 +56,10 @@ part_text decision = codes "decision"
 part_text application_phase = codes "application"
 part_text output_phase = codes "output"
 
-abbrev pub fate_text : Fate → List ℕ
-fate_text by_instance = codes " i"
-fate_text by_operator = codes " o"
-fate_text by_learned = codes " r"
+abbrev pub support_text : WishSupport → List ℕ
+support_text by_instance = codes " i"
+support_text by_operator = codes " o"
+support_text by_learned = codes " r"
 
 abbrev pub drop_text : DropCause → List ℕ
 drop_text drop_cause.Overflow = codes "overflow"
@@ -103,14 +103,14 @@ abbrev pub learned_text : Texts → ℕ → Sym → ℕ → List ℕ → List �
 learned_text words number name explained tags =
     decimal number ++ (32 ∷ (symbol_text words name ++ (codes " from " ++ (decimal explained ++ (codes ":" ++ tags_text tags)))))
 
-abbrev pub lesson_text : Texts → Lesson → List ℕ
-lesson_text words (learns number name explained tags) = codes "learn " ++ learned_text words number name explained tags
-lesson_text words (justifies number name explained tags why) =
+abbrev pub learning_text : Texts → LearningEvent → List ℕ
+learning_text words (learns number name explained tags) = codes "learn " ++ learned_text words number name explained tags
+learning_text words (justifies number name explained tags why) =
     codes "justify " ++ (learned_text words number name explained tags ++ (codes " (" ++ (cause_text words why ++ codes ")")))
-lesson_text words (has_no_grounds explained) = codes "justify from " ++ (decimal explained ++ codes " (no grounds)")
-lesson_text words (reuses name explained) = codes "reuse " ++ (symbol_text words name ++ (codes " from " ++ decimal explained))
-lesson_text words (has_lost explained tag) = codes "stale " ++ (decimal explained ++ (codes " lost " ++ decimal tag))
-lesson_text words (is_blocked explained n tag) = codes "stale " ++ (decimal explained ++ (codes " blocked " ++ (decimal n ++ (codes " by " ++ decimal tag))))
+learning_text words (has_no_grounds explained) = codes "justify from " ++ (decimal explained ++ codes " (no grounds)")
+learning_text words (reuses name explained) = codes "reuse " ++ (symbol_text words name ++ (codes " from " ++ decimal explained))
+learning_text words (has_lost explained tag) = codes "stale " ++ (decimal explained ++ (codes " lost " ++ decimal tag))
+learning_text words (is_blocked explained n tag) = codes "stale " ++ (decimal explained ++ (codes " blocked " ++ (decimal n ++ (codes " by " ++ decimal tag))))
 
 -- `N: ` and the indentation
 abbrev pub cycle_text : ℕ → ℕ → List ℕ
@@ -122,10 +122,10 @@ piece_of words (begins part) = line 2 (codes "-- " ++ part_text part)
 piece_of words (removes goal) = line 2 (codes "remove " ++ symbol_text words goal)
 piece_of words (retracts number name i) = line 3 (codes "retract " ++ (decimal number ++ (32 ∷ instance_text words name i.tags)))
 piece_of words (fires number name i) = line 3 (firing_text words number name i)
-piece_of words (makes_wish w fate) = line 5 (codes "  " ++ (wish_text words w ++ fate_text fate))
+piece_of words (makes_wish w wish_support) = line 5 (codes "  " ++ (wish_text words w ++ support_text wish_support))
 piece_of words (drops d) = line 5 (codes "  drop " ++ (decimal d.action ++ (32 ∷ drop_text d.cause)))
 piece_of words (writes_text text) = bare text
-piece_of words (learning lesson) = line 3 (lesson_text words lesson)
+piece_of words (learning learning_event) = line 3 (learning_text words learning_event)
 piece_of words (goes e) = line 4 (codes "- " ++ tagged_text words e)
 piece_of words (comes e) = line 4 (codes "+ " ++ tagged_text words e)
 piece_of words (selects cycle_number below operator name) = line 1 (cycle_text cycle_number below ++ (codes "O: " ++ (symbol_text words operator ++ name_text words name)))

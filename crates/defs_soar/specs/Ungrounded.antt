@@ -1,4 +1,7 @@
 -- Identifiers of an explanation that have no variable in a learned rule (the cases and their order are this engine's).
+--
+-- Each identifier of the grounds, of tests and negations that are taken over, and of results has to have a variable, which the order of
+-- conditions gives. Alone what the chain made may have none in results: there it is a new identifier each time, where results lead to it.
 use Rattle.std.specs.Prelude.{ℕ, ◌&&◌, not, List, [], ◌∷◌, flat_map, filter, length, Option, Some, None, if◌then◌else◌}
 use Rattle.soar_sym.specs.Words.{Texts}
 use Rattle.soar_sym.specs.declared.symbol.Sym.{Sym}

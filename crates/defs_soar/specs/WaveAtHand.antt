@@ -8,16 +8,16 @@ use Rattle.defs_soar.specs.declared.goal.Goal.{Goal}
 use Rattle.defs_soar.specs.declared.preference.Preference.{Preference}
 use Rattle.defs_soar.specs.declared.preference.Wish.{Wish}
 use Rattle.defs_soar.specs.Agents.{Names, Program, Settings}
-use Rattle.defs_soar.specs.Events.{Fate, by_instance, by_operator, Lesson, Event}
+use Rattle.defs_soar.specs.Events.{WishSupport, by_instance, by_operator, LearningEvent, Event}
 use Rattle.defs_soar.specs.Goals.{goal_ids, is_operator_slot}
 use Rattle.defs_soar.specs.History.{Reach, FiringOf}
-use Rattle.defs_soar.specs.Limits.{Drawn}
+use Rattle.defs_soar.specs.Limits.{Total}
 use Rattle.defs_soar.specs.Sorted.{has_symbol, with_symbol}
 
 -- a wish of a firing, and how it is held
-pub record Fated : Type 0 where
+pub record SupportedWish : Type 0 where
   pub wish : Wish
-  pub fate : Fate
+  pub wish_support : WishSupport
 
 -- a firing of the wave at hand: its line, what it made, dropped and wrote
 pub record Fresh : Type 0 where
@@ -25,17 +25,17 @@ pub record Fresh : Type 0 where
   pub goal : Option Sym
   pub operator_kind : Bool
   pub heading : Event
-  pub wishes : List Fated
+  pub wishes : List SupportedWish
   pub dropped : List Dropped
   pub text : List ℕ
 
--- a firing, or a lesson without one
+-- a firing, or a learning_event without one
 pub data Entry : Type 0 where
   fired : Fresh → Entry
-  told : Lesson → Entry
+  noted : LearningEvent → Entry
 
 -- what was before the wave
-pub record Moment : Type 0 where
+pub record BeforeWave : Type 0 where
   pub reach : Reach
   pub rows : List Preference
   pub elements : List Element
@@ -51,11 +51,15 @@ pub record Wave : Type 0 where
   pub entries : List Entry
   pub next : List ℕ
   pub halted : Bool
-  pub drawn : List Drawn
+  pub totals : List Total
+
+-- what a wave does after its firings: it learns, or it does not
+abbrev pub WaveEnd : Type 0
+WaveEnd = BeforeWave → Wave → Wave
 
 abbrev pub fresh_of : Entry → List Fresh
 fresh_of (fired x) = x ∷ []
-fresh_of (told lesson) = []
+fresh_of (noted learning_event) = []
 
 abbrev pub all_fresh : List Entry → List Fresh
 all_fresh entries = flat_map fresh_of entries
@@ -65,8 +69,8 @@ abbrev pub goals_among : Texts → List Goal → List Sym → List Sym
 goals_among words goals [] = []
 goals_among words goals (s ∷ symbols) = if has_symbol (goal_ids goals) s then with_symbol words (goals_among words goals symbols) s else goals_among words goals symbols
 
-abbrev pub fate_of : List Goal → Bool → Wish → Fate
-fate_of goals kind w = if kind && not (is_operator_slot goals w.id w.attr) then by_operator else by_instance
+abbrev pub support_by_kind : List Goal → Bool → Wish → WishSupport
+support_by_kind goals kind w = if kind && not (is_operator_slot goals w.id w.attr) then by_operator else by_instance
 
-abbrev pub fated : List Goal → Bool → Wish → Fated
-fated goals kind w = record { wish = w; fate = fate_of goals kind w }
+abbrev pub supported_wish : List Goal → Bool → Wish → SupportedWish
+supported_wish goals kind w = record { wish = w; wish_support = support_by_kind goals kind w }

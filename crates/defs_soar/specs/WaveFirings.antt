@@ -11,13 +11,13 @@ use Rattle.defs_soar.specs.Limits.{counts_to}
 use Rattle.defs_soar.specs.Pending.{Firable, depth_of, is_of_operator_kind}
 use Rattle.defs_soar.specs.Support.{goal_at_depth}
 use Rattle.defs_soar.specs.Uses.{elements_matched, all_uses}
-use Rattle.defs_soar.specs.WaveAtHand.{Fresh, fired, Moment, Wave, goals_among, fated}
+use Rattle.defs_soar.specs.WaveAtHand.{Fresh, fired, BeforeWave, Wave, goals_among, supported_wish}
 
 abbrev pub reach_of : Agent → Reach
 reach_of a = record { goals = a.holding.goals; reached = reaches a.holding.goals (map triple_of a.holding.elements) }
 
-abbrev pub moment_of : Agent → Moment
-moment_of a = record {
+abbrev pub before_wave : Agent → BeforeWave
+before_wave a = record {
   reach = reach_of a;
   rows = a.holding.rows;
   elements = a.holding.elements;
@@ -26,10 +26,10 @@ moment_of a = record {
 }
 
 abbrev pub first_wave : Agent → Wave
-first_wave a = record { names = a.names; program = a.program; last_firing = a.counts.firings; learned = a.counts.learned; entries = []; next = []; halted = false; drawn = [] }
+first_wave a = record { names = a.names; program = a.program; last_firing = a.counts.firings; learned = a.counts.learned; entries = []; next = []; halted = false; totals = [] }
 
 -- a firing as it is recorded; words and number are those of its turn, all else is from before the wave
-abbrev pub firing_of_work : Moment → Wave → Firable → MadeSoFar → FiringOf
+abbrev pub firing_of_work : BeforeWave → Wave → Firable → MadeSoFar → FiringOf
 firing_of_work m w f made =
     let depth = depth_of m.reach.goals f in
     record {
@@ -43,22 +43,22 @@ firing_of_work m w f made =
       made = made.wishes;
     }
 
-abbrev pub fresh_firing : Moment → FiringOf → Bool → MadeSoFar → Fresh
+abbrev pub fresh_firing : BeforeWave → FiringOf → Bool → MadeSoFar → Fresh
 fresh_firing m f kind made = record {
   firing = f;
   goal = goal_at_depth f.depth m.reach.goals;
   operator_kind = kind;
   heading = fires f.number f.name f.instance;
-  wishes = map (fated m.reach.goals kind) made.wishes;
+  wishes = map (supported_wish m.reach.goals kind) made.wishes;
   dropped = made.dropped;
   text = made.text;
 }
 
-abbrev pub made_in : Wave → Moment → Firable → MadeSoFar
+abbrev pub made_in : Wave → BeforeWave → Firable → MadeSoFar
 made_in w m f =
-    made_by m.reach.goals f.rule.production.actions (record { bindings = f.bindings; words = w.names.words; letters = w.names.letters; vars = f.rule.production.vars; drawn = [] })
+    made_by m.reach.goals f.rule.production.actions (record { bindings = f.bindings; words = w.names.words; letters = w.names.letters; vars = f.rule.production.vars; totals = [] })
 
-abbrev pub with_firing : Moment → Wave → Firable → Wave
+abbrev pub with_firing : BeforeWave → Wave → Firable → Wave
 with_firing m w f =
     let made = made_in w m f in
     record w {
@@ -67,9 +67,9 @@ with_firing m w f =
       entries = w.entries ++ fired (fresh_firing m (firing_of_work m w f made) (is_of_operator_kind m.reach.goals f) made) ∷ [];
       next = w.next ++ suc w.last_firing ∷ [];
       halted = w.halted || made.halted;
-      drawn = w.drawn ++ (counts_to (suc w.last_firing) ∷ made.naming.drawn);
+      totals = w.totals ++ (counts_to (suc w.last_firing) ∷ made.naming.totals);
     }
 
-unfoldable pub with_firings : Moment → Wave → List Firable → Wave
+unfoldable pub with_firings : BeforeWave → Wave → List Firable → Wave
 with_firings m w [] = w
 with_firings m w (f ∷ firables) = with_firings m (with_firing m w f) firables

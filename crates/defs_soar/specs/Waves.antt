@@ -6,20 +6,19 @@ use Rattle.defs_match.specs.Rules.{RuleOf}
 use Rattle.defs_soar.specs.declared.preference.Preference.{Preference}
 use Rattle.defs_soar.specs.Agents.{LiveFiring, Program, Counts, Agent}
 use Rattle.defs_soar.specs.Events.{by_instance, by_operator, by_learned, Event, learning, retracts, makes_wish, drops, writes_text}
-use Rattle.defs_soar.specs.History.{Past}
-use Rattle.defs_soar.specs.Learning.{with_learning}
-use Rattle.defs_soar.specs.Limits.{Drawn, preferences_to, counts_to}
+use Rattle.defs_soar.specs.History.{RecordedFiring}
+use Rattle.defs_soar.specs.Limits.{Total, preferences_to, counts_to}
 use Rattle.defs_soar.specs.Pending.{Work, is_justification}
 use Rattle.defs_soar.specs.Preferences.{with_row, with_rows, without_firings, is_kept_already, rows_after}
-use Rattle.defs_soar.specs.Resettling.{Step, resettled}
+use Rattle.defs_soar.specs.Resettling.{AgentStep, resettled}
 use Rattle.defs_soar.specs.Trimming.{numbers_of}
-use Rattle.defs_soar.specs.WaveAtHand.{Fated, Fresh, Entry, fired, told, Moment, Wave, all_fresh}
-use Rattle.defs_soar.specs.WaveFirings.{moment_of, first_wave, with_firings}
+use Rattle.defs_soar.specs.WaveAtHand.{SupportedWish, Fresh, Entry, fired, noted, BeforeWave, Wave, WaveEnd, all_fresh}
+use Rattle.defs_soar.specs.WaveFirings.{before_wave, first_wave, with_firings}
 
 -- ---- what the wave leaves
 
-abbrev pub held_row : ℕ → Fated → List Preference
-held_row number x = elim (x.fate) [
+abbrev pub held_row : ℕ → SupportedWish → List Preference
+held_row number x = elim (x.wish_support) [
   | by_instance ↦ record { firing = number; wish = x.wish; operator_support = false } ∷ []
   | by_operator ↦ record { firing = number; wish = x.wish; operator_support = true } ∷ []
   | by_learned ↦ []
@@ -37,8 +36,8 @@ text_events [] = []
 text_events (b ∷ bytes) = writes_text (b ∷ bytes) ∷ []
 
 abbrev pub entry_events : Entry → List Event
-entry_events (told lesson) = learning lesson ∷ []
-entry_events (fired x) = x.heading ∷ (map (λ y. makes_wish y.wish y.fate) x.wishes ++ (map drops x.dropped ++ text_events x.text))
+entry_events (noted learning_event) = learning learning_event ∷ []
+entry_events (fired x) = x.heading ∷ (map (λ y. makes_wish y.wish y.wish_support) x.wishes ++ (map drops x.dropped ++ text_events x.text))
 
 -- those of these rows, in turn, that are not kept already
 abbrev pub rows_added : List Preference → List Preference → List Preference
@@ -48,8 +47,8 @@ rows_added rows (row ∷ more) = (if is_kept_already rows row then [] else row �
 abbrev pub lasting_of : List Preference → ℕ → List Sym
 lasting_of added number = map (λ row. row.wish.id) (filter (λ row. (row.firing == number) && row.operator_support) added)
 
-abbrev pub past_of : Moment → List Preference → Fresh → Past
-past_of m added x = record { firing = x.firing; goal = x.goal; operator_kind = x.operator_kind; lasting = lasting_of added x.firing.number; before = m.reach }
+abbrev pub recorded_firing : BeforeWave → List Preference → Fresh → RecordedFiring
+recorded_firing m added x = record { firing = x.firing; goal = x.goal; operator_kind = x.operator_kind; lasting = lasting_of added x.firing.number; before = m.reach }
 
 abbrev pub is_retracted : List LiveFiring → LiveFiring → Bool
 is_retracted gone l = list_any (λ g. g.number == l.number) gone
@@ -77,16 +76,16 @@ counted counts w gone = record counts {
 
 -- ---- a wave
 
--- what the work of a wave makes, learning included
-abbrev pub worked : Agent → Work → Wave
-worked a work = with_learning (moment_of a) (with_firings (moment_of a) (first_wave a) work.fired)
+-- what the work of a wave makes, with what comes after its firings
+abbrev pub worked : WaveEnd → Agent → Work → Wave
+worked end a work = end (before_wave a) (with_firings (before_wave a) (first_wave a) work.fired)
 
 -- the number of the wave and of the retractions, then what the firings drew, then preferences, elements and tags
-abbrev pub wave_drawn : Counts → Wave → List Preference → List Drawn → List Drawn
-wave_drawn counts w rows settling = counts_to counts.waves ∷ counts_to counts.retractions ∷ (w.drawn ++ (preferences_to (length rows) ∷ settling))
+abbrev pub wave_totals : Counts → Wave → List Preference → List Total → List Total
+wave_totals counts w rows settling = counts_to counts.waves ∷ counts_to counts.retractions ∷ (w.totals ++ (preferences_to (length rows) ∷ settling))
 
 -- the history of the trim is that before the wave; the wave's firings join it afterwards
-abbrev pub after_work : Agent → List LiveFiring → Wave → Step
+abbrev pub after_work : Agent → List LiveFiring → Wave → AgentStep
 after_work a gone w =
     let fresh = all_fresh w.entries in
     let new = flat_map rows_of_fresh fresh in
@@ -101,12 +100,12 @@ after_work a gone w =
       removed = [];
     }) in
     record {
-      agent = record settled.agent { history = a.history ++ map (past_of (moment_of a) (rows_added stay new)) fresh };
+      agent = record settled.agent { history = a.history ++ map (recorded_firing (before_wave a) (rows_added stay new)) fresh };
       events = map retract_event gone ++ (flat_map entry_events w.entries ++ settled.events);
-      drawn = wave_drawn counts w (with_rows stay new) settled.drawn;
+      totals = wave_totals counts w (with_rows stay new) settled.totals;
       halted = w.halted;
     }
 
 -- retractions come first, the oldest firing before the others; then firings, by rule and by tags; then what is learned
-unfoldable pub wave_of : Agent → Work → Step
-wave_of a work = after_work a work.retracted (worked a work)
+unfoldable pub wave_of : WaveEnd → Agent → Work → AgentStep
+wave_of end a work = after_work a work.retracted (worked end a work)

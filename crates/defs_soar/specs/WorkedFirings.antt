@@ -36,7 +36,7 @@ abbrev pub Fires : Type 0
 Fires =
     let made = made_by (top_goal ∷ [])
     (makes (Var 0) (const 26) (var 1) accepts ∷ makes (Var 1) (const 26) (call_value func.Plus (values_of (atom_value (Const (Int (pos 1))) ∷ atom_value (Const (Int (pos 2))) ∷ []))) accepts ∷ [])
-    (record { bindings = (0, s1) ∷ []; words = words_at_firing; letters = letters_at_start; vars = Word 24 ∷ Word 25 ∷ []; drawn = [] }) in
+    (record { bindings = (0, s1) ∷ []; words = words_at_firing; letters = letters_at_start; vars = Word 24 ∷ Word 25 ∷ []; totals = [] }) in
     (map (λ w. w.id) made.wishes ≡ s1 ∷ Ident 79 1 ∷ []) × (map (λ w. w.value) made.wishes ≡ Ident 79 1 ∷ Int (pos 3) ∷ []) × (made.dropped ≡ [])
 
 -- division by zero, a constant identifier, a preference that only operators have, and a number beyond the range
@@ -48,7 +48,7 @@ Drops =
     ∷ makes (Var 0) (const 26) (var 1) (is_better_than (var 0))
     ∷ makes (Var 0) (const 7) (var 1) (is_indifferent_to (atom_value (Const (Int (pos 1000000001)))))
     ∷ makes (Var 0) (const 26) (var 1) accepts ∷ [])
-    (record { bindings = (0, s1) ∷ []; words = words_at_firing; letters = letters_at_start; vars = Word 24 ∷ Word 25 ∷ []; drawn = [] }) in
+    (record { bindings = (0, s1) ∷ []; words = words_at_firing; letters = letters_at_start; vars = Word 24 ∷ Word 25 ∷ []; totals = [] }) in
     (map (λ d. d.action) made.dropped ≡ 1 ∷ 2 ∷ 3 ∷ 4 ∷ []) × (map (λ d. d.cause) made.dropped ≡ cause.ZeroDivisor ∷ cause.NotAnIdentifier ∷ cause.NotAnOperator ∷ cause.OutOfRange ∷ [])
     × (map (λ w. w.value) made.wishes ≡ Ident 79 1 ∷ [])
 

@@ -14,6 +14,7 @@ use Rattle.soar_rule.specs.Productions.{atom_value, call_value, values_of, accep
 use Rattle.defs_match.specs.Rules.{RuleOf}
 use Rattle.defs_soar.specs.Agents.{Agent}
 use Rattle.defs_soar.specs.Cycle.{held_with}
+use Rattle.defs_soar.specs.Learning.{with_learning}
 use Rattle.defs_soar.specs.Phases.{phase}
 use Rattle.defs_soar.specs.Resettling.{resettled}
 use Rattle.defs_soar.specs.Start.{first_agent}
@@ -67,7 +68,7 @@ abbrev pub at_most : ℕ → Agent → Agent
 at_most n a = record a { settings = record a.settings { max_elaborations = n } }
 
 abbrev pub proposed : Agent → Agent
-proposed a = (phase true a).course.agent
+proposed a = (phase with_learning true a).course.agent
 
 -- one rule copies what another made, in a wave of its own; without the input both fall, in one wave each
 abbrev pub two_copies : Agent
@@ -103,4 +104,4 @@ counting = record (copying 1 24 24) {
 }
 
 abbrev pub IsCut : Type 0
-IsCut = let p = phase true (at_most 3 (agent_with (counting ∷ []) (of_s1 6 24 (pos 0) ∷ []) 6)) in (p.is_cut ≡ true) × (p.course.agent.counts.waves ≡ 3)
+IsCut = let p = phase with_learning true (at_most 3 (agent_with (counting ∷ []) (of_s1 6 24 (pos 0) ∷ []) 6)) in (p.is_cut ≡ true) × (p.course.agent.counts.waves ≡ 3)

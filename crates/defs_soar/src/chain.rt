@@ -4,7 +4,7 @@ use soar_sym::List;
 use soar_wm::Element;
 
 /// A step of an explanation.
-#[derive(Debug, Drop)]
+#[derive(Drop)]
 pub enum Step {
     /// A goal's own element.
     Architecture(Element),
@@ -16,7 +16,7 @@ pub enum Step {
 }
 
 /// An explanation: the superstate's elements that it rests on, its steps, and what came of it.
-#[derive(Debug, Drop)]
+#[derive(Drop)]
 pub struct Chain {
     pub grounds: List<Element>,
     pub steps: List<Step>,

@@ -1,7 +1,7 @@
 use soar_sym::{List, Sym};
 
-/// How a candidate is drawn where several are left (Soar manual, indifferent selection; whole numbers are this engine's).
-#[derive(Clone, Copy, Debug, PartialEq, Eq)]
+/// How a candidate is totals where several are left (Soar manual, indifferent selection; whole numbers are this engine's).
+#[derive(Clone, Copy, PartialEq, Eq)]
 pub enum Mode {
     First,
     Last,
@@ -11,7 +11,7 @@ pub enum Mode {
 }
 
 /// A candidate with the sum of its numeric preferences, and whether it has one.
-#[derive(Clone, Copy, Debug, PartialEq, Eq)]
+#[derive(Clone, Copy, PartialEq, Eq)]
 pub struct Scored {
     pub value: Sym,
     pub numeric: bool,
@@ -19,7 +19,7 @@ pub struct Scored {
 }
 
 /// What the preferences of a slot leave, in symbol order.
-#[derive(Debug, Drop)]
+#[derive(Drop)]
 pub enum Choice {
     Left(List<Scored>),
     Tie(List<Scored>),

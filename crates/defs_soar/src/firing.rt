@@ -1,10 +1,16 @@
+ghost use Rattle.std.specs.Prelude.{◌≡◌, ℕ, List as ListOf, Option as OptionOf, slice_get};
+ghost use Rattle.std.specs.Option.{option_copied, option_map};
+ghost use Rattle.soar_sym.specs.declared.symbol.Sym.{Sym as SymOf};
+ghost use Rattle.defs_soar.specs.Explanation.{firing_of};
+ghost use Rattle.defs_soar.specs.History.{FiringOf, firing_seen};
+
 use crate::preference::Wish;
 use defs_match::{Instance, Rule};
 use soar_sym::{List, Sym, Text};
 use soar_wm::Element;
 
 /// In which way a firing used an element of its instance (Soar manual, backtracing).
-#[derive(Clone, Copy, Debug, PartialEq, Eq)]
+#[derive(Clone, Copy, PartialEq, Eq)]
 pub enum How {
     /// Its identifier is of a higher level, or the firing is of the top goal.
     Upper,
@@ -19,14 +25,14 @@ pub enum How {
 }
 
 /// An element of an instance, and how it was used.
-#[derive(Clone, Copy, Debug, PartialEq, Eq)]
+#[derive(Clone, Copy, PartialEq, Eq)]
 pub struct Used {
     pub element: Element,
     pub how: How,
 }
 
 /// A firing as it is recorded. `depth` is that of its match goal, and `goals` are the goals among its symbols.
-#[derive(Debug, Drop)]
+#[derive(Drop)]
 pub struct Firing {
     pub number: u64,
     pub name: Sym,
@@ -39,7 +45,7 @@ pub struct Firing {
 }
 
 /// Why an action was dropped.
-#[derive(Clone, Copy, Debug, PartialEq, Eq)]
+#[derive(Clone, Copy, PartialEq, Eq)]
 pub enum DropCause {
     /// A result outside 64 bits.
     Overflow,
@@ -58,14 +64,14 @@ pub enum DropCause {
 }
 
 /// A dropped action, by its place among the rule's actions from 1.
-#[derive(Clone, Copy, Debug, PartialEq, Eq)]
+#[derive(Clone, Copy, PartialEq, Eq)]
 pub struct Dropped {
     pub action: u32,
     pub cause: DropCause,
 }
 
 /// What a firing makes: preferences, a text, whether it halts the agent, and what was dropped.
-#[derive(Debug, Drop)]
+#[derive(Drop)]
 pub struct Made {
     pub wishes: List<Wish>,
     pub texts: Text,
@@ -75,12 +81,20 @@ pub struct Made {
 
 /// Firings by number.
 pub trait Keeps {
-    /// The firing of a number, where it is kept.
-    fn firing(&self, number: u64) -> Option<&Firing>;
+    /// The firings that are kept.
+    ghost kept: { Self → ListOf FiringOf };
+
+    /// The first firing of a number, where one is kept.
+    fn firing(&self, number: u64) -> Option<&Firing>
+        ensures { option_map firing_seen (option_copied result) ≡ slice_get (firing_of (kept self.now) number) 0 };
 }
 
 /// Identifiers by level.
 pub trait Leveled {
+    /// The level that is told of a symbol.
+    ghost told: { Self → SymOf → OptionOf ℕ };
+
     /// The level of an identifier, where some goal reaches it.
-    fn level_of(&self, id: Sym) -> Option<u32>;
+    fn level_of(&self, id: Sym) -> Option<u32>
+        ensures { result ≡ told self.now id };
 }

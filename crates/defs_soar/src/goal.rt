@@ -6,7 +6,7 @@ use soar_sym::architecture::OPERATOR;
 use soar_sym::{List, Sym, is_symbol};
 
 /// Why a goal is there (Soar manual, impasses).
-#[derive(Clone, Copy, Debug, PartialEq, Eq)]
+#[derive(Clone, Copy, PartialEq, Eq)]
 pub enum Impasse {
     /// The top goal.
     Top,
@@ -18,7 +18,7 @@ pub enum Impasse {
 }
 
 /// A value that an impasse is about, whether it has a numeric preference, and the tag of its marked element.
-#[derive(Clone, Copy, Debug, PartialEq, Eq)]
+#[derive(Clone, Copy, PartialEq, Eq)]
 pub struct Item {
     pub value: Sym,
     pub numeric: bool,
@@ -27,7 +27,7 @@ pub struct Item {
 
 /// An entry of the goal stack. The last two are of its selected operator: the tag of the marked element
 /// and the number of its least maker at the selection, and 0 without one.
-#[derive(Debug, Drop)]
+#[derive(Drop)]
 pub struct Goal {
     pub id: Sym,
     pub impasse: Impasse,

@@ -2,7 +2,7 @@ use soar_rule::Production;
 use soar_sym::Sym;
 
 /// Why a result is justified and no chunk is learned. A number is that of a firing, or what is too large.
-#[derive(Clone, Copy, Debug, PartialEq, Eq)]
+#[derive(Clone, Copy, PartialEq, Eq)]
 pub enum Cause {
     NoGrounds,
     Off,
@@ -15,7 +15,7 @@ pub enum Cause {
 
 /// What learning from an explanation came to. `Lost` carries the tag of a ground that is gone,
 /// `Blocked` the place of a negation and the tag of the element that blocks it.
-#[derive(Debug, Drop)]
+#[derive(Drop)]
 pub enum Learned {
     Chunk(Production),
     Reused(Sym),
@@ -25,7 +25,7 @@ pub enum Learned {
 }
 
 /// The two forms of a learned rule, as far as they are there, and the first cause against the general one.
-#[derive(Debug, Drop)]
+#[derive(Drop)]
 pub struct Candidate {
     pub general: Option<Production>,
     pub literal: Option<Production>,
@@ -33,7 +33,7 @@ pub struct Candidate {
 }
 
 /// Whether learning is on, whether local negations are allowed, and how many chunks this cycle learned.
-#[derive(Clone, Copy, Debug, PartialEq, Eq)]
+#[derive(Clone, Copy, PartialEq, Eq)]
 pub struct Learning {
     pub on: bool,
     pub local_negations: bool,

@@ -4,7 +4,7 @@ ghost use Rattle.defs_soar.specs.Values.{is_kind, kind_place};
 use soar_sym::Sym;
 
 /// What a preference says of its value, in the order in which kinds are listed (Soar manual, preference semantics).
-#[derive(Clone, Copy, Debug, PartialEq, Eq)]
+#[derive(Clone, Copy, PartialEq, Eq)]
 pub enum PrefKind {
     /// `+`
     Accept,
@@ -59,7 +59,7 @@ impl PrefKind {
 }
 
 /// A preference as an action asks for it.
-#[derive(Clone, Copy, Debug, PartialEq, Eq)]
+#[derive(Clone, Copy, PartialEq, Eq)]
 pub struct Wish {
     pub id: Sym,
     pub attr: Sym,
@@ -69,7 +69,7 @@ pub struct Wish {
 }
 
 /// A row of preference memory: what a firing asked for, and whether it has operator support.
-#[derive(Clone, Copy, Debug, PartialEq, Eq)]
+#[derive(Clone, Copy, PartialEq, Eq)]
 pub struct Preference {
     pub firing: u64,
     pub wish: Wish,

@@ -10,8 +10,8 @@ use Rattle.defs_soar.specs.ConditionOrder.{Ordered, ground_cmp, least_ground, on
 use Rattle.defs_soar.specs.Laws.{IsIn, TakenAreGrounds, TakenAreReached}
 use Rattle.defs_soar.specs.Sorted.{has_symbol}
 use Rattle.defs_soar.specs.Values.{is_identifier}
-use Rattle.defs_worked.proofs.MemberLemmas.{all_and_last, any_more, filter_passes, filter_within, in_append}
-use Rattle.defs_worked.proofs.RepeatLemmas.{repeated_keeps}
+use Rattle.settling_laws.proofs.MemberLemmas.{all_and_last, any_more, filter_passes, filter_within, in_append}
+use Rattle.settling_laws.proofs.RepeatLemmas.{repeated_keeps}
 
 -- the least is one of them
 least_among : (words : Texts) (places : List Sym) (e : Element) (grounds : List Element) → IsIn (least_ground words places e grounds) (e ∷ grounds)

@@ -1,7 +1,7 @@
 -- Learning: whole runs that were worked out by hand.
-use Rattle.std.specs.Prelude.{◌≡◌, ℕ, List, [], ◌∷◌, codes}
+use Rattle.std.specs.Prelude.{codes}
 use Rattle.soar_edge.specs.declared.status.Status.TheVariants as status
-use Rattle.defs_worked.specs.Writes.{Writes, WritesWith}
+use Rattle.defs_worked.specs.Writes.{Writes, WritesUnlearned}
 
 -- a chunk from a tie, which spares the impasse the next time, and its explanation
 abbrev pub LearnFromTie : Type 0
@@ -47,3 +47,18 @@ LeastMaker = Writes (codes "chunk always\nsp {one (state <s> ^superstate <ss>) (
 abbrev pub BlockedExplanation : Type 0
 BlockedExplanation = Writes (codes "watch 3\nchunk always\nsp {look :o-support (state <s> ^superstate <ss>) (<ss> ^go yes) -(<ss> ^stop yes) --> (<s> ^seen yes)}\nsp {back (state <s> ^seen yes ^superstate <ss>) (<ss> ^now yes) --> (<ss> ^done yes)}\nadd-wme S1 ^go yes\nrun 1\nadd-wme S1 ^stop yes\nadd-wme S1 ^now yes\nrun 1\n")
     (codes "-- input\n-- proposal\n-- decision\n1:   ==>S: S2 (state no-change)\n-- application\nfire 1 look: 11 6\n-- output\n-- input\n-- proposal\nretract 1 look: 11 6\nfire 2 back: 13 11 15\nstale 2 blocked 1 by 14\n-- decision\n2:     ==>S: S3 (state no-change)\n-- application\n-- output\n") status.Done
+
+-- a goal is not followed where results lead on, also where the rule binds no variable to it
+abbrev pub GoalAmongResults : Type 0
+GoalAmongResults = Writes (codes "sp {mk (state <s> ^superstate <ss>) (<ss> ^superstate nil) --> (<s> ^k <k>) (<k> ^back <s>)}\nsp {res (state <> x ^superstate <ss> ^k <k>) --> (<ss> ^res <k>)}\nrun 1\npreferences S2 k\n")
+    (codes "1:   ==>S: S2 (state no-change)\n(S2 ^k K1 +) i fire 1\n") status.Done
+
+-- what a substate's rule makes for the state above has instance support where nothing is learned, and what it makes for its own state keeps operator support
+abbrev pub ResultWithoutLearning : Type 0
+ResultWithoutLearning = WritesUnlearned (codes "sp {plan (state <s> ^superstate <ss>) (<ss> ^go yes) --> (<s> ^operator <o> +) (<o> ^name note)}\nsp {note (state <s> ^operator <o> ^superstate <ss>) (<o> ^name note) --> (<ss> ^done yes) (<s> ^done yes)}\nadd-wme S1 ^go yes\nrun 2\npreferences S1 done\npreferences S2 done\n")
+    (codes "1:   ==>S: S2 (state no-change)\n2:   O: O1 (note)\n(S1 ^done yes +) i fire 2\n(S2 ^done yes +) o fire 2\n") status.Done
+
+-- the same with learning, which hands the first to the firing of what is learned
+abbrev pub ResultWithLearning : Type 0
+ResultWithLearning = Writes (codes "sp {plan (state <s> ^superstate <ss>) (<ss> ^go yes) --> (<s> ^operator <o> +) (<o> ^name note)}\nsp {note (state <s> ^operator <o> ^superstate <ss>) (<o> ^name note) --> (<ss> ^done yes) (<s> ^done yes)}\nadd-wme S1 ^go yes\nrun 2\npreferences S1 done\npreferences S2 done\n")
+    (codes "1:   ==>S: S2 (state no-change)\n2:   O: O1 (note)\n(S1 ^done yes +) i fire 3\n(S2 ^done yes +) o fire 2\n") status.Done

@@ -1,7 +1,7 @@
 -- Matching and printing: whole runs that were worked out by hand.
-use Rattle.std.specs.Prelude.{◌≡◌, ℕ, List, [], ◌∷◌, codes}
+use Rattle.std.specs.Prelude.{codes}
 use Rattle.soar_edge.specs.declared.status.Status.TheVariants as status
-use Rattle.defs_worked.specs.Writes.{Writes, WritesWith}
+use Rattle.defs_worked.specs.Writes.{Writes}
 
 -- one element matches two conditions of a rule, and gives one instance
 abbrev pub OneElementTwoConditions : Type 0

@@ -1,5 +1,5 @@
 -- Operators and impasses: whole runs that were worked out by hand.
-use Rattle.std.specs.Prelude.{◌≡◌, ℕ, List, [], ◌∷◌, codes}
+use Rattle.std.specs.Prelude.{[], ◌∷◌, codes}
 use Rattle.soar_edge.specs.declared.status.Status.TheVariants as status
 use Rattle.defs_worked.specs.Writes.{Writes, WritesWith}
 

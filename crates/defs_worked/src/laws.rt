@@ -1,10 +1,4 @@
-ghost use Rattle.defs_soar.specs.Laws.{SettledStays, SettledIsWithin, WalkKeepsTheFront, TakenAreReached, TakenAreGrounds, ReachedIsWalkedTo};
-
-/// What is settled stays as it is, and is part of what there was.
-pub fn laws_of_settling()
-    ensures stays { SettledStays }
-    ensures within { SettledIsWithin }
-{}
+ghost use Rattle.defs_soar.specs.Laws.{WalkKeepsTheFront, TakenAreReached, TakenAreGrounds};
 
 /// The goals that a decision leaves are those at the front.
 pub fn laws_of_decisions()
@@ -15,9 +9,4 @@ pub fn laws_of_decisions()
 pub fn laws_of_conditions()
     ensures reached { TakenAreReached }
     ensures grounds { TakenAreGrounds }
-{}
-
-/// What a goal reaches is what a walk from it leads to.
-pub fn laws_of_levels()
-    ensures walked { ReachedIsWalkedTo }
 {}

@@ -11,7 +11,7 @@ ghost use Rattle.defs_worked.specs.Learning as learning;
 
 mod laws;
 
-pub use laws::{laws_of_conditions, laws_of_decisions, laws_of_levels, laws_of_settling};
+pub use laws::{laws_of_conditions, laws_of_decisions};
 
 /// Matching and printing: whole runs that were worked out by hand.
 pub fn worked_matching()
@@ -65,6 +65,7 @@ pub fn worked_operators()
 pub fn worked_goals()
     ensures dependency_gone { goals.DependencyGone }
     ensures dependency_gone_brief { goals.DependencyGoneBrief }
+    ensures gone_from_one_depth { goals.GoneFromOneDepth }
 {}
 
 /// Learning: whole runs that were worked out by hand.
@@ -78,6 +79,9 @@ pub fn worked_learning()
     ensures ungrounded_before_repair { learning.UngroundedBeforeRepair }
     ensures least_maker { learning.LeastMaker }
     ensures blocked_explanation { learning.BlockedExplanation }
+    ensures goal_among_results { learning.GoalAmongResults }
+    ensures result_without_learning { learning.ResultWithoutLearning }
+    ensures result_with_learning { learning.ResultWithLearning }
 {}
 
 /// The program at its present stage: whole runs that were worked out by hand.

@@ -37,3 +37,15 @@ returns-clause-least_maker c = refl
 pub returns-clause-blocked_explanation : goal.returns-clause-blocked_explanation
 unfolding computing
 returns-clause-blocked_explanation c = refl
+
+pub returns-clause-goal_among_results : goal.returns-clause-goal_among_results
+unfolding computing
+returns-clause-goal_among_results c = refl
+
+pub returns-clause-result_without_learning : goal.returns-clause-result_without_learning
+unfolding computing
+returns-clause-result_without_learning c = refl
+
+pub returns-clause-result_with_learning : goal.returns-clause-result_with_learning
+unfolding computing
+returns-clause-result_with_learning c = refl

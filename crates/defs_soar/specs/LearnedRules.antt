@@ -1,4 +1,7 @@
 -- What the outcome of learning does to the wave at hand, and the names of learned rules (Soar manual, chunking; names and numbers are this engine's).
+--
+-- The names of the candidate's variables join the table first. A learned rule is named `chunk*N` or `justification*N`, each kind counted by itself,
+-- past names that are loaded.
 use Rattle.std.specs.Prelude.{ℕ, zero, suc, Bool, true, false, List, [], ◌∷◌, ◌++◌, flat_map, filter, length, Some, None, if◌then◌else◌, codes}
 use Rattle.std.specs.Fmt.{decimal}
 use Rattle.std.specs.List.{list_any}
@@ -16,14 +19,14 @@ use Rattle.defs_soar.specs.Candidate.{general_form, literal_form, named_form, al
 use Rattle.defs_soar.specs.ConditionOrder.{Ordered, ordered_grounds}
 use Rattle.defs_soar.specs.Events.{learns, justifies, has_no_grounds, reuses, has_lost, is_blocked}
 use Rattle.defs_soar.specs.History.{ChainOf}
-use Rattle.defs_soar.specs.Lectures.{Lecture, without_rule, with_learned}
+use Rattle.defs_soar.specs.LearnedFirings.{ExplainedFiring, without_rule, with_learned}
 use Rattle.defs_soar.specs.Limits.{words_to, counts_to}
 use Rattle.defs_soar.specs.Naming.{text_of_name}
 use Rattle.defs_soar.specs.Outcome.{Outcome, lost, blocked, groundless, justified, reused, chunked, outcome_of, has_grounds}
 use Rattle.defs_soar.specs.Results.{with_each_symbol}
 use Rattle.defs_soar.specs.Ungrounded.{ungrounded}
 use Rattle.defs_soar.specs.Values.{is_identifier}
-use Rattle.defs_soar.specs.WaveAtHand.{Moment, Wave}
+use Rattle.defs_soar.specs.WaveAtHand.{BeforeWave, Wave}
 
 -- ---- names of learned rules
 
@@ -45,12 +48,12 @@ free_number (suc k) words rules front n =
 abbrev pub identifiers_of : List Element → List Sym
 identifiers_of elements = with_each_symbol [] (filter is_identifier (flat_map (λ e. e.id ∷ e.attr ∷ e.value ∷ []) elements))
 
-abbrev pub with_word : List ℕ → Wave → Wave
-with_word text w =
-    record w { names = record w.names { words = with_text w.names.words text }; drawn = w.drawn ++ words_to (length (with_text w.names.words text)) ∷ [] }
+abbrev pub with_joined_word : List ℕ → Wave → Wave
+with_joined_word text w =
+    record w { names = record w.names { words = with_text w.names.words text }; totals = w.totals ++ words_to (length (with_text w.names.words text)) ∷ [] }
 
-abbrev pub drawn_number : ℕ → Wave → Wave
-drawn_number n w = record w { drawn = w.drawn ++ counts_to n ∷ [] }
+abbrev pub with_number_total : ℕ → Wave → Wave
+with_number_total n w = record w { totals = w.totals ++ counts_to n ∷ [] }
 
 abbrev pub chunk_front : List ℕ
 chunk_front = codes "chunk*"
@@ -58,23 +61,20 @@ chunk_front = codes "chunk*"
 abbrev pub justification_front : List ℕ
 justification_front = codes "justification*"
 
-abbrev pub named_as : Texts → List ℕ → ProductionOf → ProductionOf
-named_as words text p = record p { name = word_in words text }
-
-abbrev pub with_chunk : Moment → Lecture → ProductionOf → Ordered → Wave → Wave
+abbrev pub with_chunk : BeforeWave → ExplainedFiring → ProductionOf → Ordered → Wave → Wave
 with_chunk m l production o w =
     let n = free_number (length w.program.rules) w.names.words w.program.rules chunk_front (suc w.program.chunks) in
     let text = learned_name chunk_front n in
-    let named = with_word text (drawn_number n w) in
+    let named = with_joined_word text (with_number_total n w) in
     let counted = record named { program = record named.program { chunks = n }; learned = suc named.learned } in
     let name = word_in named.names.words text in
     with_learned m l (record production { name = name }) o.taken (identifiers_of o.taken) (λ number tags. learns number name l.explained.number tags) counted
 
-abbrev pub with_justification : Moment → Lecture → ProductionOf → Ordered → Cause → Wave → Wave
+abbrev pub with_justification : BeforeWave → ExplainedFiring → ProductionOf → Ordered → Cause → Wave → Wave
 with_justification m l production o why w =
     let n = free_number (length w.program.rules) w.names.words w.program.rules justification_front (suc w.program.justifications) in
     let text = learned_name justification_front n in
-    let named = with_word text (drawn_number n w) in
+    let named = with_joined_word text (with_number_total n w) in
     let counted = record named { program = record named.program { justifications = n } } in
     let name = word_in named.names.words text in
     with_learned m l (record production { name = name }) (all_grounds o) [] (λ number tags. justifies number name l.explained.number tags why) counted
@@ -84,7 +84,7 @@ abbrev pub names_joining : Texts → ChainOf → ℕ → List (List ℕ)
 names_joining words c depth =
     if has_grounds c then elim (ungrounded words c depth) [ None ↦ (general_form words c depth).names | Some s ↦ (literal_form words c depth).names ] else []
 
-abbrev pub by_outcome : Moment → Lecture → Wave → Outcome → Wave
+abbrev pub by_outcome : BeforeWave → ExplainedFiring → Wave → Outcome → Wave
 by_outcome m l w (lost tag) = without_rule l (has_lost l.explained.number tag) w
 by_outcome m l w (blocked b) = without_rule l (is_blocked l.explained.number b.negation b.tag) w
 by_outcome m l w groundless = without_rule l (has_no_grounds l.explained.number) w
@@ -96,12 +96,12 @@ by_outcome m l w chunked =
 
 abbrev pub with_names : List (List ℕ) → Wave → Wave
 with_names [] w = w
-with_names (text ∷ texts) w = with_names texts (with_word text w)
+with_names (text ∷ texts) w = with_names texts (with_joined_word text w)
 
 abbrev pub as_learning : Settings → ℕ → Learning
 as_learning s learned = record { on = s.learning; local_negations = s.local_negations; learned = learned }
 
-abbrev pub taught : Moment → Lecture → Wave → Wave
-taught m l w =
+abbrev pub after_explanation : BeforeWave → ExplainedFiring → Wave → Wave
+after_explanation m l w =
     let read = with_names (names_joining w.names.words l.chain l.explained.depth) w in
     by_outcome m l read (outcome_of read.names.words l.chain l.explained.depth read.program.rules m.elements (as_learning m.settings read.learned))
