@@ -1,0 +1,15 @@
+pub mod DependenceLaws
+pub mod EndingLaws
+pub mod FreshGoals
+pub mod GoalDependence
+pub mod MakerLaws
+pub mod NewGoalLaws
+pub mod OrderLaws
+pub mod PartLaws
+pub mod ReachLaws
+pub mod RecordLaws
+pub mod RecordStepLaws
+pub mod RootLaws
+pub mod TaughtLaws
+pub mod TrimmedLaws
+pub mod WaveRecords

@@ -1,0 +1,14 @@
+pub mod Replay
+pub mod Lawful
+pub mod Standing
+pub mod Ready
+pub mod BeforeWave
+pub mod Record
+pub mod Waves
+pub mod Laws
+pub mod LearningSteps
+pub mod Worked
+pub mod LawfulAgents
+pub mod LawfulSteps
+pub mod LawfulWaves
+pub mod Listed
