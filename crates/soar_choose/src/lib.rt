@@ -11,6 +11,3 @@ pub use choosing::choose;
 pub use defs_soar::{Choice, Mode, Scored};
 pub use drawing::draw;
 pub use laws::choice_laws;
-
-#[cfg(test)]
-mod tests;

@@ -1,5 +1,5 @@
 -- Actions in turn.
-use Rattle.std.proofs.Common.{◌≡◌, ◌<◌, ◌≤◌, ℕ, ◌+◌, suc, List, [], ◌∷◌, ◌++◌, length, map, flat_map, drop, get_or, Ok, refl, sym, ap, ◌∙◌, subst, add-one, drop-cons}
+use Rattle.std.proofs.Common.{◌≡◌, ◌<◌, ℕ, ◌+◌, suc, List, [], ◌∷◌, ◌++◌, length, map, flat_map, drop, get_or, Ok, refl, sym, ap, ◌∙◌, subst, add-one, drop-cons}
 use Rattle.soar_sym.specs.Words.{Texts}
 use Rattle.soar_sym.specs.declared.symbol.Sym.{Sym}
 use Rattle.soar_rule.specs.declared.action.Action.{Action}
@@ -10,17 +10,18 @@ use Rattle.defs_soar.specs.declared.goal.Goal.{Goal}
 use Rattle.defs_soar.specs.declared.preference.Wish.{Wish}
 use Rattle.soar_fire.specs.ActionOutcomes.{action_outcome, actions_outcome}
 use Rattle.soar_fire.specs.Fires.{AreWishesKnown}
+use Rattle.soar_fire.specs.Growth.{OnlyGrows}
 use Rattle.soar_fire.specs.Known.{Knows, KnowsWishes, constants_of_actions, symbols_of_wish}
 use Rattle.soar_fire.specs.Outcomes.{reached, then_on, Standing}
 use Rattle.soar_fire.proofs.KnownLemmas.{knows_front, knows_back, knows_grown}
 
 -- ---- wishes
 
-are_wishes_grown : (old new : Texts) (ws : List Wish) → length old ≤ length new → AreWishesKnown old ws → AreWishesKnown new ws
+are_wishes_grown : (old new : Texts) (ws : List Wish) → OnlyGrows old new → AreWishesKnown old ws → AreWishesKnown new ws
 are_wishes_grown old new [] grown h = tt
 are_wishes_grown old new (w ∷ ws) grown h = ((knows_grown old new (symbols_of_wish w) (record { are_known = h.0 }) grown).are_known, are_wishes_grown old new ws grown h.1)
 
-pub wishes_grown : (old new : Texts) (ws : List Wish) → KnowsWishes old ws → length old ≤ length new → KnowsWishes new ws
+pub wishes_grown : (old new : Texts) (ws : List Wish) → KnowsWishes old ws → OnlyGrows old new → KnowsWishes new ws
 wishes_grown old new ws h grown = record { are_known = are_wishes_grown old new ws grown h.are_known }
 
 are_wishes_push : (words : Texts) (ws : List Wish) (w : Wish) → AreWishesKnown words ws → AreKnown words (symbols_of_wish w) → AreWishesKnown words (ws ++ w ∷ [])

@@ -41,7 +41,7 @@ is_made words letters goals rule i made after is =
     subst (IsMade made after.words after.letters) (sym agrees.2) (record { made_is = refl; words_are = refl; letters_are = refl; within = agrees.1 })
 
 stops : (words : Texts) (letters : List ℕ) (goals : List Goal) (rule : RuleOf) (i : Instance) (w : Which)
-    → rule_outcome words letters goals rule i ≡ stopped w → first_passed (made_of words letters goals rule i).naming.drawn ≡ Some w
+    → rule_outcome words letters goals rule i ≡ stopped w → first_passed (made_of words letters goals rule i).naming.totals ≡ Some w
 stops words letters goals rule i w is = subst (λ o. AgreesMade rule.production.vars o (made_of words letters goals rule i)) is (agrees_rule words letters goals rule i)
 
 pub fires : (words : Texts) (letters : List ℕ) (goals : List Goal) (rule : RuleOf) (i : Instance) (after : Standing) (r : Result Made FireFault)

@@ -6,24 +6,29 @@ use Rattle.soar_sym.specs.declared.symbol.Sym.TheVariants.{Ident, Word, Int}
 use Rattle.soar_rule.specs.Symbols.{AreKnown}
 use Rattle.defs_match.specs.Testing.{Bindings, symbol_of}
 use Rattle.defs_soar.specs.Naming.{name_at}
+use Rattle.soar_fire.specs.Growth.{OnlyGrows}
 use Rattle.soar_fire.specs.Known.{Knows, bound_symbols}
+use Rattle.soar_fire.proofs.GrowthLemmas.{no_shorter}
 
 pub name_at_is : (vars : List Sym) (n : ℕ) → name_at vars n ≡ get_or vars n (Word 0)
 name_at_is [] n = refl
 name_at_is (x ∷ xs) zero = refl
 name_at_is (x ∷ xs) (suc n) = name_at_is xs n
 
-pub known_grown : (old new : Texts) (s : Sym) → length old ≤ length new → IsKnown old s → IsKnown new s
-known_grown old new (Ident letter number) grown h = h
-known_grown old new (Word n) grown h = omega arith
-known_grown old new (Int z) grown h = tt
+known_longer : (old new : Texts) (s : Sym) → length old ≤ length new → IsKnown old s → IsKnown new s
+known_longer old new (Ident letter number) grown h = h
+known_longer old new (Word n) grown h = omega arith
+known_longer old new (Int z) grown h = tt
+
+pub known_grown : (old new : Texts) (s : Sym) → OnlyGrows old new → IsKnown old s → IsKnown new s
+known_grown old new s grown h = known_longer old new s (no_shorter old new grown) h
 
 are_known_grown : (old new : Texts) (xs : List Sym) → length old ≤ length new → AreKnown old xs → AreKnown new xs
 are_known_grown old new [] grown h = tt
-are_known_grown old new (x ∷ xs) grown h = (known_grown old new x grown h.0, are_known_grown old new xs grown h.1)
+are_known_grown old new (x ∷ xs) grown h = (known_longer old new x grown h.0, are_known_grown old new xs grown h.1)
 
-pub knows_grown : (old new : Texts) (xs : List Sym) → Knows old xs → length old ≤ length new → Knows new xs
-knows_grown old new xs h grown = record { are_known = are_known_grown old new xs grown h.are_known }
+pub knows_grown : (old new : Texts) (xs : List Sym) → Knows old xs → OnlyGrows old new → Knows new xs
+knows_grown old new xs h grown = record { are_known = are_known_grown old new xs (no_shorter old new grown) h.are_known }
 
 pub knows_none : (words : Texts) → Knows words []
 knows_none words = record { are_known = tt }

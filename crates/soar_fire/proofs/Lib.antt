@@ -2,6 +2,7 @@ mod ActionLemmas
 mod Agreement
 mod BindingLemmas
 mod FiringLemmas
+pub mod GrowthLemmas
 mod KnownLemmas
 mod NumberLemmas
 mod OutcomeLemmas

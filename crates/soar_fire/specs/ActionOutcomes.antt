@@ -2,6 +2,7 @@
 use Rattle.std.specs.Prelude.{ℕ, suc, true, false, List, [], ◌∷◌, ◌++◌, Option, Some, None, Ok, Err, if◌then◌else◌}
 use Rattle.soar_sym.specs.declared.symbol.Sym.{Sym}
 use Rattle.soar_rule.specs.declared.cond.Atom.{Atom}
+use Rattle.soar_rule.specs.Checking.{told}
 use Rattle.soar_rule.specs.Productions.{ValueOf, values_of, PreferenceOf, ActionOf, makes, writes, halts}
 use Rattle.defs_soar.specs.declared.firing.DropCause.{DropCause}
 use Rattle.defs_soar.specs.declared.firing.DropCause.TheVariants as cause
@@ -30,8 +31,9 @@ wish_outcome vars goals id attr value preference s =
 
 -- ---- actions
 
+-- a place beyond 2^32 - 1 is told as that
 abbrev pub with_dropped : ℕ → DropCause → Made → Made
-with_dropped place why made = record made { dropped = made.dropped ++ record { action = place; cause = why } ∷ [] }
+with_dropped place why made = record made { dropped = made.dropped ++ record { action = told place; cause = why } ∷ [] }
 
 -- what an action leaves, from what its evaluation came to
 abbrev pub or_dropped : {A : Type 0} → ℕ → Made → (A → Standing → Made) → Outcome A → Outcome Made

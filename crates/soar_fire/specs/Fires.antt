@@ -18,20 +18,20 @@ use Rattle.soar_fire.specs.declared.fault.FireFault.TheVariants as fault
 -- what the rule's actions make of the instance
 abbrev pub made_of : Texts → List ℕ → List Goal → RuleOf → Instance → MadeSoFar
 made_of words letters goals rule i =
-    made_by goals rule.production.actions (record { bindings = bindings_of rule.production i; words = words; letters = letters; vars = rule.production.vars; drawn = [] })
+    made_by goals rule.production.actions (record { bindings = bindings_of rule.production i; words = words; letters = letters; vars = rule.production.vars; totals = [] })
 
 -- all was made, within the limits
 pub record IsMade (made : Made) (words : Texts) (letters : List ℕ) (m : MadeSoFar) : Type 0 where
   pub made_is : made ≡ record { wishes = m.wishes; texts = m.text; halted = m.halted; dropped = m.dropped }
   pub words_are : words ≡ m.naming.words
   pub letters_are : letters ≡ m.naming.letters
-  pub within : first_passed m.naming.drawn ≡ None
+  pub within : first_passed m.naming.totals ≡ None
 
 -- each answer, exactly where it comes; only want of memory is free
 abbrev pub Fires : Texts → List ℕ → MadeSoFar → Result Made FireFault → Type 0
 Fires words letters m (Ok made) = IsMade made words letters m
-Fires words letters m (Err fault.IdsSpent) = first_passed m.naming.drawn ≡ Some which.Identifiers
-Fires words letters m (Err fault.WordsSpent) = first_passed m.naming.drawn ≡ Some which.Words
+Fires words letters m (Err fault.IdsSpent) = first_passed m.naming.totals ≡ Some which.Identifiers
+Fires words letters m (Err fault.WordsSpent) = first_passed m.naming.totals ≡ Some which.Words
 Fires words letters m (Err fault.NoMemory) = Unit {0}
 
 abbrev pub referents_of : Option Sym → List Sym

@@ -4,11 +4,12 @@ ghost use Rattle.soar_rule.specs.Productions.{action_seen, preference_seen, valu
 ghost use Rattle.soar_rule.specs.Symbols.{constants_of_action};
 ghost use Rattle.defs_soar.specs.Functions.{joined};
 ghost use Rattle.soar_fire.specs.ActionOutcomes.{action_outcome, actions_outcome, or_dropped, wish_outcome, with_dropped, with_wish, with_writing, nothing_made};
+ghost use Rattle.soar_fire.specs.Growth.{OnlyGains};
 ghost use Rattle.soar_fire.specs.Known.{Knows, KnowsWishes, bound_symbols, constants_of_actions};
 ghost use Rattle.soar_fire.specs.Outcomes.{standing, values_outcome, Finds, Leaves};
 
 use crate::fault::FireFault;
-use crate::plain::joined;
+use crate::plain::push_joined;
 use crate::scene::Scene;
 use crate::value::evaluated_all;
 use crate::wish::{Asked, wished};
@@ -17,11 +18,12 @@ use soar_rule::{Action, Value};
 use soar_sym::{Letters, List, Sym, SymTable, Text};
 use std::alloc::AllocError;
 
-fn with_dropped(made: &mut Made, place: u32, cause: DropCause) -> Result<(), AllocError>
+/// A place beyond 2^32 - 1 is told as that.
+fn with_dropped(made: &mut Made, place: usize, cause: DropCause) -> Result<(), AllocError>
     ensures { OnOk result (made.new ≡ with_dropped place cause made.old) }
 {
     made.dropped.push(Dropped {
-        action: place,
+        action: place.min(u32::MAX as usize) as u32,
         cause,
     })
 }
@@ -30,7 +32,7 @@ fn with_dropped(made: &mut Made, place: u32, cause: DropCause) -> Result<(), All
 fn make(
     scene: &Scene<'_>,
     asked: &Asked<'_>,
-    place: u32,
+    place: usize,
     made: &mut Made,
     bindings: &mut Vec<(u32, Sym)>,
     table: &mut SymTable,
@@ -42,7 +44,7 @@ fn make(
     ensures answer { Leaves (or_dropped place made.old (with_wish made.old) (wish_outcome scene.now.vars.now scene.now.goals.now asked.now.id (value_seen asked.now.attr.now) (value_seen asked.now.value.now) (preference_seen asked.now.pref.now) (standing bindings.old.items table.old letters.old))) made.new (standing bindings.new.items table.new letters.new) result }
     ensures wishes { OnOk result (KnowsWishes table.new made.new.wishes) }
     ensures bound { OnOk result (Knows table.new (bound_symbols bindings.new.items)) }
-    ensures grown { length table.old ≤ length table.new }
+    ensures gains { OnlyGains table.old letters.old table.new letters.new }
 {
     match wished(scene, asked, bindings, table, letters)? {
         Ok(wish) => made.wishes.push(wish)?,
@@ -55,7 +57,7 @@ fn make(
 fn write(
     scene: &Scene<'_>,
     values: &[Value],
-    place: u32,
+    place: usize,
     made: &mut Made,
     bindings: &mut Vec<(u32, Sym)>,
     table: &mut SymTable,
@@ -67,23 +69,21 @@ fn write(
     ensures answer { Leaves (or_dropped place made.old (with_writing made.old) (values_outcome scene.now.vars.now (values_of (map value_seen values.now)) (standing bindings.old.items table.old letters.old))) made.new (standing bindings.new.items table.new letters.new) result }
     ensures wishes { OnOk result (KnowsWishes table.new made.new.wishes) }
     ensures bound { OnOk result (Knows table.new (bound_symbols bindings.new.items)) }
-    ensures grown { length table.old ≤ length table.new }
+    ensures gains { OnlyGains table.old letters.old table.new letters.new }
 {
     match evaluated_all(scene, values, bindings, table, letters)? {
-        Ok(symbols) => {
-            let text = joined(scene.alloc, table, symbols.as_slice())?;
-            made.texts.push_str(text.as_str())?;
-        }
+        Ok(symbols) => push_joined(&mut made.texts, table, symbols.as_slice())?,
         Err(cause) => with_dropped(made, place, cause)?,
     }
     Ok(())
 }
 
 /// Takes an action at its place, from 1.
+#[tactic(auto, using(crate::proofs::GrowthLemmas::gains_none))]
 fn with_action(
     scene: &Scene<'_>,
     action: &Action,
-    place: u32,
+    place: usize,
     made: &mut Made,
     bindings: &mut Vec<(u32, Sym)>,
     table: &mut SymTable,
@@ -95,7 +95,7 @@ fn with_action(
     ensures answer { Leaves (action_outcome scene.now.vars.now scene.now.goals.now place (action_seen action.now) made.old (standing bindings.old.items table.old letters.old)) made.new (standing bindings.new.items table.new letters.new) result }
     ensures wishes { OnOk result (KnowsWishes table.new made.new.wishes) }
     ensures bound { OnOk result (Knows table.new (bound_symbols bindings.new.items)) }
-    ensures grown { length table.old ≤ length table.new }
+    ensures gains { OnlyGains table.old letters.old table.new letters.new }
 {
     match action {
         Action::Make {
@@ -128,17 +128,6 @@ fn with_action(
     }
 }
 
-/// The next place. A rule of more actions than places have numbers finds no memory.
-fn next_place(place: u32) -> Result<u32, FireFault>
-    ensures next { IfOk result (λ next. next ≡ place + 1) }
-    ensures err { IfErr result (λ e. e ≡ FireFault.NoMemory) }
-{
-    match place.checked_add(1) {
-        Some(next) => Ok(next),
-        None => Err(FireFault::NoMemory),
-    }
-}
-
 /// What actions make.
 pub fn made_of(
     scene: &Scene<'_>,
@@ -151,7 +140,7 @@ pub fn made_of(
     requires constants { Knows table.old (constants_of_actions (map action_seen actions.now)) }
     ensures answer { Finds (actions_outcome scene.now.vars.now scene.now.goals.now 1 (map action_seen actions.now) nothing_made (standing bindings.old.items table.old letters.old)) (standing bindings.new.items table.new letters.new) result }
     ensures wishes { IfOk result (λ made. KnowsWishes table.new made.wishes) }
-    ensures grown { length table.old ≤ length table.new }
+    ensures gains { OnlyGains table.old letters.old table.new letters.new }
 {
     let mut made = Made {
         wishes: List::new(scene.alloc),
@@ -164,6 +153,7 @@ pub fn made_of(
 }
 
 /// Takes actions in turn.
+#[tactic(auto, using(crate::proofs::GrowthLemmas::gains_none, crate::proofs::GrowthLemmas::gains_twice))]
 fn with_actions(
     scene: &Scene<'_>,
     actions: &[Action],
@@ -177,11 +167,11 @@ fn with_actions(
     requires wishes { KnowsWishes table.old made.old.wishes }
     ensures answer { Leaves (actions_outcome scene.now.vars.now scene.now.goals.now 1 (map action_seen actions.now) made.old (standing bindings.old.items table.old letters.old)) made.new (standing bindings.new.items table.new letters.new) result }
     ensures wishes { OnOk result (KnowsWishes table.new made.new.wishes) }
-    ensures grown { length table.old ≤ length table.new }
+    ensures gains { OnlyGains table.old letters.old table.new letters.new }
 {
-    let mut place = 0;
+    let mut place: usize = 0;
     'actions: for action in actions {
-        place = next_place(place)?;
+        place += 1;
         with_action(scene, action, place, made, bindings, table, letters)?;
     }
     Ok(())

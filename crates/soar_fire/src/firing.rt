@@ -2,6 +2,7 @@ ghost use Rattle.std.specs.Prelude.{◌≡◌, ◌≤◌, length, IfOk};
 ghost use Rattle.soar_rule.specs.Variables.{bound_variables};
 ghost use Rattle.defs_match.specs.Rules.{rule_seen};
 ghost use Rattle.soar_fire.specs.Fires.{made_of, Fires, IsFirable, AreWishesKnown};
+ghost use Rattle.soar_fire.specs.Growth.{Grown, LettersKeep};
 
 use crate::action::made_of;
 use crate::bindings::bindings_of;
@@ -17,6 +18,7 @@ use std::alloc::Global;
 ///
 /// New words join the table and new identifiers take the next numbers of their letters; of a firing
 /// that is refused some may have.
+#[tactic(auto, using(crate::proofs::GrowthLemmas::same_letters, crate::proofs::GrowthLemmas::same_table))]
 pub fn fire(
     alloc: Global,
     table: &mut SymTable,
@@ -30,6 +32,8 @@ pub fn fire(
     ensures answer { Fires table.new letters.new (made_of table.old letters.old goals.now (rule_seen rule.now) instance.now) result }
     ensures known { IfOk result (λ made. AreWishesKnown table.new made.wishes) }
     ensures grown { length table.old ≤ length table.new }
+    ensures words { Grown table.old table.new }
+    ensures letters { LettersKeep letters.old letters.new }
 {
     let production = &rule.production;
     let mut bindings = bindings_of(

@@ -15,6 +15,3 @@ mod wish;
 
 pub use fault::FireFault;
 pub use firing::fire;
-
-#[cfg(test)]
-mod tests;

@@ -26,10 +26,19 @@ pub fn joined(alloc: Global, table: &SymTable, symbols: &[Sym]) -> Result<Text, 
     ensures { IfOk result (λ text. text ≡ joined table.now symbols.now) }
 {
     let mut text = Text::new(alloc);
-    'symbols: for symbol in symbols {
-        push_plain(&mut text, table, *symbol)?;
-    }
+    push_joined(&mut text, table, symbols)?;
     Ok(text)
+}
+
+/// Appends the plain texts of symbols.
+pub fn push_joined(out: &mut Text, table: &SymTable, symbols: &[Sym]) -> Result<(), AllocError>
+    requires { Knows table.now symbols.now }
+    ensures { OnOk result (out.new ≡ out.old ++ joined table.now symbols.now) }
+{
+    'symbols: for symbol in symbols {
+        push_plain(out, table, *symbol)?;
+    }
+    Ok(())
 }
 
 fn push_plain(out: &mut Text, table: &SymTable, symbol: Sym) -> Result<(), AllocError>

@@ -1,10 +1,11 @@
 // What atoms and values of actions stand for.
-ghost use Rattle.std.specs.Prelude.{◌≡◌, ◌≤◌, length, map, IfOk, OnOk};
+ghost use Rattle.std.specs.Prelude.{◌≡◌, ◌≤◌, map, IfOk, OnOk};
 ghost use Rattle.soar_rule.specs.Productions.{value_seen, values_of};
 ghost use Rattle.soar_rule.specs.Symbols.{constants_of_atom, constants_of_value, constants_of_values};
 ghost use Rattle.soar_sym.specs.Words.{IsKnown};
 ghost use Rattle.defs_match.specs.Testing.{symbol_of};
 ghost use Rattle.defs_soar.specs.Naming.{letter_from, name_at, text_of_name};
+ghost use Rattle.soar_fire.specs.Growth.{OnlyGrows, OnlyRise, OnlyGains};
 ghost use Rattle.soar_fire.specs.Known.{Knows, bound_symbols};
 ghost use Rattle.soar_fire.specs.Outcomes.{atom_outcome, call_outcome, new_identifier, standing, value_outcome, values_outcome, word_of_text, Answers, Finds};
 
@@ -61,6 +62,7 @@ fn symbol_of(variable: u32, bindings: &[(u32, Sym)]) -> Option<Sym>
 }
 
 /// Binds a variable to a new identifier.
+#[tactic(auto, using(crate::proofs::GrowthLemmas::letters_next, crate::proofs::GrowthLemmas::letters_same))]
 fn new_identifier(
     variable: u32,
     letter: u8,
@@ -74,6 +76,7 @@ fn new_identifier(
     ensures answer { Finds (new_identifier variable letter (standing bindings.old.items table.now letters.old)) (standing bindings.new.items table.now letters.new) result }
     ensures known { IfOk result (λ s. IsKnown table.now s) }
     ensures bound { OnOk result (Knows table.now (bound_symbols bindings.new.items)) }
+    ensures letters { OnlyRise letters.old letters.new }
 {
     match letters.next(letter) {
         Ok(symbol) => {
@@ -85,7 +88,7 @@ fn new_identifier(
 }
 
 /// What an atom stands for. An unbound variable is bound to a new identifier.
-#[tactic(auto, using(crate::proofs::KnownLemmas::knows_bound, crate::proofs::KnownLemmas::knows_head))]
+#[tactic(auto, using(crate::proofs::GrowthLemmas::letters_none, crate::proofs::KnownLemmas::knows_bound, crate::proofs::KnownLemmas::knows_head))]
 pub fn atom_of_action(
     scene: &Scene<'_>,
     atom: Atom,
@@ -98,6 +101,7 @@ pub fn atom_of_action(
     ensures answer { Finds (atom_outcome scene.now.vars.now atom (standing bindings.old.items table.now letters.old)) (standing bindings.new.items table.now letters.new) result }
     ensures known { IfOk result (λ s. IsKnown table.now s) }
     ensures bound { OnOk result (Knows table.now (bound_symbols bindings.new.items)) }
+    ensures letters { OnlyRise letters.old letters.new }
 {
     match atom {
         Atom::Const(symbol) => Ok(symbol),
@@ -112,6 +116,7 @@ pub fn atom_of_action(
 }
 
 /// The word of a text.
+#[tactic(auto, using(crate::proofs::GrowthLemmas::grown_by, crate::proofs::GrowthLemmas::grown_same))]
 pub fn word_of_text(
     text: &str,
     bindings: &[(u32, Sym)],
@@ -120,7 +125,7 @@ pub fn word_of_text(
 ) -> Result<Sym, FireFault>
     ensures answer { Finds (word_of_text text.now (standing bindings.now table.old letters.now)) (standing bindings.now table.new letters.now) result }
     ensures known { IfOk result (λ s. IsKnown table.new s) }
-    ensures grown { length table.old ≤ length table.new }
+    ensures grown { OnlyGrows table.old table.new }
 {
     match table.intern(text) {
         Ok(symbol) => Ok(symbol),
@@ -130,6 +135,7 @@ pub fn word_of_text(
 }
 
 /// What a function gives for symbols; a text that it spells becomes a word.
+#[tactic(auto, using(crate::proofs::GrowthLemmas::not_grown))]
 pub fn called(
     alloc: Global,
     func: Func,
@@ -141,7 +147,7 @@ pub fn called(
     requires { Knows table.old symbols.now }
     ensures answer { Answers (call_outcome func symbols.now (standing bindings.now table.old letters.now)) (standing bindings.now table.new letters.now) result }
     ensures known { IfOk result (λ r. IfOk r (λ s. IsKnown table.new s)) }
-    ensures grown { length table.old ≤ length table.new }
+    ensures grown { OnlyGrows table.old table.new }
 {
     match compute(alloc, table, func, symbols)? {
         Computed::Gives(symbol) => Ok(Ok(symbol)),
@@ -154,6 +160,7 @@ pub fn called(
 }
 
 /// What a value stands for.
+#[tactic(auto, using(crate::proofs::GrowthLemmas::gains_letters, crate::proofs::GrowthLemmas::gains_words))]
 #[cycle(values)]
 pub fn evaluated(
     scene: &Scene<'_>,
@@ -167,7 +174,7 @@ pub fn evaluated(
     ensures answer { Answers (value_outcome scene.now.vars.now (value_seen value.now) (standing bindings.old.items table.old letters.old)) (standing bindings.new.items table.new letters.new) result }
     ensures known { IfOk result (λ r. IfOk r (λ s. IsKnown table.new s)) }
     ensures bound { OnOk result (Knows table.new (bound_symbols bindings.new.items)) }
-    ensures grown { length table.old ≤ length table.new }
+    ensures gains { OnlyGains table.old letters.old table.new letters.new }
 {
     match value {
         Value::Atom(atom) => {
@@ -191,6 +198,7 @@ pub fn evaluated(
 }
 
 /// What values stand for, from left to right, up to the first that stands for nothing.
+#[tactic(auto, using(crate::proofs::GrowthLemmas::gains_none, crate::proofs::GrowthLemmas::gains_twice))]
 #[cycle(values)]
 pub fn evaluated_all(
     scene: &Scene<'_>,
@@ -204,7 +212,7 @@ pub fn evaluated_all(
     ensures answer { Answers (values_outcome scene.now.vars.now (values_of (map value_seen values.now)) (standing bindings.old.items table.old letters.old)) (standing bindings.new.items table.new letters.new) result }
     ensures known { IfOk result (λ r. IfOk r (λ symbols. Knows table.new symbols)) }
     ensures bound { OnOk result (Knows table.new (bound_symbols bindings.new.items)) }
-    ensures grown { length table.old ≤ length table.new }
+    ensures gains { OnlyGains table.old letters.old table.new letters.new }
 {
     let mut symbols = List::new(scene.alloc);
     'values: for value in values {

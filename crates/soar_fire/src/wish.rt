@@ -1,11 +1,12 @@
 // What an action asks for.
-ghost use Rattle.std.specs.Prelude.{◌≡◌, ◌≤◌, length, IfOk, IfSome, OnOk};
+ghost use Rattle.std.specs.Prelude.{IfOk, IfSome, OnOk};
 ghost use Rattle.soar_sym.specs.Words.{IsKnown};
 ghost use Rattle.soar_rule.specs.Productions.{preference_seen, value_seen, makes};
 ghost use Rattle.soar_rule.specs.Symbols.{constants_of_action, constants_of_atom, constants_of_referent};
 ghost use Rattle.soar_rule.specs.Variables.{referent_value};
 ghost use Rattle.defs_soar.specs.Firing.{referent_of};
 ghost use Rattle.soar_fire.specs.ActionOutcomes.{identifier_only, referent_outcome, wish_outcome};
+ghost use Rattle.soar_fire.specs.Growth.{OnlyRise, OnlyGains};
 ghost use Rattle.soar_fire.specs.Known.{Knows, bound_symbols, symbols_of_wish};
 ghost use Rattle.soar_fire.specs.Outcomes.{atom_outcome, standing, then_on, Answers};
 
@@ -39,6 +40,7 @@ fn identifier_of(
     ensures answer { Answers (then_on (atom_outcome scene.now.vars.now atom (standing bindings.old.items table.now letters.old)) identifier_only) (standing bindings.new.items table.now letters.new) result }
     ensures known { IfOk result (λ r. IfOk r (λ s. IsKnown table.now s)) }
     ensures bound { OnOk result (Knows table.now (bound_symbols bindings.new.items)) }
+    ensures letters { OnlyRise letters.old letters.new }
 {
     let symbol = atom_of_action(scene, atom, bindings, table, letters)?;
     if is_identifier(symbol) {
@@ -48,6 +50,8 @@ fn identifier_of(
     }
 }
 
+/// The referent, where the preference has one.
+#[tactic(auto, using(crate::proofs::GrowthLemmas::gains_none))]
 fn evaluated_referent(
     scene: &Scene<'_>,
     pref: &Pref,
@@ -60,7 +64,7 @@ fn evaluated_referent(
     ensures answer { Answers (referent_outcome scene.now.vars.now (referent_of (preference_seen pref.now)) (standing bindings.old.items table.old letters.old)) (standing bindings.new.items table.new letters.new) result }
     ensures known { IfOk result (λ r. IfOk r (λ o. IfSome o (λ s. IsKnown table.new s))) }
     ensures bound { OnOk result (Knows table.new (bound_symbols bindings.new.items)) }
-    ensures grown { length table.old ≤ length table.new }
+    ensures gains { OnlyGains table.old letters.old table.new letters.new }
 {
     match pref {
         Pref::Better(value) | Pref::Worse(value) | Pref::IndifferentTo(value) => {
@@ -74,6 +78,7 @@ fn evaluated_referent(
 }
 
 /// The identifier, and whether it is one, then attribute, value and referent.
+#[tactic(auto, using(crate::proofs::GrowthLemmas::gains_letters, crate::proofs::GrowthLemmas::gains_then, crate::proofs::GrowthLemmas::gains_twice))]
 pub fn wished(
     scene: &Scene<'_>,
     asked: &Asked<'_>,
@@ -86,7 +91,7 @@ pub fn wished(
     ensures answer { Answers (wish_outcome scene.now.vars.now scene.now.goals.now asked.now.id (value_seen asked.now.attr.now) (value_seen asked.now.value.now) (preference_seen asked.now.pref.now) (standing bindings.old.items table.old letters.old)) (standing bindings.new.items table.new letters.new) result }
     ensures known { IfOk result (λ r. IfOk r (λ w. Knows table.new (symbols_of_wish w))) }
     ensures bound { OnOk result (Knows table.new (bound_symbols bindings.new.items)) }
-    ensures grown { length table.old ≤ length table.new }
+    ensures gains { OnlyGains table.old letters.old table.new letters.new }
 {
     let id = match identifier_of(scene, asked.id, bindings, table, letters)? {
         Ok(id) => id,

@@ -1,5 +1,4 @@
 pub mod KnownLemmas
 pub mod LineLemmas
 pub mod ListLemmas
-pub mod SampleLemmas
 pub mod WordLemmas

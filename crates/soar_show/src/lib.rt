@@ -17,6 +17,3 @@ pub use element::show_element;
 pub use instance::show_instance;
 pub use production::show_production;
 pub use symbol::show_symbol;
-
-#[cfg(test)]
-mod tests;

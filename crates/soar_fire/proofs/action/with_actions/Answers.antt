@@ -1,7 +1,8 @@
-use Rattle.std.proofs.Common.{◌≡◌, map, drop, ap, sym, ◌∙◌, Ok, arith}
+use Rattle.std.proofs.Common.{◌≡◌, ◌+◌, ap, sym, ◌∙◌, Ok}
 use Rattle.soar_rule.specs.Productions.{action_seen}
-use Rattle.soar_fire.specs.ActionOutcomes.{action_outcome, actions_outcome}
+use Rattle.soar_fire.specs.ActionOutcomes.{action_outcome}
 use Rattle.soar_fire.specs.Outcomes.{Standing, reached, standing}
+use Rattle.soar_fire.proofs.GrowthLemmas.{gains_twice}
 use Rattle.soar_fire.proofs.KnownLemmas.{knows_grown}
 use Rattle.soar_fire.proofs.ActionLemmas.{next_constants, later_constants, next_rest}
 use Rattle.soar_fire.proofs.action.with_actions.Goals as goal
@@ -14,14 +15,14 @@ actions-preserved c =
     let scene = c.args.scene.now in
     let before : Standing = standing c.actions.bindings.items c.actions.table c.actions.letters in
     let after : Standing = standing c.with_action.new.bindings.items c.with_action.new.table c.with_action.new.letters in
-    let is : action_outcome scene.vars.now scene.goals.now c.in_ok-place.place (action_seen c.action-item.result) c.actions.made before ≡ reached (Ok c.with_action.new.made) after = c.in_ok-with_action.ensures.answer in
+    let is : action_outcome scene.vars.now scene.goals.now (c.actions.place + 1) (action_seen c.action-item.result) c.actions.made before ≡ reached (Ok c.with_action.new.made) after = c.in_ok-with_action.ensures.answer in
     record {
       bound = c.in_ok-with_action.ensures.bound;
-      constants = knows_grown _ _ _ (later_constants _ c.args.actions.now c.actions.action-index c.action-item.result c.actions.invariant.constants c.actions-test.true c.action-item.is) c.with_action.ensures.grown;
+      constants = knows_grown _ _ _ (later_constants _ c.args.actions.now c.actions.action-index c.action-item.result c.actions.invariant.constants c.actions-test.true c.action-item.is) c.with_action.ensures.gains.words_grow;
       wishes = c.in_ok-with_action.ensures.wishes;
-      grown = omega (arith, c.with_action.ensures.grown);
+      gains = gains_twice _ _ _ _ _ _ c.actions.invariant.gains c.with_action.ensures.gains;
+      place = ap (λ n. n + 1) c.actions.invariant.place;
       rest =
-          sym (next_rest scene.vars.now scene.goals.now c.in_ok-place.place c.args.actions.now c.actions.action-index c.action-item.result c.actions.made c.with_action.new.made before after c.actions-test.true c.action-item.is is)
-          ∙ ap (λ n. actions_outcome scene.vars.now scene.goals.now n (map action_seen (drop c.actions.action-index c.args.actions.now)) c.actions.made before) c.in_ok-place.ensures.next
+          sym (next_rest scene.vars.now scene.goals.now (c.actions.place + 1) c.args.actions.now c.actions.action-index c.action-item.result c.actions.made c.with_action.new.made before after c.actions-test.true c.action-item.is is)
           ∙ c.actions.invariant.rest;
     }

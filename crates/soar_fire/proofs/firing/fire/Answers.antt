@@ -5,6 +5,7 @@ use Rattle.soar_fire.specs.Known.{Knows, bound_symbols, constants_of_actions}
 use Rattle.soar_fire.specs.Outcomes.{Standing, standing, Finds}
 use Rattle.soar_fire.proofs.BindingLemmas.{knows_paired}
 use Rattle.soar_fire.proofs.FiringLemmas.{fires, rule_constants, same_start}
+use Rattle.soar_fire.proofs.GrowthLemmas.{no_shorter}
 use Rattle.soar_fire.proofs.firing.fire.Goals as goal
 
 pub made_of-requires-clause-bound : goal.made_of-requires-clause-bound
@@ -26,3 +27,12 @@ returns-clause-answer c =
     (same_start c.args.table.now c.args.letters.now c.args.goals.now c.as_slice-4.result.now rule c.args.instance.now c.as_slice-3.result.now (map action_seen c.as_slice-actions.result.now) c.in_ok-bindings.bindings.items
     c.as_slice-3.ensures c.as_slice-4.ensures (ap (map action_seen) c.as_slice-actions.ensures) (rw (c.as_slice.ensures, c.as_slice-2.ensures) at c.in_ok-bindings.ensures))
     c.made_of.ensures.answer)
+
+pub returns-clause-words : goal.returns-clause-words
+returns-clause-words c = c.made_of.ensures.gains.words_grow.grown
+
+pub returns-clause-letters : goal.returns-clause-letters
+returns-clause-letters c = c.made_of.ensures.gains.letters_rise.kept
+
+pub returns-clause-grown : goal.returns-clause-grown
+returns-clause-grown c = no_shorter _ _ c.made_of.ensures.gains.words_grow

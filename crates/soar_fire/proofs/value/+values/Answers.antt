@@ -4,6 +4,7 @@ use Rattle.soar_rule.specs.declared.action.Value.{size-Value}
 use Rattle.soar_rule.specs.Productions.{value_seen, values_of}
 use Rattle.soar_fire.specs.Known.{Knows}
 use Rattle.soar_fire.specs.Outcomes.{Standing, found, reached, standing, then_on, value_outcome, values_outcome}
+use Rattle.soar_fire.proofs.GrowthLemmas.{gains_twice}
 use Rattle.soar_fire.proofs.OutcomeLemmas.{on_ok}
 use Rattle.soar_fire.proofs.KnownLemmas.{knows_grown, knows_push}
 use Rattle.soar_fire.proofs.ValueLemmas.{next_constants, later_constants, next_rest}
@@ -25,10 +26,10 @@ evaluated_all-values-preserved t c =
     let is : value_outcome c.args.scene.now.vars.now (value_seen c.value-item.result) before ≡ reached (Ok c.in-Ok.symbol) after = c.in_ok-symbol.ensures.answer ∙ ap (λ r. reached r after) c.in-Ok.is in
     record {
       bound = c.in_ok-symbol.ensures.bound;
-      constants = knows_grown _ _ _ (later_constants _ c.args.values.now c.values.value-index c.value-item.result c.values.invariant.constants c.values-test.true c.value-item.is) c.evaluated.ensures.grown;
+      constants = knows_grown _ _ _ (later_constants _ c.args.values.now c.values.value-index c.value-item.result c.values.invariant.constants c.values-test.true c.value-item.is) c.evaluated.ensures.gains.words_grow;
       known = subst (Knows c.evaluated.new.table) (sym c.in_ok-push-in-Ok.ensures.ok)
-          (knows_push _ _ _ (knows_grown _ _ _ c.values.invariant.known c.evaluated.ensures.grown) (rw c.in-Ok.is at c.in_ok-symbol.ensures.known));
-      grown = omega (arith, c.evaluated.ensures.grown);
+          (knows_push _ _ _ (knows_grown _ _ _ c.values.invariant.known c.evaluated.ensures.gains.words_grow) (rw c.in-Ok.is at c.in_ok-symbol.ensures.known));
+      gains = gains_twice _ _ _ _ _ _ c.values.invariant.gains c.evaluated.ensures.gains;
       rest = ap (λ symbols. then_on (values_outcome c.args.scene.now.vars.now (values_of (map value_seen (drop (c.values.value-index + 1) c.args.values.now))) after) (λ more s. found (symbols ++ more) s)) c.in_ok-push-in-Ok.ensures.ok
           ∙ sym (next_rest c.args.scene.now.vars.now c.args.values.now c.values.value-index c.value-item.result c.in-Ok.symbol c.values.symbols before after c.values-test.true c.value-item.is is)
           ∙ c.values.invariant.rest;
