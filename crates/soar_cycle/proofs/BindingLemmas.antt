@@ -9,7 +9,7 @@ use Rattle.soar_rule.specs.declared.cond.Pattern.{Pattern}
 use Rattle.soar_rule.specs.Conditions.{Condition, positive, negated, conjunctive, Conditions, no_more, condition_and}
 use Rattle.soar_rule.specs.Variables.{is_among, with_each, plain_in_test, plain_in, plain_of_pattern, bound_by, bound_variables, plain_outside}
 use Rattle.soar_wm.specs.declared.element.Element.{Element}
-use Rattle.defs_match.specs.Rows.{rows, rows_after, rows_from, Row, extend, by_element, with_element, bindings_at, takes_marks, only_without, empty_row}
+use Rattle.defs_match.specs.Rows.{rows, rows_with, rows_from, Row, extend, by_element, with_matched, bindings_at, takes_marks, only_without, empty_row}
 use Rattle.defs_match.specs.Testing.{Bindings, symbol_of, bind, after_plain, others_pass, passes}
 
 abbrev pub variables_in : Bindings → List ℕ
@@ -137,7 +137,7 @@ module _ (Holds : Sym → Type 0) where
   flat_map_binds f before after each [] h = tt
   flat_map_binds f before after each (r ∷ rs) h = append_bind after (f r) (flat_map f rs) (each r h.0) (flat_map_binds f before after each rs h.1)
 
-  with_binds : (r : Row) (e : Element) (vs : List ℕ) (b : Bool) (o : Option Bindings) → MayBind vs o → RowsBind vs (cond b (with_element r e o) [])
+  with_binds : (r : Row) (e : Element) (vs : List ℕ) (b : Bool) (o : Option Bindings) → MayBind vs o → RowsBind vs (cond b (with_matched r e o) [])
   with_binds r e vs false o h = tt
   with_binds r e vs true None h = tt
   with_binds r e vs true (Some bs) h = (h, tt)
@@ -155,7 +155,7 @@ module _ (Holds : Sym → Type 0) where
   only_binds r (s ∷ rs) vs g = tt
 
   after_binds : (c : Condition) (w : List Element) (r : Row) (vs : List ℕ) → HoldIn w → Binds vs r.bindings
-      → RowsBind (with_each vs (bound_by c)) (rows_after c w r)
+      → RowsBind (with_each vs (bound_by c)) (rows_with c w r)
   after_binds (positive p) w r vs k g = extend_binds p w r vs k g
   after_binds (negated p) w r vs k g = only_binds r (extend p w r) vs g
   after_binds (conjunctive cs) w r vs k g = only_binds r (rows_from cs w (r ∷ [])) vs g
@@ -166,8 +166,8 @@ module _ (Holds : Sym → Type 0) where
   from_binds (condition_and c cs) w rs vs k g =
       let next = with_each vs (bound_by c) in
       rw (each_append vs (bound_by c) (plain_outside cs))
-      (from_binds cs w (flat_map (rows_after c w) rs) next k
-      (flat_map_binds (rows_after c w) vs next (λ r h. after_binds c w r vs k h) rs g))
+      (from_binds cs w (flat_map (rows_with c w) rs) next k
+      (flat_map_binds (rows_with c w) vs next (λ r h. after_binds c w r vs k h) rs g))
 
   pub rows_bind : (cs : Conditions) (w : List Element) → HoldIn w → RowsBind (bound_variables cs) (rows cs w)
   rows_bind cs w k = from_binds cs w (empty_row ∷ []) [] k (record { variables = refl; symbols = tt }, tt)

@@ -12,7 +12,7 @@ use Rattle.defs_match.specs.Rules.{RuleOf}
 use Rattle.defs_match.specs.Testing.{Bindings}
 use Rattle.defs_match.specs.declared.instance.Instance.{Instance}
 use Rattle.soar_cycle.specs.Firables.{AreNumbered, AreBound, IsBelowRules, IsBoundBy, IsInstance, rules_of}
-use Rattle.soar_cycle.specs.Known.{AreElementsKnown, AreInstancesKnown}
+use Rattle.soar_settle.specs.Known.{AreElementsKnown, AreInstancesKnown}
 use Rattle.soar_cycle.proofs.BindingLemmas.{HoldIn, HoldOf, RowsBind, rows_bind}
 use Rattle.soar_cycle.proofs.RuleLemmas.{AreAbove, above_conflict, later_number, own_number}
 

@@ -4,14 +4,15 @@ use Rattle.soar_wm.specs.declared.element.Element.{Element}
 use Rattle.defs_soar.specs.declared.goal.Goal.{Goal}
 use Rattle.defs_soar.specs.Agents.{LiveFiring, Agent}
 use Rattle.defs_soar.specs.Events.{goes, comes, removes}
-use Rattle.defs_soar.specs.History.{Past}
+use Rattle.defs_soar.specs.History.{RecordedFiring}
+use Rattle.defs_soar.specs.Learning.{without_learning}
 use Rattle.defs_soar.specs.Limits.{first_passed}
 use Rattle.defs_soar.specs.Pending.{Work as WorkOf}
 use Rattle.defs_soar.specs.Resettling.{removal_events, resettled, without_elements}
 use Rattle.defs_soar.specs.Settling.{elements_after, kept_triples}
-use Rattle.defs_soar.specs.Trimming.{supports_of, trimmed}
+use Rattle.defs_soar.specs.Trimming.{RemovedGoal, supports_of, trimmed}
 use Rattle.defs_soar.specs.WaveAtHand.{Wave, all_fresh}
-use Rattle.defs_soar.specs.WaveFirings.{first_wave, moment_of}
+use Rattle.defs_soar.specs.WaveFirings.{first_wave, before_wave}
 use Rattle.defs_soar.specs.Waves.{entry_events, retract_event, wave_of}
 use Rattle.soar_cycle.specs.Carrying.{Carried}
 use Rattle.soar_cycle.specs.FiresAll.{HasFired, texts_of_fresh}
@@ -20,8 +21,8 @@ use Rattle.soar_cycle.specs.Seen.{agent_of, IsSound, written_of}
 use Rattle.soar_cycle.specs.WaveParts.{fired_in, held_after, rows_in_all, settled_after, unsettled}
 use Rattle.soar_cycle.specs.declared.agent.Agent.{Agent as AgentKept}
 use Rattle.soar_cycle.specs.declared.firing.Fired.{Fired}
-use Rattle.soar_cycle.specs.declared.stop.Stop.{Stop}
-use Rattle.soar_cycle.specs.declared.stop.Stop.TheVariants as stop
+use Rattle.soar_settle.specs.declared.stop.Stop.{Stop}
+use Rattle.soar_settle.specs.declared.stop.Stop.TheVariants as stop
 use Rattle.soar_cycle.proofs.CarriedLemmas.{StopsAs, top}
 use Rattle.soar_cycle.proofs.CarryLemmas.{Counted, history_after, halted_is, past_rows, quiet_work, stands_after}
 use Rattle.soar_cycle.proofs.FiredWaveLemmas.{tells_texts, unwritten, written_append}
@@ -29,10 +30,10 @@ use Rattle.soar_cycle.proofs.UnsettledLemmas.{settles_same}
 
 -- ---- what is written
 
-changes_unwritten : (removed : List Goal) (gone new : List Element) → written_of (removal_events removed ++ (map goes gone ++ map comes new)) ≡ []
+changes_unwritten : (removed : List RemovedGoal) (gone new : List Element) → written_of (removal_events removed ++ (map goes gone ++ map comes new)) ≡ []
 changes_unwritten removed gone new =
     written_append (removal_events removed) (map goes gone ++ map comes new)
-    ∙ (λ k. unwritten (λ (goal : Goal). removes goal.id) (λ goal. refl) removed k ++ written_append (map goes gone) (map comes new) k)
+    ∙ (λ k. unwritten (λ (goal : RemovedGoal). removes goal.id) (λ goal. refl) removed k ++ written_append (map goes gone) (map comes new) k)
     ∙ (λ k. unwritten goes (λ e. refl) gone k ++ unwritten comes (λ e. refl) new k)
 
 settling_unwritten : (a : Agent) (gone : List LiveFiring) (v : Wave) → written_of (settled_after a gone v).events ≡ []
@@ -42,7 +43,7 @@ settling_unwritten a gone v =
     let after = elements_after v.names.words t.goals (kept_triples t.goals (supports_of t)) v.names.last_tag a.holding.elements in
     changes_unwritten t.removed (without_elements after a.holding.elements) (without_elements a.holding.elements after)
 
-pub wave_written : (a : Agent) (work : WorkOf) (goal : Goal) → a.holding.goals ≡ goal ∷ [] → written_of (wave_of a work).events ≡ texts_of_fresh (all_fresh (fired_in a work).entries)
+pub wave_written : (a : Agent) (work : WorkOf) (goal : Goal) → a.holding.goals ≡ goal ∷ [] → written_of (wave_of without_learning a work).events ≡ texts_of_fresh (all_fresh (fired_in a work).entries)
 unfolding resettled
 wave_written a work goal one =
     let v = fired_in a work in
@@ -52,28 +53,28 @@ wave_written a work goal one =
     ∙ (λ k. unwritten retract_event (λ l. refl) work.retracted k ++ written_append (flat_map entry_events v.entries) rest.events k)
     ∙ ap (λ text. written_of (flat_map entry_events v.entries) ++ text) (settling_unwritten a work.retracted v)
     ∙ append-nil (written_of (flat_map entry_events v.entries))
-    ∙ tells_texts (moment_of a) (first_wave a) work.fired refl
+    ∙ tells_texts (before_wave a) (first_wave a) work.fired refl
 
 -- ---- where settling stops
 
-pub settling_stop : (old mid new : AgentKept) (history : List Past) (w : WorkOf) (why : Stop) → IsSound old → Counted (agent_of old history) w
-    → first_passed (fired_in (agent_of old history) w).drawn ≡ None → rows_in_all (agent_of old history) w.retracted (fired_in (agent_of old history) w) ≤ 1000000
+pub settling_stop : (old mid new : AgentKept) (history : List RecordedFiring) (w : WorkOf) (why : Stop) → IsSound old → Counted (agent_of old history) w
+    → first_passed (fired_in (agent_of old history) w).totals ≡ None → rows_in_all (agent_of old history) w.retracted (fired_in (agent_of old history) w) ≤ 1000000
     → agent_of mid history ≡ unsettled (agent_of old history) w.retracted (fired_in (agent_of old history) w)
-    → Resettles mid new history (Err why) → StopsAs (wave_of (agent_of old history) w) why
+    → Resettles mid new history (Err why) → StopsAs (wave_of without_learning (agent_of old history) w) why
 settling_stop old mid new history w (stop.Limit limit) sound counted within room stands passed =
     let a = agent_of old history in
-    past_rows a w top sound.one_goal counted within room ∙ ap (λ s. first_passed s.drawn) (sym (settles_same mid history a w.retracted (fired_in a w) stands)) ∙ passed
+    past_rows a w top sound.one_goal counted within room ∙ ap (λ s. first_passed s.totals) (sym (settles_same mid history a w.retracted (fired_in a w) stands)) ∙ passed
 settling_stop old mid new history w stop.NoMemory sound counted within room stands passed = tt
 
 -- ---- the end
 
-pub done : (old mid new : AgentKept) (history : List Past) (w : WorkOf) (count : ℕ) (made : Fired) (before after : List ℕ) → IsSound old → Counted (agent_of old history) w
+pub done : (old mid new : AgentKept) (history : List RecordedFiring) (w : WorkOf) (count : ℕ) (made : Fired) (before after : List ℕ) → IsSound old → Counted (agent_of old history) w
     → HasFired mid.table mid.letters count made (first_wave (agent_of old history)) (fired_in (agent_of old history) w)
     → rows_in_all (agent_of old history) w.retracted (fired_in (agent_of old history) w) ≤ 1000000
     → agent_of mid history ≡ unsettled (agent_of old history) w.retracted (fired_in (agent_of old history) w)
     → IsResettled new history (resettled_now mid history)
     → after ≡ before ++ made.text
-    → Carried (record new { halted = new.halted || made.halted }) before after made.halted (wave_of (agent_of old history) w)
+    → Carried (record new { halted = new.halted || made.halted }) before after made.halted (wave_of without_learning (agent_of old history) w)
 done old mid new history w count made before after sound counted fired room stands settled text =
     let a = agent_of old history in
     let same = settles_same mid history a w.retracted (fired_in a w) stands in
@@ -81,7 +82,7 @@ done old mid new history w count made before after sound counted fired room stan
       stepped = record {
         history = history_after a w;
         stands = stands_after a (agent_of new history) w top made.halted sound.one_goal (settled.stands ∙ ap (λ s. s.agent) same) fired.halted_is;
-        within = past_rows a w top sound.one_goal counted fired.within room ∙ ap (λ s. first_passed s.drawn) (sym same) ∙ settled.within;
+        within = past_rows a w top sound.one_goal counted fired.within room ∙ ap (λ s. first_passed s.totals) (sym same) ∙ settled.within;
       };
       halted_is = fired.halted_is ∙ sym (halted_is a w top sound.one_goal);
       text = text ∙ ap (λ t. before ++ t) (fired.text_is ∙ sym (wave_written a w top sound.one_goal));

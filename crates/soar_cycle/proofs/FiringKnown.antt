@@ -16,7 +16,7 @@ use Rattle.defs_soar.specs.Pending.{Firable, is_of_operator_kind}
 use Rattle.defs_soar.specs.Support.{row_of}
 use Rattle.soar_fire.specs.Fires.{AreWishesKnown, referents_of}
 use Rattle.soar_cycle.specs.Firables.{rules_of, AreBound, IsBoundBy, IsInstance}
-use Rattle.soar_cycle.specs.Known.{AreInstancesKnown, AreRowsKnown, AreRulesKnown}
+use Rattle.soar_settle.specs.Known.{AreInstancesKnown, AreRowsKnown, AreRulesKnown}
 use Rattle.soar_cycle.specs.FiringOutcome.{rows_made, KnowsInstances, KnowsRows, KnowsRules}
 
 -- ---- a longer table

@@ -12,8 +12,8 @@ use Rattle.defs_soar.specs.Pending.{Firable, firable_of}
 use Rattle.soar_cycle.specs.Firables.{firables_for, rules_of, IsInstance}
 use Rattle.soar_cycle.specs.FiringOutcome.{Gathered, gathered, stopped, then_on, first_of, firing_outcome, next_outcome, firings_outcome, instances_outcome, Leaves, LeavesOne}
 use Rattle.soar_cycle.specs.declared.firing.Fired.{Fired}
-use Rattle.soar_cycle.specs.declared.stop.Stop.{Stop}
-use Rattle.soar_cycle.specs.declared.stop.Stop.TheVariants as stop
+use Rattle.soar_settle.specs.declared.stop.Stop.{Stop}
+use Rattle.soar_settle.specs.declared.stop.Stop.TheVariants as stop
 use Rattle.soar_cycle.proofs.FiringKnown.{next_instance}
 
 -- ---- the rule of an instance

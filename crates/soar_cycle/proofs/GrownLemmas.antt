@@ -5,7 +5,7 @@ use Rattle.soar_sym.specs.declared.symbol.Triple.{Triple}
 use Rattle.soar_wm.specs.declared.element.Element.{Element}
 use Rattle.defs_soar.specs.declared.preference.Preference.{Preference}
 use Rattle.defs_soar.specs.Preferences.{is_kept_already, with_row, with_rows, is_of_gone, without_firings, is_rejected_by, rows_after}
-use Rattle.soar_cycle.specs.Known.{AreElementsKnown, AreRowsKnown, AreTriplesKnown}
+use Rattle.soar_settle.specs.Known.{AreElementsKnown, AreRowsKnown, AreTriplesKnown}
 use Rattle.soar_cycle.proofs.FiringKnown.{known_grown, are_rows_append}
 
 pub elements_grown : (old new : Texts) (elements : List Element) → length old ≤ length new → AreElementsKnown old elements → AreElementsKnown new elements

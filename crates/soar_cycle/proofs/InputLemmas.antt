@@ -1,25 +1,25 @@
 -- What settling answers is what a change of the inputs answers.
 use Rattle.std.proofs.Common.{◌≡◌, Bool, true, false, ◌||◌, List, Result, Ok, Err, refl, sym, ap, subst, ◌∙◌}
 use Rattle.soar_sym.specs.declared.symbol.Triple.{Triple}
-use Rattle.soar_cycle.specs.Known.{AreTriplesKnown}
+use Rattle.soar_settle.specs.Known.{AreTriplesKnown}
 use Rattle.defs_soar.specs.Agents.{Agent}
-use Rattle.defs_soar.specs.History.{Past}
+use Rattle.defs_soar.specs.History.{RecordedFiring}
 use Rattle.defs_soar.specs.Limits.{first_passed}
 use Rattle.defs_soar.specs.Phases.{halting}
-use Rattle.defs_soar.specs.Resettling.{Step, resettled}
-use Rattle.defs_soar.specs.Trimming.{Trimmed}
+use Rattle.defs_soar.specs.Resettling.{AgentStep, resettled}
+use Rattle.defs_soar.specs.Trimming.{Remains}
 use Rattle.soar_cycle.specs.Changing.{with_inputs, ChangesInputs}
 use Rattle.soar_cycle.specs.Resettles.{resettled_now, IsResettled, Resettles}
 use Rattle.soar_cycle.specs.Seen.{IsSound, Stepped}
 use Rattle.soar_cycle.specs.declared.agent.Agent.{Agent as AgentKept}
-use Rattle.soar_cycle.specs.declared.stop.Stop.{Stop}
-use Rattle.soar_cycle.specs.declared.stop.Stop.TheVariants as stop
+use Rattle.soar_settle.specs.declared.stop.Stop.{Stop}
+use Rattle.soar_settle.specs.declared.stop.Stop.TheVariants as stop
 
 abbrev pub with_new : AgentKept → List Triple → AgentKept
 with_new a inputs = record a { inputs = inputs }
 
 -- settling puts what is held in the place of what there was
-same_step : (a : AgentKept) (history : List Past) (inputs : List Triple) → resettled_now (with_new a inputs) history ≡ with_inputs a history inputs
+same_step : (a : AgentKept) (history : List RecordedFiring) (inputs : List Triple) → resettled_now (with_new a inputs) history ≡ with_inputs a history inputs
 unfolding resettled
 same_step a history inputs = refl
 
@@ -28,17 +28,17 @@ or_none true = refl
 or_none false = refl
 
 -- settling halts nothing
-halts_none : (a : Agent) (held : Trimmed) → halting (resettled a held) ≡ (resettled a held).agent
+halts_none : (a : Agent) (held : Remains) → halting (resettled a held) ≡ (resettled a held).agent
 unfolding resettled
 halts_none a held = ap (λ b. record (resettled a held).agent { halted = b }) (or_none a.halted)
 
-pub stepped : (new : AgentKept) (history : List Past) (a : Agent) (held : Trimmed) → IsResettled new history (resettled a held) → Stepped new (resettled a held)
+pub stepped : (new : AgentKept) (history : List RecordedFiring) (a : Agent) (held : Remains) → IsResettled new history (resettled a held) → Stepped new (resettled a held)
 stepped new history a held h = record { history = history; stands = h.stands ∙ sym (halts_none a held); within = h.within }
 
-pub changes_by : (a new : AgentKept) (history : List Past) (inputs : List Triple) (result : Result (Unit {0}) Stop) → Resettles (with_new a inputs) new history result
+pub changes_by : (a new : AgentKept) (history : List RecordedFiring) (inputs : List Triple) (result : Result (Unit {0}) Stop) → Resettles (with_new a inputs) new history result
     → ChangesInputs a new history inputs result
 changes_by a new history inputs (Ok done) h = subst (Stepped new) (same_step a history inputs) (stepped new history _ _ h)
-changes_by a new history inputs (Err (stop.Limit which)) h = ap (λ (s : Step). first_passed s.drawn) (sym (same_step a history inputs)) ∙ h
+changes_by a new history inputs (Err (stop.Limit which)) h = ap (λ (s : AgentStep). first_passed s.totals) (sym (same_step a history inputs)) ∙ h
 changes_by a new history inputs (Err stop.NoMemory) h = tt
 
 pub still_sound : (a : AgentKept) (inputs : List Triple) → IsSound a → AreTriplesKnown a.table inputs → IsSound (with_new a inputs)

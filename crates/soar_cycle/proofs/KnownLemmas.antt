@@ -20,8 +20,8 @@ use Rattle.defs_soar.specs.Levels.{reaches, level_in, is_level_one}
 use Rattle.defs_soar.specs.Settling.{Supports, count_of, one_settling, settled, kept_triples, stays, tagged, new_triples, elements_after}
 use Rattle.defs_soar.specs.Sorted.{with_triple_at, in_order}
 use Rattle.defs_soar.specs.Values.{is_kind}
-use Rattle.soar_cycle.specs.Known.{AreElementsKnown, AreRowsKnown, AreTriplesKnown}
-use Rattle.soar_cycle.proofs.FilterLemmas.{filter_shorter}
+use Rattle.soar_settle.specs.Known.{AreElementsKnown, AreRowsKnown, AreTriplesKnown}
+use Rattle.soar_settle.proofs.FilterLemmas.{filter_shorter}
 
 -- ---- lists of triples, rows and elements
 

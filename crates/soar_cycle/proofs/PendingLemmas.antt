@@ -12,7 +12,7 @@ use Rattle.soar_cycle.specs.declared.work.Work.{Work}
 use Rattle.soar_cycle.specs.Active.{active_of, depth_at, level_of}
 use Rattle.soar_cycle.specs.Candidates.{fires_now, gone_of}
 use Rattle.soar_cycle.specs.Firables.{AreBound, AreNumbered, IsPending, firables_for}
-use Rattle.soar_cycle.specs.Known.{AreElementsKnown, AreInstancesKnown}
+use Rattle.soar_settle.specs.Known.{AreElementsKnown, AreInstancesKnown}
 use Rattle.soar_cycle.proofs.ConflictLemmas.{bound_conflict, bound_filter, known_conflict, known_filter}
 use Rattle.soar_cycle.proofs.FirableLemmas.{depths_agree, fires_agree, level_agrees}
 use Rattle.soar_cycle.proofs.RuleLemmas.{firables_conflict}

@@ -8,34 +8,34 @@ use Rattle.defs_soar.specs.declared.preference.Preference.{Preference}
 use Rattle.defs_soar.specs.Agents.{LiveFiring}
 use Rattle.defs_soar.specs.Cycle.{held_with}
 use Rattle.defs_soar.specs.Events.{goes, comes}
-use Rattle.defs_soar.specs.History.{Past}
+use Rattle.defs_soar.specs.History.{RecordedFiring}
 use Rattle.defs_soar.specs.Limits.{elements_to, tags_to, first_passed}
-use Rattle.defs_soar.specs.Resettling.{Step, resettled, without_elements, removal_events}
+use Rattle.defs_soar.specs.Resettling.{AgentStep, resettled, without_elements, removal_events}
 use Rattle.defs_soar.specs.Settling.{kept_triples}
-use Rattle.defs_soar.specs.Trimming.{Trimmed, trimmed, with_supports}
+use Rattle.defs_soar.specs.Trimming.{Remains, trimmed, with_supports}
 use Rattle.soar_prefs.specs.Memory.{PreferenceMemory}
 use Rattle.soar_cycle.specs.Firables.{live_seen}
-use Rattle.soar_cycle.specs.Known.{AreElementsKnown, AreRowsKnown, AreTriplesKnown}
+use Rattle.soar_settle.specs.Known.{AreElementsKnown, AreRowsKnown, AreTriplesKnown}
 use Rattle.soar_cycle.specs.Resettles.{resettled_now, IsResettled, Resettles}
-use Rattle.soar_cycle.specs.Rounds.{supports}
+use Rattle.soar_settle.specs.Passes.{supports}
 use Rattle.soar_cycle.specs.Seen.{agent_of, IsSound}
-use Rattle.soar_cycle.specs.Settles.{settled_from, after_of, last_of, passed_by, Retags}
+use Rattle.soar_settle.specs.Settles.{settled_from, after_of, last_of, passed_by, Retags}
 use Rattle.soar_cycle.specs.declared.agent.Agent.{Agent as AgentKept}
-use Rattle.soar_cycle.specs.declared.stop.Stop.{Stop}
-use Rattle.soar_cycle.specs.declared.stop.Stop.TheVariants as stop
+use Rattle.soar_settle.specs.declared.stop.Stop.{Stop}
+use Rattle.soar_settle.specs.declared.stop.Stop.TheVariants as stop
 use Rattle.soar_cycle.proofs.KnownLemmas.{KnowsSupports, settled_known, settled_few, kept_known, after_known}
 
 -- ---- the top goal stays
 
-abbrev held_at : List Goal → List Preference → List Triple → List LiveFiring → Trimmed
+abbrev held_at : List Goal → List Preference → List Triple → List LiveFiring → Remains
 held_at goals rows inputs live = record { goals = goals; rows = rows; inputs = inputs; live = live; removed = [] }
 
-trimmed_one : (history : List Past) (elements : List Element) (goal : Goal) (rows : List Preference) (inputs : List Triple) (live : List LiveFiring)
+trimmed_one : (history : List RecordedFiring) (elements : List Element) (goal : Goal) (rows : List Preference) (inputs : List Triple) (live : List LiveFiring)
     → trimmed history elements (held_at (goal ∷ []) rows inputs live) ≡ with_supports (held_at (goal ∷ []) rows inputs live) (settled_from (goal ∷ []) rows inputs)
 unfolding trimmed
 trimmed_one history elements goal rows inputs live = refl
 
-trimmed_top : (history : List Past) (elements : List Element) (goals : List Goal) (goal : Goal) (rows : List Preference) (inputs : List Triple) (live : List LiveFiring) → goals ≡ goal ∷ []
+trimmed_top : (history : List RecordedFiring) (elements : List Element) (goals : List Goal) (goal : Goal) (rows : List Preference) (inputs : List Triple) (live : List LiveFiring) → goals ≡ goal ∷ []
     → trimmed history elements (held_at goals rows inputs live) ≡ with_supports (held_at goals rows inputs live) (settled_from goals rows inputs)
 trimmed_top history elements goals goal rows inputs live one =
     subst (λ gs. trimmed history elements (held_at gs rows inputs live) ≡ with_supports (held_at gs rows inputs live) (settled_from gs rows inputs))
@@ -44,7 +44,7 @@ trimmed_top history elements goals goal rows inputs live one =
 -- ---- the step
 
 -- from what is settled
-abbrev step_to : AgentKept → List Past → Trimmed → Step
+abbrev step_to : AgentKept → List RecordedFiring → Remains → AgentStep
 step_to a history t =
     let after = after_of a.table t.goals (kept_triples t.goals (record { rows = t.rows; inputs = t.inputs })) a.memory in
     record {
@@ -53,19 +53,19 @@ step_to a history t =
         holding = record { elements = after; goals = t.goals; rows = t.rows; inputs = t.inputs; live = t.live };
       };
       events = removal_events t.removed ++ (map goes (without_elements after a.memory.elements) ++ map comes (without_elements a.memory.elements after));
-      drawn = elements_to (length after) ∷ tags_to (last_of after a.memory) ∷ [];
+      totals = elements_to (length after) ∷ tags_to (last_of after a.memory) ∷ [];
       halted = false;
     }
 
-step_is : (a : AgentKept) (history : List Past) (held : Trimmed) → resettled (agent_of a history) held ≡ step_to a history (trimmed history a.memory.elements held)
+step_is : (a : AgentKept) (history : List RecordedFiring) (held : Remains) → resettled (agent_of a history) held ≡ step_to a history (trimmed history a.memory.elements held)
 unfolding resettled
 step_is a history held = refl
 
 -- all goals stay
-abbrev settled_step : AgentKept → List Past → Step
+abbrev settled_step : AgentKept → List RecordedFiring → AgentStep
 settled_step a history = step_to a history (with_supports (held_with (agent_of a history) a.inputs) (settled_from a.goals a.prefs.rows a.inputs))
 
-resettled_is : (a : AgentKept) (history : List Past) (goal : Goal) → a.goals ≡ goal ∷ [] → resettled_now a history ≡ settled_step a history
+resettled_is : (a : AgentKept) (history : List RecordedFiring) (goal : Goal) → a.goals ≡ goal ∷ [] → resettled_now a history ≡ settled_step a history
 resettled_is a history goal one =
     step_is a history (held_with (agent_of a history) a.inputs)
     ∙ ap (step_to a history) (trimmed_top history a.memory.elements a.goals goal a.prefs.rows a.inputs (map live_seen a.live) one)
@@ -79,11 +79,11 @@ abbrev pub kept_of : AgentKept → List Triple
 kept_of a = kept_triples a.goals (settled_from a.goals a.prefs.rows a.inputs)
 
 -- a limit that is passed where memory is made is that of the step
-pub stops_resettling : (a new : AgentKept) (history : List Past) (goal : Goal) (kept : List Triple) (memory : WorkingMemory) (why : Stop) → a.goals ≡ goal ∷ [] → kept ≡ kept_of a
+pub stops_resettling : (a new : AgentKept) (history : List RecordedFiring) (goal : Goal) (kept : List Triple) (memory : WorkingMemory) (why : Stop) → a.goals ≡ goal ∷ [] → kept ≡ kept_of a
     → Retags a.table a.goals kept a.memory memory (Err why) → Resettles a new history (Err why)
 stops_resettling a new history goal kept memory stop.NoMemory one is h = tt
 stops_resettling a new history goal kept memory (stop.Limit which) one is h =
-    ap (λ (s : Step). first_passed s.drawn) (resettled_is a history goal one) ∙ ap (λ l. passed_by (elements_settled a l) a.memory) (sym is) ∙ h.0
+    ap (λ (s : AgentStep). first_passed s.totals) (resettled_is a history goal one) ∙ ap (λ l. passed_by (elements_settled a l) a.memory) (sym is) ∙ h.0
 
 -- rows, inputs and memory are those that settling leaves
 pub record HasSettled (a : AgentKept) (kept : List Triple) (memory : WorkingMemory) (prefs : PreferenceMemory) (inputs : List Triple) : Type 0 where
@@ -95,7 +95,7 @@ pub record HasSettled (a : AgentKept) (kept : List Triple) (memory : WorkingMemo
 abbrev pub with_settled : AgentKept → WorkingMemory → PreferenceMemory → List Triple → AgentKept
 with_settled a memory prefs inputs = record a { memory = memory; prefs = prefs; inputs = inputs }
 
-agent_stands : (a : AgentKept) (history : List Past) (kept : List Triple) (memory : WorkingMemory) (prefs : PreferenceMemory) (inputs : List Triple)
+agent_stands : (a : AgentKept) (history : List RecordedFiring) (kept : List Triple) (memory : WorkingMemory) (prefs : PreferenceMemory) (inputs : List Triple)
     → HasSettled a kept memory prefs inputs → agent_of (with_settled a memory prefs inputs) history ≡ (settled_step a history).agent
 agent_stands a history kept memory prefs inputs h = λ i.
     let elements : ◌≡◌ memory.elements (elements_settled a (kept_of a)) = ap (λ (m : WorkingMemory). m.elements) h.memory_is ∙ ap (elements_settled a) h.kept_is in
@@ -105,12 +105,12 @@ agent_stands a history kept memory prefs inputs h = λ i.
       holding = record { elements = elements i; goals = a.goals; rows = (h.rows_are i).rows; inputs = h.inputs_are i; live = map live_seen a.live };
     }
 
-pub settled_stands : (a : AgentKept) (history : List Past) (goal : Goal) (kept : List Triple) (memory : WorkingMemory) (prefs : PreferenceMemory) (inputs : List Triple)
+pub settled_stands : (a : AgentKept) (history : List RecordedFiring) (goal : Goal) (kept : List Triple) (memory : WorkingMemory) (prefs : PreferenceMemory) (inputs : List Triple)
     → a.goals ≡ goal ∷ [] → HasSettled a kept memory prefs inputs → passed_by (elements_settled a kept) a.memory ≡ None
     → IsResettled (with_settled a memory prefs inputs) history (resettled_now a history)
 settled_stands a history goal kept memory prefs inputs one h within = record {
-  stands = agent_stands a history kept memory prefs inputs h ∙ ap (λ (s : Step). s.agent) (sym (resettled_is a history goal one));
-  within = ap (λ (s : Step). first_passed s.drawn) (resettled_is a history goal one) ∙ ap (λ l. passed_by (elements_settled a l) a.memory) (sym h.kept_is) ∙ within;
+  stands = agent_stands a history kept memory prefs inputs h ∙ ap (λ (s : AgentStep). s.agent) (sym (resettled_is a history goal one));
+  within = ap (λ (s : AgentStep). first_passed s.totals) (resettled_is a history goal one) ∙ ap (λ l. passed_by (elements_settled a l) a.memory) (sym h.kept_is) ∙ within;
 }
 
 -- ---- what is sound stays so

@@ -7,20 +7,20 @@ use Rattle.defs_match.specs.Rules.{RuleOf, rule_seen}
 use Rattle.defs_soar.specs.declared.preference.Preference.{Preference}
 use Rattle.defs_soar.specs.Agents.{LiveFiring, Agent}
 use Rattle.defs_soar.specs.Cycle.{held_with}
-use Rattle.defs_soar.specs.History.{Past}
+use Rattle.defs_soar.specs.History.{RecordedFiring}
 use Rattle.defs_soar.specs.Pending.{Work as WorkOf}
 use Rattle.defs_soar.specs.Preferences.{rows_after, with_rows, without_firings, is_rejected_by}
 use Rattle.defs_soar.specs.Resettling.{resettled}
 use Rattle.defs_soar.specs.Trimming.{numbers_of}
 use Rattle.defs_soar.specs.WaveAtHand.{Wave}
-use Rattle.defs_soar.specs.WaveFirings.{first_wave, moment_of}
+use Rattle.defs_soar.specs.WaveFirings.{first_wave, before_wave}
 use Rattle.defs_soar.specs.Waves.{is_retracted, is_spent, without_spent}
 use Rattle.soar_prefs.specs.Memory.{PreferenceMemory}
 use Rattle.soar_cycle.specs.Firables.{IsPending, live_seen}
 use Rattle.soar_cycle.specs.FiresAll.{HasFired}
-use Rattle.soar_cycle.specs.Known.{AreRowsKnown}
+use Rattle.soar_settle.specs.Known.{AreRowsKnown}
 use Rattle.soar_cycle.specs.Living.{has_left, still_live}
-use Rattle.soar_cycle.specs.Renewal.{RenewsRows}
+use Rattle.soar_settle.specs.Renewal.{RenewsRows}
 use Rattle.soar_cycle.specs.Resettles.{resettled_now}
 use Rattle.soar_cycle.specs.Seen.{AreNoJustifications, IsSound, agent_of}
 use Rattle.soar_cycle.specs.WaveParts.{fired_in, live_after, rows_made_in, settled_after, unsettled}
@@ -28,7 +28,7 @@ use Rattle.soar_cycle.specs.declared.agent.Agent.{Agent as AgentKept}
 use Rattle.soar_cycle.specs.declared.firing.Fired.{Fired}
 use Rattle.soar_cycle.specs.declared.live.Live.{Live}
 use Rattle.soar_cycle.specs.declared.work.Work.{Work}
-use Rattle.soar_cycle.proofs.FilterLemmas.{filter_shorter}
+use Rattle.soar_settle.proofs.FilterLemmas.{filter_shorter}
 use Rattle.soar_cycle.proofs.FiredWaveLemmas.{program_stays, learned_stays, tag_stays}
 use Rattle.soar_cycle.proofs.FiringKnown.{are_rules_grown, are_rows_grown}
 use Rattle.soar_cycle.proofs.GrownLemmas.{elements_grown, triples_grown, rows_after_known}
@@ -70,7 +70,7 @@ fired_agent old table letters prefs live waves firings retractions =
     record old { table = table; letters = letters; prefs = prefs; live = live; waves = waves; firings = firings; retractions = retractions }
 
 -- it is what the definition comes to
-pub fired_stands : (old : AgentKept) (history : List Past) (work : Work) (w : WorkOf) (made : Fired) (table : Texts) (letters : List ℕ) (prefs : PreferenceMemory) (live : List Live) (waves firings retractions : ℕ)
+pub fired_stands : (old : AgentKept) (history : List RecordedFiring) (work : Work) (w : WorkOf) (made : Fired) (table : Texts) (letters : List ℕ) (prefs : PreferenceMemory) (live : List Live) (waves firings retractions : ℕ)
     → IsSound old → IsPending (map rule_seen old.rules) old.memory.elements work w
     → HasFired table letters (length work.fired) made (first_wave (agent_of old history)) (fired_in (agent_of old history) w)
     → RenewsRows old.prefs prefs work.retracted made.rows
@@ -80,7 +80,7 @@ pub fired_stands : (old : AgentKept) (history : List Past) (work : Work) (w : Wo
 fired_stands old history work w made table letters prefs live waves firings retractions sound pend fired renews lives waves_is firings_is retractions_is =
     let a = agent_of old history in
     let v = fired_in a w in
-    let program : v.program ≡ a.program = program_stays (moment_of a) (first_wave a) w.fired in
+    let program : v.program ≡ a.program = program_stays (before_wave a) (first_wave a) w.fired in
     let rows : prefs.rows ≡ rows_after old.prefs.rows (numbers_of w.retracted) (rows_made_in v) =
     ap (λ p. p.rows) renews.rows ∙ (λ k. rows_after old.prefs.rows (pend.retracted_are k) (fired.rows_are k)) in
     let lives_are : map live_seen live ≡ live_after a.holding.live w.retracted v =
@@ -88,19 +88,19 @@ fired_stands old history work w made table letters prefs live waves firings retr
     let rules : a.program ≡ without_spent w.retracted v.program =
     (λ k. record a.program { rules = sym (kept_rules w.retracted a.program.rules sound.none_learned) k }) ∙ ap (without_spent w.retracted) (sym program) in
     λ k. record a {
-      names = record { words = fired.words_are k; letters = fired.letters_are k; last_tag = sym (tag_stays (moment_of a) (first_wave a) w.fired) k };
+      names = record { words = fired.words_are k; letters = fired.letters_are k; last_tag = sym (tag_stays (before_wave a) (first_wave a) w.fired) k };
       program = rules k;
       counts = record a.counts {
         waves = waves_is k;
         firings = (firings_is ∙ sym fired.last_is) k;
         retractions = retractions_is k;
-        learned = sym (learned_stays (moment_of a) (first_wave a) w.fired) k;
+        learned = sym (learned_stays (before_wave a) (first_wave a) w.fired) k;
       };
       holding = record a.holding { rows = rows k; live = lives_are k };
     }
 
 -- settling it is settling what the definition holds then
-pub settles_same : (new : AgentKept) (history : List Past) (a : Agent) (gone : List LiveFiring) (v : Wave) → agent_of new history ≡ unsettled a gone v → resettled_now new history ≡ settled_after a gone v
+pub settles_same : (new : AgentKept) (history : List RecordedFiring) (a : Agent) (gone : List LiveFiring) (v : Wave) → agent_of new history ≡ unsettled a gone v → resettled_now new history ≡ settled_after a gone v
 settles_same new history a gone v stands = ap (λ s. resettled s (held_with s s.holding.inputs)) stands
 
 -- ---- what it keeps

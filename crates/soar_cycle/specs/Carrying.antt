@@ -2,32 +2,33 @@
 use Rattle.std.specs.Prelude.{◌≡◌, ℕ, Bool, true, false, ◌&&◌, List, [], ◌∷◌, ◌++◌, map, Some, Result, Ok, Err}
 use Rattle.defs_match.specs.Rules.{rule_seen}
 use Rattle.defs_soar.specs.declared.limit.Which.{Which}
+use Rattle.defs_soar.specs.Learning.{without_learning}
 use Rattle.defs_soar.specs.Limits.{first_passed}
-use Rattle.defs_soar.specs.History.{Past}
+use Rattle.defs_soar.specs.History.{RecordedFiring}
 use Rattle.defs_soar.specs.Pending.{Work as WorkOf}
-use Rattle.defs_soar.specs.Resettling.{Step}
+use Rattle.defs_soar.specs.Resettling.{AgentStep}
 use Rattle.defs_soar.specs.Waves.{wave_of}
 use Rattle.soar_cycle.specs.Firables.{IsPending}
 use Rattle.soar_cycle.specs.Seen.{agent_of, Stepped, written_of}
 use Rattle.soar_cycle.specs.declared.agent.Agent.{Agent as AgentKept}
-use Rattle.soar_cycle.specs.declared.stop.Stop.{Stop}
-use Rattle.soar_cycle.specs.declared.stop.Stop.TheVariants as stop
+use Rattle.soar_settle.specs.declared.stop.Stop.{Stop}
+use Rattle.soar_settle.specs.declared.stop.Stop.TheVariants as stop
 use Rattle.soar_cycle.specs.declared.wave.Waved.{Waved}
 use Rattle.soar_cycle.specs.declared.wave.Waved.TheVariants as waves
 use Rattle.soar_cycle.specs.declared.work.Work.{Work}
 
 -- the step was gone whole, with its texts behind what was there
-pub record Carried (new : AgentKept) (before after : List ℕ) (halted : Bool) (s : Step) : Type 0 where
+pub record Carried (new : AgentKept) (before after : List ℕ) (halted : Bool) (s : AgentStep) : Type 0 where
   pub stepped : Stepped new s
   pub halted_is : halted ≡ s.halted
   pub text : after ≡ before ++ written_of s.events
 
-pub record CarriedNot (before after : List ℕ) (limit : Which) (s : Step) : Type 0 where
-  pub passed : first_passed s.drawn ≡ Some limit
+pub record CarriedNot (before after : List ℕ) (limit : Which) (s : AgentStep) : Type 0 where
+  pub passed : first_passed s.totals ≡ Some limit
   pub text : after ≡ before
 
 -- each answer, exactly where it comes: whether a firing halted, or the limit; only want of memory is free
-abbrev pub Carries : AgentKept → List ℕ → List ℕ → Step → Result Bool Stop → Type 0
+abbrev pub Carries : AgentKept → List ℕ → List ℕ → AgentStep → Result Bool Stop → Type 0
 Carries new before after s (Ok halted) = Carried new before after halted s
 Carries new before after s (Err (stop.Limit which)) = CarriedNot before after which s
 Carries new before after s (Err stop.NoMemory) = Unit {0}
@@ -35,7 +36,7 @@ Carries new before after s (Err stop.NoMemory) = Unit {0}
 -- whatever the history, for the work that this stands for
 abbrev pub CarriesOut : AgentKept → AgentKept → Work → List ℕ → List ℕ → Result Bool Stop → Type 0
 CarriesOut old new work before after result =
-    (history : List Past) (w : WorkOf) → IsPending (map rule_seen old.rules) old.memory.elements work w → Carries new before after (wave_of (agent_of old history) w) result
+    (history : List RecordedFiring) (w : WorkOf) → IsPending (map rule_seen old.rules) old.memory.elements work w → Carries new before after (wave_of without_learning (agent_of old history) w) result
 
 -- ---- parts of a wave's answer
 

@@ -1,8 +1,8 @@
 -- Counts and their limit.
 use Rattle.std.specs.Prelude.{◌≡◌, ℕ, ◌≤◌, ◌<◌, Result, Ok, Err}
 use Rattle.defs_soar.specs.declared.limit.Which.TheVariants as which
-use Rattle.soar_cycle.specs.declared.stop.Stop.{Stop}
-use Rattle.soar_cycle.specs.declared.stop.Stop.TheVariants as stop
+use Rattle.soar_settle.specs.declared.stop.Stop.{Stop}
+use Rattle.soar_settle.specs.declared.stop.Stop.TheVariants as stop
 
 -- the count, where it is within the limit
 abbrev pub Counts : ℕ → Result ℕ Stop → Type 0

@@ -6,16 +6,16 @@ use Rattle.defs_match.specs.Rules.{RuleOf}
 use Rattle.defs_match.specs.declared.instance.Instance.{Instance}
 use Rattle.defs_soar.specs.declared.goal.Goal.{Goal}
 use Rattle.defs_soar.specs.Limits.{first_passed}
-use Rattle.defs_soar.specs.WaveAtHand.{Moment, Wave, Fresh, all_fresh}
+use Rattle.defs_soar.specs.WaveAtHand.{BeforeWave, Wave, Fresh, all_fresh}
 use Rattle.defs_soar.specs.WaveFirings.{with_firings}
 use Rattle.defs_soar.specs.Waves.{rows_of_fresh, live_of}
 use Rattle.soar_cycle.specs.Firables.{firables_for, live_seen}
 use Rattle.soar_cycle.specs.declared.firing.Fired.{Fired}
-use Rattle.soar_cycle.specs.declared.stop.Stop.{Stop}
-use Rattle.soar_cycle.specs.declared.stop.Stop.TheVariants as stop
+use Rattle.soar_settle.specs.declared.stop.Stop.{Stop}
+use Rattle.soar_settle.specs.declared.stop.Stop.TheVariants as stop
 
 -- a moment with these goals and elements, and a wave that has fired nothing yet
-pub record Begins (words : Texts) (letters : List ℕ) (goals : List Goal) (elements : List Element) (last : ℕ) (m : Moment) (w : Wave) : Type 0 where
+pub record Begins (words : Texts) (letters : List ℕ) (goals : List Goal) (elements : List Element) (last : ℕ) (m : BeforeWave) (w : Wave) : Type 0 where
   pub goals_are : m.reach.goals ≡ goals
   pub elements_are : m.elements ≡ elements
   pub words_are : w.names.words ≡ words
@@ -24,7 +24,7 @@ pub record Begins (words : Texts) (letters : List ℕ) (goals : List Goal) (elem
   pub entries_are : w.entries ≡ []
   pub next_are : w.next ≡ []
   pub not_halted : w.halted ≡ false
-  pub nothing_drawn : w.drawn ≡ []
+  pub nothing_drawn : w.totals ≡ []
 
 abbrev pub texts_of_fresh : List Fresh → List ℕ
 texts_of_fresh fresh = flat_map (λ x. x.text) fresh
@@ -38,16 +38,16 @@ pub record HasFired (words : Texts) (letters : List ℕ) (count : ℕ) (fired : 
   pub live_are : map live_seen fired.live ≡ map live_of (all_fresh after.entries)
   pub text_is : fired.text ≡ texts_of_fresh (all_fresh after.entries)
   pub halted_is : fired.halted ≡ after.halted
-  pub within : first_passed after.drawn ≡ None
+  pub within : first_passed after.totals ≡ None
 
-abbrev pub FiredFrom : Moment → Wave → List RuleOf → List Element → List Instance → Texts → List ℕ → Result Fired Stop → Type 0
+abbrev pub FiredFrom : BeforeWave → Wave → List RuleOf → List Element → List Instance → Texts → List ℕ → Result Fired Stop → Type 0
 FiredFrom m w rules elements instances words letters (Ok fired) =
     HasFired words letters (length instances) fired w (with_firings m w (flat_map (firables_for rules elements) instances))
 FiredFrom m w rules elements instances words letters (Err (stop.Limit which)) =
-    first_passed (with_firings m w (flat_map (firables_for rules elements) instances)).drawn ≡ Some which
+    first_passed (with_firings m w (flat_map (firables_for rules elements) instances)).totals ≡ Some which
 FiredFrom m w rules elements instances words letters (Err stop.NoMemory) = Unit {0}
 
 -- for every moment and wave that begin so
 abbrev pub FiresAll : Texts → List ℕ → List Goal → List RuleOf → List Element → List Instance → ℕ → Texts → List ℕ → Result Fired Stop → Type 0
 FiresAll words letters goals rules elements instances last new_words new_letters result =
-    (m : Moment) (w : Wave) → Begins words letters goals elements last m w → FiredFrom m w rules elements instances new_words new_letters result
+    (m : BeforeWave) (w : Wave) → Begins words letters goals elements last m w → FiredFrom m w rules elements instances new_words new_letters result

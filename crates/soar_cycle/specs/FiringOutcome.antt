@@ -1,4 +1,4 @@
--- Firing in turn as the code does it: it stops at the first limit, where the definition goes on and notes what was drawn.
+-- Firing in turn as the code does it: it stops at the first limit, where the definition goes on and notes what was totals.
 use Rattle.std.specs.Prelude.{◌≡◌, ℕ, suc, Bool, false, ◌||◌, nat_lt, List, [], ◌∷◌, ◌++◌, map, flat_map, Option, Some, None, Result, Ok, Err, if◌then◌else◌}
 use Rattle.soar_sym.specs.Words.{Texts}
 use Rattle.soar_wm.specs.declared.element.Element.{Element}
@@ -17,10 +17,10 @@ use Rattle.defs_soar.specs.Pending.{Firable, depth_of, is_of_operator_kind}
 use Rattle.defs_soar.specs.Support.{row_of}
 use Rattle.soar_fire.specs.Fires.{IsMade}
 use Rattle.soar_cycle.specs.Firables.{firables_for, live_seen}
-use Rattle.soar_cycle.specs.Known.{AreInstancesKnown, AreRulesKnown, AreRowsKnown}
+use Rattle.soar_settle.specs.Known.{AreInstancesKnown, AreRulesKnown, AreRowsKnown}
 use Rattle.soar_cycle.specs.declared.firing.Fired.{Fired}
-use Rattle.soar_cycle.specs.declared.stop.Stop.{Stop}
-use Rattle.soar_cycle.specs.declared.stop.Stop.TheVariants as stop
+use Rattle.soar_settle.specs.declared.stop.Stop.{Stop}
+use Rattle.soar_settle.specs.declared.stop.Stop.TheVariants as stop
 
 -- what the firings so far left: words, letters and the last number, and what they made
 pub record Gathered : Type 0 where
@@ -61,7 +61,7 @@ first_of (rule ∷ rules) = Some rule
 
 abbrev pub made_for : List Goal → Firable → Texts → List ℕ → MadeSoFar
 made_for goals f words letters =
-    made_by goals f.rule.production.actions (record { bindings = f.bindings; words = words; letters = letters; vars = f.rule.production.vars; drawn = [] })
+    made_by goals f.rule.production.actions (record { bindings = f.bindings; words = words; letters = letters; vars = f.rule.production.vars; totals = [] })
 
 abbrev pub rows_made : List Goal → Firable → ℕ → List Wish → List Preference
 rows_made goals f number wishes = map (row_of goals number (is_of_operator_kind goals f)) wishes
@@ -83,7 +83,7 @@ with_made goals f number made g = record {
 -- a firing under its number
 abbrev pub firing_outcome : List Goal → ℕ → Gathered → Firable → Outcome
 firing_outcome goals number g f =
-    let made = made_for goals f g.words g.letters in within_limits (first_passed made.naming.drawn) (with_made goals f number made g)
+    let made = made_for goals f g.words g.letters in within_limits (first_passed made.naming.totals) (with_made goals f number made g)
 
 -- a firing under the next number
 abbrev pub next_outcome : List Goal → Firable → Gathered → Outcome
@@ -112,7 +112,7 @@ LeavesOne goals number g (f ∷ others) after result = Leaves (firing_outcome go
 
 abbrev pub Makes : Texts → List ℕ → MadeSoFar → Result Made Stop → Type 0
 Makes words letters m (Ok made) = IsMade made words letters m
-Makes words letters m (Err (stop.Limit limit)) = first_passed m.naming.drawn ≡ Some limit
+Makes words letters m (Err (stop.Limit limit)) = first_passed m.naming.totals ≡ Some limit
 Makes words letters m (Err stop.NoMemory) = Unit {0}
 
 -- ---- facts as records, which lemmas take

@@ -7,15 +7,9 @@ pub mod Firables
 pub mod FiresAll
 pub mod FiringOutcome
 pub mod Going
-pub mod Known
+pub mod Keys
 pub mod Living
 pub mod Phasing
-pub mod Plans
-pub mod Reached
-pub mod Renewal
 pub mod Resettles
-pub mod Rounds
 pub mod Seen
-pub mod Settles
-pub mod Tagging
 pub mod WaveParts

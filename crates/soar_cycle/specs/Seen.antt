@@ -6,23 +6,24 @@ use Rattle.defs_soar.specs.declared.goal.Impasse.TheVariants as impasse
 use Rattle.defs_soar.specs.Agents.{Agent}
 use Rattle.defs_soar.specs.Decision.{new_goal}
 use Rattle.defs_soar.specs.Events.{Event, writes_text}
-use Rattle.defs_soar.specs.History.{Past}
+use Rattle.defs_soar.specs.History.{RecordedFiring}
+use Rattle.defs_soar.specs.Learning.{without_learning}
 use Rattle.defs_soar.specs.Limits.{first_passed}
 use Rattle.defs_soar.specs.Pending.{pending, is_none, is_justification}
 use Rattle.defs_soar.specs.Phases.{halting}
-use Rattle.defs_soar.specs.Resettling.{Step}
+use Rattle.defs_soar.specs.Resettling.{AgentStep}
 use Rattle.defs_soar.specs.Start.{first_settings}
 use Rattle.defs_soar.specs.Waves.{wave_of}
 use Rattle.soar_cycle.specs.Firables.{AreNumbered, live_seen}
-use Rattle.soar_cycle.specs.Known.{AreElementsKnown, AreRulesKnown, AreRowsKnown, AreTriplesKnown}
+use Rattle.soar_settle.specs.Known.{AreElementsKnown, AreRulesKnown, AreRowsKnown, AreTriplesKnown}
 use Rattle.soar_cycle.specs.declared.agent.Agent.{Agent as AgentKept}
-use Rattle.soar_cycle.specs.declared.stop.Stop.{Stop}
-use Rattle.soar_cycle.specs.declared.stop.Stop.TheVariants as stop
+use Rattle.soar_settle.specs.declared.stop.Stop.{Stop}
+use Rattle.soar_settle.specs.declared.stop.Stop.TheVariants as stop
 use Rattle.soar_cycle.specs.declared.wave.Waved.{Waved}
 use Rattle.soar_cycle.specs.declared.wave.Waved.TheVariants as waved
 
 -- with this history
-abbrev pub agent_of : AgentKept → List Past → Agent
+abbrev pub agent_of : AgentKept → List RecordedFiring → Agent
 agent_of a history = record {
   names = record { words = a.table; letters = a.letters; last_tag = a.memory.last };
   holding = record { elements = a.memory.elements; goals = a.goals; rows = a.prefs.rows; inputs = a.inputs; live = map live_seen a.live };
@@ -65,20 +66,20 @@ pub record IsSound (a : AgentKept) : Type 0 where
 -- ---- a wave
 
 -- the agent stands for the state after a step, and none of what the step drew is beyond its limit
-pub record Stepped (new : AgentKept) (s : Step) : Type 0 where
-  pub history : List Past
+pub record Stepped (new : AgentKept) (s : AgentStep) : Type 0 where
+  pub history : List RecordedFiring
   pub stands : agent_of new history ≡ halting s
-  pub within : first_passed s.drawn ≡ None
+  pub within : first_passed s.totals ≡ None
 
-abbrev pub wave_at : AgentKept → List Past → Step
-wave_at a history = wave_of (agent_of a history) (pending true (agent_of a history))
+abbrev pub wave_at : AgentKept → List RecordedFiring → AgentStep
+wave_at a history = wave_of without_learning (agent_of a history) (pending true (agent_of a history))
 
 -- each answer of a wave of the proposal phase, exactly where it comes; only want of memory is free
-abbrev pub WavesFrom : AgentKept → AgentKept → List Past → Result Waved Stop → Type 0
+abbrev pub WavesFrom : AgentKept → AgentKept → List RecordedFiring → Result Waved Stop → Type 0
 WavesFrom old new history (Ok waved.Rest) = (is_none (pending true (agent_of old history)) ≡ true) × (new ≡ old)
 WavesFrom old new history (Ok waved.Went) = (is_none (pending true (agent_of old history)) ≡ false) × Stepped new (wave_at old history) × ((wave_at old history).halted ≡ false)
 WavesFrom old new history (Ok waved.Halted) = (is_none (pending true (agent_of old history)) ≡ false) × Stepped new (wave_at old history) × ((wave_at old history).halted ≡ true)
-WavesFrom old new history (Err (stop.Limit which)) = (is_none (pending true (agent_of old history)) ≡ false) × (first_passed (wave_at old history).drawn ≡ Some which)
+WavesFrom old new history (Err (stop.Limit which)) = (is_none (pending true (agent_of old history)) ≡ false) × (first_passed (wave_at old history).totals ≡ Some which)
 WavesFrom old new history (Err stop.NoMemory) = Unit {0}
 
 -- ---- what a wave writes
@@ -91,7 +92,7 @@ abbrev pub written_of : List Event → List ℕ
 written_of events = flat_map written_by events
 
 -- the texts of the firings come behind what was there
-abbrev pub Writes : AgentKept → List Past → List ℕ → List ℕ → Result Waved Stop → Type 0
+abbrev pub Writes : AgentKept → List RecordedFiring → List ℕ → List ℕ → Result Waved Stop → Type 0
 Writes old history before after (Ok waved.Rest) = after ≡ before
 Writes old history before after (Ok other) = after ≡ before ++ written_of (wave_at old history).events
 Writes old history before after (Err (stop.Limit which)) = after ≡ before

@@ -4,15 +4,15 @@ use Rattle.defs_soar.specs.declared.preference.Preference.{Preference}
 use Rattle.defs_soar.specs.Agents.{LiveFiring, Agent}
 use Rattle.defs_soar.specs.Pending.{Work}
 use Rattle.defs_soar.specs.Preferences.{rows_after, without_firings, with_rows}
-use Rattle.defs_soar.specs.Resettling.{Step, resettled}
-use Rattle.defs_soar.specs.Trimming.{Trimmed, numbers_of}
+use Rattle.defs_soar.specs.Resettling.{AgentStep, resettled}
+use Rattle.defs_soar.specs.Trimming.{Remains, numbers_of}
 use Rattle.defs_soar.specs.WaveAtHand.{Wave, all_fresh}
-use Rattle.defs_soar.specs.WaveFirings.{first_wave, moment_of, with_firings}
+use Rattle.defs_soar.specs.WaveFirings.{first_wave, before_wave, with_firings}
 use Rattle.defs_soar.specs.Waves.{live_of, rows_of_fresh, without_spent, counted, is_retracted}
 
 -- what fired, before anything is learned
 abbrev pub fired_in : Agent → Work → Wave
-fired_in a work = with_firings (moment_of a) (first_wave a) work.fired
+fired_in a work = with_firings (before_wave a) (first_wave a) work.fired
 
 abbrev pub rows_made_in : Wave → List Preference
 rows_made_in w = flat_map rows_of_fresh (all_fresh w.entries)
@@ -30,7 +30,7 @@ unsettled a gone w = record a {
 }
 
 -- what is held then
-abbrev pub held_after : Agent → List LiveFiring → Wave → Trimmed
+abbrev pub held_after : Agent → List LiveFiring → Wave → Remains
 held_after a gone w = record {
   goals = a.holding.goals;
   rows = rows_after a.holding.rows (numbers_of gone) (rows_made_in w);
@@ -39,7 +39,7 @@ held_after a gone w = record {
   removed = [];
 }
 
-abbrev pub settled_after : Agent → List LiveFiring → Wave → Step
+abbrev pub settled_after : Agent → List LiveFiring → Wave → AgentStep
 settled_after a gone w = resettled (unsettled a gone w) (held_after a gone w)
 
 -- how many rows there were at most

@@ -3,11 +3,12 @@ ghost use Rattle.std.specs.Prelude.{◌≡◌, map, filter, not, length, IfOk};
 ghost use Rattle.std.specs.Option.{option_copied, option_map};
 ghost use Rattle.soar_rule.specs.Variables.{bound_variables};
 ghost use Rattle.defs_match.specs.Rules.{rule_seen};
-ghost use Rattle.defs_soar.specs.Pending.{firable_of, is_justification, is_listed, may_fire};
-ghost use Rattle.soar_cycle.specs.Candidates.{fires_now, gone_of, rule_numbered};
+ghost use Rattle.defs_soar.specs.Pending.{firable_of, is_justification};
+ghost use Rattle.soar_cycle.specs.Candidates.{gone_of, rule_numbered};
 ghost use Rattle.soar_cycle.specs.Firables.{AreBound, IsInstance, live_seen};
+ghost use Rattle.soar_cycle.specs.Keys.{fires_but, has_key, may_fire_but};
 
-use crate::listing::{is_listed, is_live};
+use crate::instances::InstanceSet;
 use crate::live::Live;
 use defs_match::{Instance, Rule};
 use defs_soar::Goal;
@@ -28,13 +29,13 @@ pub struct Gone {
 pub fn unmatched(
     alloc: Global,
     live: &[Live],
-    instances: &[Instance],
+    instances: &InstanceSet,
 ) -> Result<List<Gone>, NoMemory>
-    ensures { IfOk result (λ gone. gone ≡ map gone_of (filter (λ l. not (is_listed instances.now l.instance)) (map live_seen live.now))) }
+    ensures { IfOk result (λ gone. gone ≡ map gone_of (filter (λ l. not (has_key instances.now l.instance)) (map live_seen live.now))) }
 {
     let mut gone = List::new(alloc);
     'live: for firing in live {
-        if !is_listed(instances, &firing.instance) {
+        if !instances.has(&firing.instance)? {
             gone.push(Gone {
                 number: firing.number,
                 depth: firing.depth,
@@ -51,15 +52,15 @@ pub fn ready(
     rules: &[Rule],
     memory: &Memory,
     goals: &List<Goal>,
-    live: &[Live],
+    live: &InstanceSet,
     instances: List<Instance>,
 ) -> Result<List<Instance>, NoMemory>
     requires bound { AreBound (map rule_seen rules.now) instances }
-    ensures { IfOk result (λ ready. ready ≡ filter (fires_now proposing (map rule_seen rules.now) memory.now.elements goals.now (map live_seen live.now)) instances) }
+    ensures { IfOk result (λ ready. ready ≡ filter (fires_but proposing (map rule_seen rules.now) memory.now.elements goals.now live.now) instances) }
 {
     let mut ready = List::new(alloc);
     'instances: for instance in instances.into_vec() {
-        if fires_now(proposing, rules, memory, goals, live, &instance) {
+        if fires(proposing, rules, memory, goals, live, &instance)? {
             ready.push(instance)?;
         }
     }
@@ -67,20 +68,20 @@ pub fn ready(
 }
 
 /// Whether the instance may fire by its rule.
-fn fires_now(
+fn fires(
     proposing: bool,
     rules: &[Rule],
     memory: &Memory,
     goals: &List<Goal>,
-    live: &[Live],
+    live: &InstanceSet,
     instance: &Instance,
-) -> bool
+) -> Result<bool, NoMemory>
     requires bound { IsInstance (map rule_seen rules.now) instance.now }
-    ensures { result ≡ fires_now proposing (map rule_seen rules.now) memory.now.elements goals.now (map live_seen live.now) instance.now }
+    ensures { IfOk result (λ fires. fires ≡ fires_but proposing (map rule_seen rules.now) memory.now.elements goals.now live.now instance.now) }
 {
     match rule_numbered(rules, instance.rule) {
         Some(rule) => may_fire(proposing, rule, memory, goals, live, instance),
-        None => false,
+        None => Ok(false),
     }
 }
 
@@ -101,15 +102,19 @@ fn may_fire(
     rule: &Rule,
     memory: &Memory,
     goals: &List<Goal>,
-    live: &[Live],
+    live: &InstanceSet,
     instance: &Instance,
-) -> bool
+) -> Result<bool, NoMemory>
     requires binds { length instance.now.binds ≡ length (bound_variables (rule_seen rule.now).production.conditions) }
-    ensures { result ≡ may_fire proposing goals.now (map live_seen live.now) (firable_of memory.now.elements (rule_seen rule.now) instance.now) }
+    ensures { IfOk result (λ may. may ≡ may_fire_but proposing goals.now live.now (firable_of memory.now.elements (rule_seen rule.now) instance.now)) }
 {
-    !is_live(live, instance)
-        && !is_justification(rule.production.kind)
-        && !(proposing && operator_kind(rule, instance, goals, memory))
+    if live.has(instance)? {
+        return Ok(false);
+    }
+    Ok(
+        !is_justification(rule.production.kind)
+            && !(proposing && operator_kind(rule, instance, goals, memory)),
+    )
 }
 
 fn is_justification(kind: Kind) -> bool

@@ -2,8 +2,8 @@
 ghost use Rattle.std.specs.Prelude.{◌+◌, ◌≤◌};
 ghost use Rattle.soar_cycle.specs.Counting.{Counts};
 
-use crate::stop::Stop;
 use defs_soar::Which;
+use soar_settle::Stop;
 
 /// A count after so many more.
 pub fn count_more(count: u64, more: u64) -> Result<u64, Stop>

@@ -3,20 +3,20 @@ ghost use Rattle.defs_match.specs.Rules.{rule_seen};
 ghost use Rattle.soar_cycle.specs.Firables.{AreNumbered, AreBound};
 ghost use Rattle.soar_cycle.specs.FiresAll.{FiresAll};
 ghost use Rattle.soar_cycle.specs.FiringOutcome.{nothing_fired};
-ghost use Rattle.soar_cycle.specs.Known.{AreInstancesKnown, AreRulesKnown, AreRowsKnown};
+ghost use Rattle.soar_settle.specs.Known.{AreInstancesKnown, AreRulesKnown, AreRowsKnown};
 
 use crate::live::Live;
 use crate::scene::Scene;
-use crate::stop::Stop;
 use crate::turns::fire_each;
 use defs_match::{Instance, Rule};
 use defs_soar::{Goal, Preference};
+use soar_settle::Stop;
 use soar_sym::{Letters, List, SymTable, Text};
 use soar_wm::Memory;
 use std::alloc::Global;
 
 /// What the firings of a wave made: rows in order of firing, the firings themselves, their texts, and whether one halts.
-#[derive(Debug, Drop)]
+#[derive(Drop)]
 pub struct Fired {
     pub rows: List<Preference>,
     pub live: List<Live>,

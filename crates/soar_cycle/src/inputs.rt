@@ -1,11 +1,11 @@
 ghost use Rattle.std.specs.Prelude.{◌≡◌, List as ListOf, IfOk};
-ghost use Rattle.defs_soar.specs.History.{Past};
+ghost use Rattle.defs_soar.specs.History.{RecordedFiring};
 ghost use Rattle.soar_cycle.specs.Changing.{ChangesInputs};
-ghost use Rattle.soar_cycle.specs.Known.{AreTriplesKnown};
+ghost use Rattle.soar_settle.specs.Known.{AreTriplesKnown};
 ghost use Rattle.soar_cycle.specs.Seen.{IsSound};
 
 use crate::agent::Agent;
-use crate::stop::Stop;
+use soar_settle::Stop;
 use soar_sym::{List, Triple};
 use std::alloc::Global;
 
@@ -14,7 +14,7 @@ impl Agent {
     pub fn change_inputs(&mut self, alloc: Global, inputs: List<Triple>) -> Result<(), Stop>
         requires sound { IsSound self.old }
         requires known { AreTriplesKnown self.old.table inputs }
-        ensures inputs { (history : ListOf Past) → ChangesInputs self.old self.new history inputs result }
+        ensures inputs { (history : ListOf RecordedFiring) → ChangesInputs self.old self.new history inputs result }
         ensures sound { IfOk result (λ _. IsSound self.new) }
     {
         self.inputs = inputs;

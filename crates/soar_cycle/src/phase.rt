@@ -1,13 +1,13 @@
 ghost use Rattle.std.specs.Prelude.{◌≡◌, List as ListOf, IfOk};
-ghost use Rattle.defs_soar.specs.History.{Past};
+ghost use Rattle.defs_soar.specs.History.{RecordedFiring};
 ghost use Rattle.soar_cycle.specs.Going.{TellsWork};
 ghost use Rattle.soar_cycle.specs.Phasing.{ProposesFrom, ProposesText};
 ghost use Rattle.soar_cycle.specs.Seen.{IsSound};
 
 use crate::agent::Agent;
-use crate::stop::Stop;
 use crate::wave::{Waved, is_nothing};
 use crate::work::pending;
+use soar_settle::Stop;
 use soar_sym::Text;
 use std::alloc::Global;
 
@@ -19,8 +19,8 @@ impl Agent {
     /// manual, execution cycle). Tells whether it was cut with work still pending. What firings write goes to `text`.
     pub fn propose(&mut self, alloc: Global, text: &mut Text) -> Result<bool, Stop>
         requires sound { IsSound self.old }
-        ensures phase { (history : ListOf Past) → ProposesFrom self.old self.new history result }
-        ensures text { (history : ListOf Past) → ProposesText self.old history text.old text.new result }
+        ensures phase { (history : ListOf RecordedFiring) → ProposesFrom self.old self.new history result }
+        ensures text { (history : ListOf RecordedFiring) → ProposesText self.old history text.old text.new result }
         ensures sound { IfOk result (λ _. IsSound self.new) }
     {
         let mut left = MOST_WAVES;

@@ -1,14 +1,14 @@
 // The agent at the start.
-ghost use Rattle.std.specs.Prelude.{◌≡◌, false, [], IfOk, OnOk};
+ghost use Rattle.std.specs.Prelude.{◌≡◌, ◌<◌, ◌-◌, ◌^◌, false, [], None, length, IfOk, OnOk};
 ghost use Rattle.defs_soar.specs.Start.{first_agent, first_elements, first_holding, first_letters};
-ghost use Rattle.soar_wm.specs.WorkingMemory.{with_triple};
+ghost use Rattle.soar_wm.specs.WorkingMemory.{tag_of, with_triple};
 ghost use Rattle.soar_cycle.specs.Seen.{IsSound, agent_of};
 
 use crate::agent::Agent;
 use defs_soar::{Goal, Impasse};
 use soar_prefs::Prefs;
 use soar_sym::{Letters, List, NoMemory, Sym, SymTable, Triple};
-use soar_wm::Memory;
+use soar_wm::{AddFault, Memory};
 use std::alloc::Global;
 
 const MOST_ELEMENTS: u32 = 4_000_000;
@@ -111,7 +111,11 @@ fn fill(memory: &mut Memory) -> Result<(), NoMemory>
     put(memory, TOP, Sym::Word(6), Sym::Word(0), true)
 }
 
+/// Adds a triple that is new.
 fn put(memory: &mut Memory, id: Sym, attr: Sym, value: Sym, of_state: bool) -> Result<(), NoMemory>
+    requires missing { tag_of (record { id = id; attr = attr; value = value; accept = false }) memory.old.elements ≡ None }
+    requires room { length memory.old.elements < memory.old.limit }
+    requires left { memory.old.last < 2 ^ 32 - 1 }
     ensures { OnOk result (memory.new ≡ with_triple memory.old (record { id = id; attr = attr; value = value; accept = false }) of_state) }
 {
     let triple = Triple {
@@ -122,6 +126,7 @@ fn put(memory: &mut Memory, id: Sym, attr: Sym, value: Sym, of_state: bool) -> R
     };
     match memory.add(triple, of_state) {
         Ok(_) => Ok(()),
-        Err(_) => Err(NoMemory),
+        Err(AddFault::NoMemory) => Err(NoMemory),
+        Err(_) => unreachable!(),
     }
 }

@@ -12,10 +12,10 @@ ghost use Rattle.soar_cycle.specs.FiringOutcome.{first_of, firing_outcome, gathe
 use crate::firing::Fired;
 use crate::gathering::gather;
 use crate::scene::Scene;
-use crate::stop::Stop;
 use defs_match::{Instance, Rule};
 use defs_soar::{Made, Which};
 use soar_fire::{FireFault, fire};
+use soar_settle::Stop;
 use soar_sym::{Letters, NoMemory, SymTable};
 
 /// Fires the instances in turn, numbered from the one after `last` on.
@@ -80,8 +80,7 @@ fn fire_one(
 {
     match rule_of(scene.rules.as_slice(), instance.rule) {
         Some(rule) => fire_rule(scene, rule, instance, number, table, letters, fired),
-        // Each instance is of a rule that is there.
-        None => Err(Stop::NoMemory),
+        None => unreachable!(),
     }
 }
 

@@ -1,23 +1,22 @@
 ghost use Rattle.std.specs.Prelude.{◌≡◌, ◌||◌, List as ListOf, map, IfOk};
 ghost use Rattle.defs_match.specs.Rules.{rule_seen};
-ghost use Rattle.defs_soar.specs.History.{Past};
+ghost use Rattle.defs_soar.specs.History.{RecordedFiring};
 ghost use Rattle.soar_cycle.specs.Carrying.{CarriesOut, is_nothing, waved};
 ghost use Rattle.soar_cycle.specs.Firables.{AreBound};
-ghost use Rattle.soar_cycle.specs.Known.{AreInstancesKnown};
+ghost use Rattle.soar_settle.specs.Known.{AreInstancesKnown};
 ghost use Rattle.soar_cycle.specs.Seen.{IsSound, WavesFrom, Writes};
 
 use crate::agent::Agent;
 use crate::counting::count_more;
 use crate::firing::{Fired, fire_all};
 use crate::living::renew_live;
-use crate::renewal::renew;
-use crate::stop::Stop;
 use crate::work::{Work, pending};
+use soar_settle::{Stop, renew};
 use soar_sym::Text;
 use std::alloc::Global;
 
 /// How a wave went: nothing was pending, or there was work, and a firing halted or none.
-#[derive(Clone, Copy, Debug, PartialEq, Eq)]
+#[derive(Clone, Copy, PartialEq, Eq)]
 pub enum Waved {
     Rest,
     Went,
@@ -28,8 +27,8 @@ impl Agent {
     /// Runs a wave of the proposal phase (Soar manual, elaboration cycle). What its firings write goes to `text`.
     pub fn wave(&mut self, alloc: Global, text: &mut Text) -> Result<Waved, Stop>
         requires sound { IsSound self.old }
-        ensures wave { (history : ListOf Past) → WavesFrom self.old self.new history result }
-        ensures text { (history : ListOf Past) → Writes self.old history text.old text.new result }
+        ensures wave { (history : ListOf RecordedFiring) → WavesFrom self.old self.new history result }
+        ensures text { (history : ListOf RecordedFiring) → Writes self.old history text.old text.new result }
         ensures sound { IfOk result (λ _. IsSound self.new) }
     {
         let work = pending(

@@ -3,10 +3,11 @@ ghost use Rattle.soar_sym.specs.Words.{Texts};
 ghost use Rattle.defs_match.specs.Rules.{rule_seen};
 ghost use Rattle.defs_soar.specs.Pending.{pending_in};
 ghost use Rattle.soar_cycle.specs.Firables.{AreNumbered, AreBound, IsPending, live_seen};
-ghost use Rattle.soar_cycle.specs.Known.{AreElementsKnown, AreInstancesKnown};
+ghost use Rattle.soar_settle.specs.Known.{AreElementsKnown, AreInstancesKnown};
 
 use crate::active::of_active_level;
 use crate::candidates::{ready, unmatched};
+use crate::instances::InstanceSet;
 use crate::live::Live;
 use defs_match::{Instance, Rule};
 use defs_soar::Goal;
@@ -16,7 +17,7 @@ use soar_wm::Memory;
 use std::alloc::Global;
 
 /// The work of a wave: the numbers of the firings to retract, and the instances to fire, by rule and by tags.
-#[derive(Debug, Drop)]
+#[derive(Drop)]
 pub struct Work {
     pub retracted: List<u64>,
     pub fired: List<Instance>,
@@ -43,7 +44,9 @@ pub fn pending(
     let live = live.as_slice();
     let elements = memory.all(alloc)?;
     let instances = conflict(alloc, rules, elements.as_slice())?;
-    let gone = unmatched(alloc, live, instances.as_slice())?;
-    let ready = ready(alloc, proposing, rules, memory, goals, live, instances)?;
+    let matched = InstanceSet::of(alloc, instances.as_slice())?;
+    let gone = unmatched(alloc, live, &matched)?;
+    let living = InstanceSet::of_live(alloc, live)?;
+    let ready = ready(alloc, proposing, rules, memory, goals, &living, instances)?;
     of_active_level(alloc, goals.as_slice(), memory, gone.as_slice(), ready)
 }

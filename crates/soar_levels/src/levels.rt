@@ -1,9 +1,9 @@
 ghost use Rattle.std.specs.Prelude.{◌≡◌, [], IfOk, OnOk, OnErr};
+ghost use Rattle.defs_soar.specs.Goals.{goal_ids};
 ghost use Rattle.soar_levels.specs.Told.{level_told, TellsLevels};
 
-use crate::telling::{level_told, tell_goals, tell_reached};
-use crate::walk::ids_of;
-use defs_soar::Goal;
+use defs_soar::{Goal, Leveled};
+use level_graph::{Links, Marks, add_triples, from_last, spread, tell_goals};
 use soar_sym::{List, NoMemory, Sym, Triple};
 use std::alloc::Global;
 use std::marker::Model;
@@ -12,15 +12,15 @@ use std::marker::Model;
 /// from which walks lead to it (Soar manual, substates and levels).
 #[derive(Drop)]
 pub struct Levels {
-    told: List<(Sym, u32)>,
+    told: Marks,
     alloc: Global,
 }
 
 impl Model for Levels {
-    ghost use Rattle.std.specs.Prelude.{List as ListOf, ℕ};
+    ghost use Rattle.std.specs.Prelude.{List as ListOf, Option as OptionOf, ℕ};
     ghost use Rattle.soar_sym.specs.declared.symbol.Sym.{Sym as SymOf};
 
-    ghost Value = { ListOf (SymOf × ℕ) };
+    ghost Value = { ListOf (SymOf × OptionOf ℕ) };
 
     ghost view = { λ levels. levels.told };
 }
@@ -31,7 +31,7 @@ impl Levels {
         ensures { IfOk result (λ levels. levels ≡ []) }
     {
         Ok(Levels {
-            told: List::new(alloc),
+            told: Marks::new(alloc),
             alloc,
         })
     }
@@ -42,9 +42,12 @@ impl Levels {
         ensures err { OnErr result (self.new ≡ self.old) }
     {
         let ids = ids_of(self.alloc, goals.as_slice())?;
-        let mut told = List::new(self.alloc);
+        let mut told = Marks::new(self.alloc);
+        let mut links = Links::new(self.alloc);
+        add_triples(&mut told, &mut links, held.as_slice())?;
         tell_goals(&mut told, ids.as_slice())?;
-        tell_reached(self.alloc, &mut told, ids.as_slice(), held.as_slice())?;
+        let mut waiting = from_last(self.alloc, ids.as_slice())?;
+        spread(&mut told, &links, ids.as_slice(), &mut waiting)?;
         self.told = told;
         Ok(())
     }
@@ -53,6 +56,25 @@ impl Levels {
     pub fn level_of(&self, id: Sym) -> Option<u32>
         ensures { result ≡ level_told self.now id }
     {
-        level_told(self.told.as_slice(), id)
+        self.told.get(id)
     }
+}
+
+impl Leveled for Levels {
+    ghost told = { λ levels. level_told levels };
+
+    fn level_of(&self, id: Sym) -> Option<u32> {
+        self.told.get(id)
+    }
+}
+
+/// The identifiers of the goals, from the top.
+fn ids_of(alloc: Global, goals: &[Goal]) -> Result<List<Sym>, NoMemory>
+    ensures { IfOk result (λ ids. ids ≡ goal_ids goals.now) }
+{
+    let mut ids = List::new(alloc);
+    'goals: for goal in goals {
+        ids.push(goal.id)?;
+    }
+    Ok(ids)
 }

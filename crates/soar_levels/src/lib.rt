@@ -7,12 +7,7 @@ mod constants;
 mod levels;
 mod support;
 mod taken;
-mod telling;
-mod walk;
 
 pub use levels::Levels;
 pub use support::operator_kind;
 pub use taken::match_depth;
-
-#[cfg(test)]
-mod tests;

@@ -7,6 +7,7 @@ use Rattle.soar_cycle.specs.Active.{active_of}
 use Rattle.soar_cycle.specs.Candidates.{fires_now, gone_of}
 use Rattle.soar_cycle.specs.Firables.{AreBound, AreNumbered, live_seen}
 use Rattle.soar_cycle.proofs.ConflictLemmas.{bound_conflict}
+use Rattle.soar_cycle.proofs.KeyLemmas.{gone_agree, ready_agree}
 use Rattle.soar_cycle.proofs.PendingLemmas.{Promised, promised}
 use Rattle.soar_cycle.proofs.work.pending.Goals as goal
 
@@ -26,11 +27,14 @@ returns c =
     let now : c.in_ok-instances.instances ≡ conflict rules elements =
     c.in_ok-instances.ensures
     ∙ ap₂ (λ rs es. conflict (map rule_seen rs) es) c.as_slice-rules.ensures (c.as_slice.ensures ∙ c.in_ok-elements.ensures.elements) in
+    let seen = map live_seen c.as_slice-live.result.now in
     let gone =
     c.as_slice-4.ensures ∙ c.in_ok-gone.ensures
+    ∙ ap (map gone_of) (gone_agree c.as_slice-2.result.now c.in_ok-matched.matched c.in_ok-matched.ensures seen)
     ∙ ap₂ (λ is ls. map gone_of (filter (λ l. not (is_listed is l.instance)) (map live_seen ls))) (c.as_slice-2.ensures ∙ now) c.as_slice-live.ensures in
     let ready =
     c.in_ok-ready.ensures
+    ∙ ready_agree c.args.proposing (map rule_seen c.as_slice-rules.result.now) elements goals seen c.in_ok-living.living c.in_ok-living.ensures c.in_ok-instances.instances
     ∙ ap₂ (λ rs ls. filter (fires (map rule_seen rs) elements goals (map live_seen ls)) c.in_ok-instances.instances) c.as_slice-rules.ensures c.as_slice-live.ensures
     ∙ ap (filter (fires rules elements goals live)) now in
     let active =

@@ -1,6 +1,6 @@
 use Rattle.std.proofs.Common.{sym, subst}
 use Rattle.std.proofs.lemmas.Result.{err_from_is_err_and}
-use Rattle.soar_cycle.specs.Known.{AreTriplesKnown}
+use Rattle.soar_settle.specs.Known.{AreTriplesKnown}
 use Rattle.soar_cycle.proofs.ResettlingLemmas.{with_settled, stops_resettling, settled_stands, kept_sound, settled_sound}
 use Rattle.soar_cycle.proofs.agent.Agent.resettle.Goals as goal
 

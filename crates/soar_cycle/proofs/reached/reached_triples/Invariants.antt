@@ -1,6 +1,0 @@
-use Rattle.std.proofs.Common.{◌≡◌, take}
-use Rattle.soar_cycle.specs.Reached.{reached_triples}
-use Rattle.soar_cycle.proofs.reached.reached_triples.Given as goal
-
-abbrev pub invariant-triples : goal.invariant-triples
-invariant-triples l = l.out ≡ reached_triples l.levels (take l.triple-index l.triples)

@@ -1,6 +1,0 @@
-use Rattle.std.proofs.Common.{◌≡◌, take}
-use Rattle.soar_cycle.specs.Reached.{top_inputs}
-use Rattle.soar_cycle.proofs.reached.top_inputs.Given as goal
-
-abbrev pub invariant-inputs : goal.invariant-inputs
-invariant-inputs l = l.top ≡ top_inputs l.levels (take l.input-index l.inputs)

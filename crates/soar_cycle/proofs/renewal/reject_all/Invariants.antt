@@ -1,9 +1,0 @@
-use Rattle.std.proofs.Common.{◌≡◌, drop}
-use Rattle.soar_cycle.specs.Renewal.{not_rejected}
-use Rattle.soar_cycle.proofs.renewal.reject_all.Given as goal
-
-abbrev pub invariant-made : goal.invariant-made
-invariant-made l = record {
-  limit : l.prefs.limit ≡ l.initial.prefs.limit;
-  rows : not_rejected (drop l.row-index l.made) l.prefs.rows ≡ not_rejected l.made l.initial.prefs.rows;
-}

@@ -1,0 +1,5 @@
+//! Tests of levels and of the kind of a firing.
+#![tactic(auto)]
+
+#[cfg(test)]
+mod tests;

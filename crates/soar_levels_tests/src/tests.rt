@@ -1,0 +1,3 @@
+mod goals;
+mod levels;
+mod support;

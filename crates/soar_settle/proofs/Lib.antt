@@ -1,0 +1,11 @@
+pub mod AddingLemmas
+pub mod DroppingLemmas
+pub mod FilterLemmas
+pub mod KeyLemmas
+pub mod PlanLemmas
+pub mod RejectingLemmas
+pub mod RemovingLemmas
+pub mod RenewalLemmas
+pub mod SettlingLemmas
+pub mod TaggingLemmas
+pub mod TripleOrderLemmas

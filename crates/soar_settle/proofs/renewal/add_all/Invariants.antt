@@ -1,0 +1,10 @@
+use Rattle.std.proofs.Common.{◌≡◌, ◌≤◌, drop, length}
+use Rattle.defs_soar.specs.Preferences.{with_rows}
+use Rattle.soar_settle.proofs.renewal.add_all.Given as goal
+
+abbrev pub invariant-made : goal.invariant-made
+invariant-made l = record {
+  limit : l.prefs.limit ≡ l.initial.prefs.limit;
+  room : length l.prefs.rows ≤ l.prefs.limit;
+  rows : with_rows l.prefs.rows (drop l.row-index l.made) ≡ with_rows l.initial.prefs.rows l.made;
+}
