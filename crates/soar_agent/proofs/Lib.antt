@@ -1,0 +1,12 @@
+pub mod AddingLemmas
+pub mod CommandLemmas
+pub mod CourseLemmas
+pub mod CycleLemmas
+pub mod GivenLemmas
+pub mod LabelLemmas
+pub mod QuietLemmas
+pub mod ReplyLemmas
+pub mod SaidLemmas
+pub mod SessionLemmas
+pub mod SoundLemmas
+pub mod TagLemmas

@@ -1,0 +1,12 @@
+pub mod Adding
+pub mod Carries
+pub mod Commands
+pub mod Courses
+pub mod Labels
+pub mod Lettered
+pub mod Saying
+pub mod States
+pub mod Steps
+pub mod Telling
+pub mod Triples
+pub mod Writing

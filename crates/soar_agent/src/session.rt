@@ -1,0 +1,105 @@
+ghost use Rattle.std.specs.Prelude.{◌≡◌, ◌≤◌, ◌^◌, [], List as ListOf, IfOk, length};
+ghost use Rattle.defs_soar.specs.History.{RecordedFiring};
+ghost use Rattle.defs_run.specs.Carrying.{carried_out};
+ghost use Rattle.defs_run.specs.Present.{present_stage, run_present};
+ghost use Rattle.defs_run.specs.Runs.{obeyed};
+ghost use Rattle.defs_run.specs.Sessions.{first_session};
+ghost use Rattle.soar_cmd.specs.Asked.{order_seen};
+ghost use Rattle.soar_cmd.specs.Known.{IsOrderKnown};
+ghost use Rattle.soar_cycle.specs.Seen.{IsSound};
+ghost use Rattle.soar_agent.specs.Commands.{CarriesOut, Commands, Outcomes};
+ghost use Rattle.soar_agent.specs.States.{session_of};
+
+use crate::outcome::{Outcome, outcome_of};
+use crate::state::Session;
+use crate::stopping::say_stop;
+use defs_run::Order;
+use defs_soar::Which;
+use soar_cmd::{CmdFault, read_command};
+use soar_cycle::{Agent, Stop};
+use soar_edge::Command;
+use soar_sym::{List, NoMemory, Text};
+use std::alloc::Global;
+
+impl Session {
+    /// The top state with its input and output links, and no rule.
+    pub fn new(alloc: Global) -> Result<Session, NoMemory>
+        ensures stands { IfOk result (λ s. session_of s [] ≡ first_session 1) }
+        ensures sound { IfOk result (λ s. IsSound s.agent) }
+    {
+        Ok(Session {
+            agent: Agent::new(alloc)?,
+            labels: List::new(alloc),
+            mid_line: false,
+        })
+    }
+
+    /// Carries a command of a source out, all but the cycles that it asks for, and appends what it says. At a limit
+    /// that is what comes before, and the line of the limit; nothing where there is no memory.
+    pub fn command(&mut self, c: &Command, source: &str, text: &mut Text) -> Result<Outcome, Stop>
+        requires short { length c.now.text ≤ 2 ^ 26 }
+        requires sound { IsSound self.old.agent }
+        ensures { (history : ListOf RecordedFiring) → let s = session_of self.old history in
+            Commands s (obeyed present_stage source.now c.now.line c.now.text s) self.new text.old text.new result }
+    {
+        let mut said = Text::new(text.allocator());
+        match self.obey(text.allocator(), c, source, &mut said) {
+            Ok(outcome) => {
+                text.push_str(said.as_str())?;
+                Ok(outcome)
+            }
+            Err(stop) => Err(say_stop(stop, self.mid_line, &mut said, text)),
+        }
+    }
+
+    /// Carries a command out.
+    fn obey(
+        &mut self,
+        alloc: Global,
+        c: &Command,
+        source: &str,
+        out: &mut Text,
+    ) -> Result<Outcome, Stop>
+        requires short { length c.now.text ≤ 2 ^ 26 }
+        requires sound { IsSound self.old.agent }
+        ensures { (history : ListOf RecordedFiring) → let s = session_of self.old history in
+            Outcomes self.old.mid_line (obeyed present_stage source.now c.now.line c.now.text s) self.new out.old out.new result }
+    {
+        match read_command(alloc, &mut self.agent.table, c) {
+            Ok(order) => {
+                let _within = self.agent.table.word_count();
+                self.carry_out(alloc, source, c.line, order, out)
+            }
+            Err(CmdFault::Refused { number, shown }) => {
+                let _within = self.agent.table.word_count();
+                outcome_of(self.refuse_shown(alloc, source, c.line, number, shown, out))
+            }
+            Err(CmdFault::WordsSpent) => Err(Stop::Limit(Which::Words)),
+            Err(CmdFault::NoMemory) => Err(Stop::NoMemory),
+        }
+    }
+
+    /// Carries an order out.
+    fn carry_out(
+        &mut self,
+        alloc: Global,
+        source: &str,
+        line: u64,
+        order: Order,
+        out: &mut Text,
+    ) -> Result<Outcome, Stop>
+        requires sound { IsSound self.old.agent }
+        requires known { IsOrderKnown self.old.agent.table order }
+        ensures { CarriesOut self.old self.new source.now line (carried_out run_present (order_seen order)) out.old out.new result }
+    {
+        match order {
+            Order::Load(production) => outcome_of(self.load(production, out)),
+            Order::Add(addition) => outcome_of(self.add(alloc, source, line, addition, out)),
+            Order::Remove(tag) => outcome_of(self.remove(alloc, source, line, tag, out)),
+            Order::Run(count) => self.ask_to_run(alloc, source, line, count, out),
+            Order::Matches => outcome_of(self.list_matches(alloc, out)),
+            Order::Print(id) => outcome_of(self.list_elements(alloc, source, line, id, out)),
+            Order::Show(name) => outcome_of(self.show_rule(alloc, source, line, name, out)),
+        }
+    }
+}

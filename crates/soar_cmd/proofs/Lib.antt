@@ -1,0 +1,9 @@
+pub mod ArgumentLemmas
+pub mod CheckedLemmas
+pub mod CutLemmas
+pub mod NameLemmas
+pub mod OrderLemmas
+pub mod PrintLemmas
+pub mod ReadingLemmas
+pub mod SpelledLemmas
+pub mod WordLemmas

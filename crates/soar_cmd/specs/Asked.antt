@@ -1,0 +1,42 @@
+-- The order that a read command asks for, as the definitions have it.
+use Rattle.std.specs.Prelude.{ℕ, Bool, ◌||◌, List, codes}
+use Rattle.std.specs.Str.{bytes_eq}
+use Rattle.defs_run.specs.CommandForms.{alone, number_order, tag_order, triple_order}
+use Rattle.soar_rule.specs.Productions.{production_seen}
+use Rattle.defs_run.specs.Orders.{Operand, is_symbol, is_label, Order, load, add_wme, remove_wme, run_cycles, matches, print_id, print_name}
+use Rattle.defs_run.specs.Present.{Form, print_order}
+use Rattle.defs_run.specs.declared.form.Addition.{Addition}
+use Rattle.defs_run.specs.declared.form.Operand.{Operand as OperandRead}
+use Rattle.defs_run.specs.declared.form.Operand.TheVariants as operand
+use Rattle.defs_run.specs.declared.form.Order.{Order as OrderRead}
+use Rattle.defs_run.specs.declared.form.Order.TheVariants as read
+use Rattle.soar_cmd.specs.declared.form.Form.{Form as FormRead}
+use Rattle.soar_cmd.specs.declared.form.Form.TheVariants as form
+
+abbrev pub operand_seen : OperandRead → Operand
+operand_seen (operand.Symbol symbol) = is_symbol symbol
+operand_seen (operand.Label name) = is_label name
+
+abbrev pub addition_seen : Addition → Order
+addition_seen addition = add_wme (operand_seen addition.id) (operand_seen addition.attr) (operand_seen addition.value)
+
+abbrev pub order_seen : OrderRead → Order
+order_seen (read.Load production) = load (production_seen production)
+order_seen (read.Add addition) = addition_seen addition
+order_seen (read.Remove tag) = remove_wme tag
+order_seen (read.Run count) = run_cycles count
+order_seen read.Matches = matches
+order_seen (read.Print id) = print_id (operand_seen id)
+order_seen (read.Show name) = print_name name
+
+-- what a command of a form may ask for
+abbrev pub form_seen : FormRead → Form
+form_seen form.Add = λ words. triple_order words add_wme
+form_seen form.Matches = λ words. alone matches
+form_seen form.Run = λ words. number_order 1 1000000 run_cycles
+form_seen form.Remove = λ words. tag_order
+form_seen form.Print = print_order
+
+-- a word that asks for all elements, rules or chunks
+abbrev pub is_listing : List ℕ → Bool
+is_listing text = bytes_eq text (codes "--wm") || (bytes_eq text (codes "--rules") || bytes_eq text (codes "--chunks"))

@@ -1,0 +1,51 @@
+-- Whether the table has the words of tokens and of orders.
+use Rattle.std.specs.Prelude.{◌≡◌, true, false, List, [], ◌∷◌, Option, Some, None}
+use Rattle.soar_sym.specs.Words.{Texts, has_text, IsKnown}
+use Rattle.soar_rule.specs.Productions.{production_seen}
+use Rattle.soar_rule.specs.Symbols.{AreKnown, symbols_of}
+use Rattle.defs_text.specs.Lexing.{Saying, variable_named, word_of, Spelled}
+use Rattle.defs_soar.specs.Pending.{is_justification}
+use Rattle.defs_run.specs.declared.form.Addition.{Addition}
+use Rattle.defs_run.specs.declared.form.Operand.{Operand}
+use Rattle.defs_run.specs.declared.form.Operand.TheVariants.{Symbol, Label}
+use Rattle.defs_run.specs.declared.form.Order.{Order}
+use Rattle.defs_run.specs.declared.form.Order.TheVariants.{Load, Add, Print, Show}
+
+-- the text of a word or variable of a token
+abbrev pub IsSayingIn : Texts → Saying → Type 0
+IsSayingIn words (variable_named name) = has_text words name ≡ true
+IsSayingIn words (word_of text bare) = has_text words text ≡ true
+IsSayingIn words other = Unit {0}
+
+-- so it is once the tokens were read
+abbrev pub AreSpelledIn : Texts → List Spelled → Type 0
+AreSpelledIn words [] = Unit {0}
+AreSpelledIn words (t ∷ tokens) = IsSayingIn words t.says × AreSpelledIn words tokens
+
+-- ---- the symbols of an order
+
+abbrev pub IsOperandKnown : Texts → Operand → Type 0
+IsOperandKnown words (Symbol symbol) = IsKnown words symbol
+IsOperandKnown words (Label name) = Unit {0}
+
+-- an attribute is no label
+abbrev pub IsAttributeKnown : Texts → Operand → Type 0
+IsAttributeKnown words (Symbol symbol) = IsKnown words symbol
+IsAttributeKnown words (Label name) = ⊥
+
+pub record IsAdditionKnown (words : Texts) (addition : Addition) : Type 0 where
+  pub id : IsOperandKnown words addition.id
+  pub attr : IsAttributeKnown words addition.attr
+  pub value : IsOperandKnown words addition.value
+
+-- a production to load is no justification
+abbrev pub IsOrderKnown : Texts → Order → Type 0
+IsOrderKnown words (Load production) = AreKnown words (symbols_of (production_seen production)) × (is_justification production.kind ≡ false)
+IsOrderKnown words (Add addition) = IsAdditionKnown words addition
+IsOrderKnown words (Print id) = IsOperandKnown words id
+IsOrderKnown words (Show name) = IsKnown words name
+IsOrderKnown words other = Unit {0}
+
+abbrev pub IsOrderRead : Texts → Option Order → Type 0
+IsOrderRead words (Some order) = IsOrderKnown words order
+IsOrderRead words None = Unit {0}

@@ -1,0 +1,142 @@
+// Commands read.
+ghost use Rattle.std.specs.Prelude.{◌≡◌, ◌≤◌, ◌^◌, List as ListOf, IfOk, false, length, map};
+ghost use Rattle.soar_sym.specs.Words.{Texts};
+ghost use Rattle.soar_rule.specs.Productions.{production_seen};
+ghost use Rattle.soar_rule.specs.Symbols.{AreKnown, symbols_of};
+ghost use Rattle.defs_text.specs.Lexing.{Spelled, lexed};
+ghost use Rattle.defs_text.specs.Numbered.{numbered};
+ghost use Rattle.defs_read.specs.Sayings.{AreTokensKnown};
+ghost use Rattle.defs_soar.specs.Pending.{is_justification};
+ghost use Rattle.defs_run.specs.Present.{if_plain, judged, or_not_built, order_by, read_order, read_present};
+ghost use Rattle.defs_run.specs.WholeReading.{read_sp, read_tokens, unless_faulty};
+ghost use Rattle.soar_cmd.specs.Answers.{IsCommandRead, IsJudged};
+ghost use Rattle.soar_cmd.specs.Asked.{form_seen};
+ghost use Rattle.soar_cmd.specs.Known.{AreSpelledIn, IsOrderKnown};
+
+use crate::fault::CmdFault;
+use crate::form::{Form, form_of};
+use crate::order::order_by;
+use crate::plain::is_plain;
+use crate::refused::{of_check, of_lexing, of_reading, refused};
+use crate::word::{first_run, is_word};
+use defs_run::Order;
+use defs_text::Token;
+use soar_edge::Command;
+use soar_lex::lex;
+use soar_read::read_production;
+use soar_rule::{Production, check};
+use soar_sym::{List, SymTable};
+use std::alloc::Global;
+
+/// Reads a command, whose words join the table, and gives what it asks for.
+pub fn read_command(alloc: Global, table: &mut SymTable, c: &Command) -> Result<Order, CmdFault>
+    requires { length c.now.text ≤ 2 ^ 26 }
+    ensures reading { IsCommandRead table.new (read_present table.old c.now.text) result }
+    ensures known { IfOk result (λ order. IsOrderKnown table.new order) }
+    ensures grown { length table.old ≤ length table.new }
+{
+    let word = first_run(c.text.as_slice());
+    if is_word(word, b"sp") {
+        return read_sp(alloc, table, &c.text);
+    }
+    match form_of(word) {
+        Some(form) => read_form(alloc, table, form, &c.text),
+        None => Err(refused(10)),
+    }
+}
+
+// ---- productions
+
+/// Reads the command that loads a production.
+fn read_sp(alloc: Global, table: &mut SymTable, text: &List<u8>) -> Result<Order, CmdFault>
+    requires { length text.now ≤ 2 ^ 26 }
+    ensures reading { IsCommandRead table.new (read_sp judged table.old text.now) result }
+    ensures known { IfOk result (λ order. IsOrderKnown table.new order) }
+    ensures grown { length table.old ≤ length table.new }
+{
+    match lex(alloc, table, text) {
+        Ok(tokens) => read_tokens(alloc, table, &tokens),
+        Err(fault) => Err(of_lexing(fault)),
+    }
+}
+
+/// Reads the production that the tokens spell.
+fn read_tokens(alloc: Global, table: &mut SymTable, tokens: &List<Token>) -> Result<Order, CmdFault>
+    requires few { length tokens.now ≤ 2 ^ 26 }
+    requires words { AreTokensKnown table.old tokens.now }
+    ensures reading { (spelled : ListOf Spelled) → tokens.now ≡ map (numbered table.old) spelled → AreSpelledIn table.old spelled
+        → IsCommandRead table.new (read_tokens judged table.old spelled) result }
+    ensures known { IfOk result (λ order. IsOrderKnown table.new order) }
+    ensures grown { length table.old ≤ length table.new }
+{
+    match read_production(alloc, table, tokens) {
+        Ok(production) => judge(alloc, table, &production),
+        Err(fault) => Err(of_reading(fault)),
+    }
+}
+
+/// Gives a production in match order, where nothing is wrong with it and its actions are built.
+fn judge(alloc: Global, table: &SymTable, production: &Production) -> Result<Order, CmdFault>
+    requires known { AreKnown table.now (symbols_of (production_seen production.now)) }
+    requires unlearned { is_justification production.now.kind ≡ false }
+    ensures judged { IsJudged table.now (judged table.now (production_seen production.now)) result }
+    ensures known { IfOk result (λ order. IsOrderKnown table.now order) }
+{
+    table.law();
+    match check(alloc, production) {
+        Ok(ordered) => load_plain(ordered),
+        Err(fault) => Err(of_check(production, fault)),
+    }
+}
+
+/// The order to load a production, where its actions are built.
+fn load_plain(production: Production) -> Result<Order, CmdFault>
+    ensures judged { (words : Texts) → IsJudged words (if_plain (production_seen production)) result }
+    ensures known { (words : Texts) → AreKnown words (symbols_of (production_seen production)) → is_justification production.kind ≡ false
+        → IfOk result (λ order. IsOrderKnown words order) }
+{
+    if is_plain(&production) {
+        Ok(Order::Load(production))
+    } else {
+        Err(refused(18))
+    }
+}
+
+// ---- the other commands
+
+/// Reads a command whose word has a form.
+fn read_form(
+    alloc: Global,
+    table: &mut SymTable,
+    form: Form,
+    text: &List<u8>,
+) -> Result<Order, CmdFault>
+    requires { length text.now ≤ 2 ^ 26 }
+    ensures reading { IsCommandRead table.new (unless_faulty table.old (lexed text.now) (read_order (form_seen form) text.now)) result }
+    ensures known { IfOk result (λ order. IsOrderKnown table.new order) }
+    ensures grown { length table.old ≤ length table.new }
+{
+    match lex(alloc, table, text) {
+        Ok(tokens) => built_order(alloc, table, form, text.as_slice(), tokens.as_slice()),
+        Err(fault) => Err(of_lexing(fault)),
+    }
+}
+
+/// The order of the tokens of a command, where it is built.
+fn built_order(
+    alloc: Global,
+    table: &SymTable,
+    form: Form,
+    text: &[u8],
+    tokens: &[Token],
+) -> Result<Order, CmdFault>
+    requires { AreTokensKnown table.now tokens.now }
+    ensures judged { (spelled : ListOf Spelled) → tokens.now ≡ map (numbered table.now) spelled → AreSpelledIn table.now spelled
+        → IsJudged table.now (or_not_built (order_by (form_seen form) table.now text.now spelled)) result }
+    ensures known { IfOk result (λ order. IsOrderKnown table.now order) }
+{
+    match order_by(alloc, table, form, text, tokens)? {
+        Some(order) => Ok(order),
+        None => Err(refused(18)),
+    }
+}

@@ -1,0 +1,6 @@
+pub mod Answers
+pub mod Cycles
+pub mod Lengths
+pub mod Reading
+pub mod Runs
+pub mod Spoken

@@ -1,0 +1,74 @@
+// Cycles in a row, each written before the next begins.
+ghost use Rattle.std.specs.Prelude.{◌≡◌, ◌-◌, ◌<◌, ◌^◌, true, Ok, List as ListOf, IfOk, OnOk};
+ghost use Rattle.soar_edge.specs.Outside.{Appends, AppendsSome, HasPutCause};
+ghost use Rattle.defs_soar.specs.History.{RecordedFiring};
+ghost use Rattle.defs_run.specs.Present.{cycle, run_present};
+ghost use Rattle.soar_cycle.specs.Seen.{IsSound, agent_of};
+ghost use Rattle.soar_run.specs.Cycles.{IsRanOk, WritesCycle, course_text};
+
+use crate::step::Answered;
+use soar_agent::{Session, Stop};
+use soar_edge::{PutFault, Sink, put_all};
+use soar_sym::Text;
+use std::alloc::Global;
+
+/// Runs so many cycles, and writes what each says before the next begins.
+pub fn run_cycles<O: Sink>(
+    alloc: Global,
+    session: &mut Session,
+    count: u32,
+    out: &mut O,
+) -> Result<Answered, PutFault>
+    requires sound { IsSound session.old.agent }
+    requires sink { O.faults out.old < 2 ^ 64 - 1 }
+    ensures course { (history : ListOf RecordedFiring) → IsRanOk session.old.mid_line (run_present count (agent_of session.old.agent history)) session.old session.new result }
+    ensures written { (history : ListOf RecordedFiring) →
+        OnOk result (Appends (O.written out.old) (O.written out.new) (course_text session.old.mid_line (run_present count (agent_of session.old.agent history)))) }
+    ensures prefix { (history : ListOf RecordedFiring) →
+        AppendsSome (O.written out.old) (O.written out.new) (course_text session.old.mid_line (run_present count (agent_of session.old.agent history))) }
+    ensures cause { HasPutCause (O.faults out.old) (O.faults out.new) result }
+{
+    'cycles: for number in 0..count {
+        match write_cycle(alloc, session, out) {
+            Ok(true) => {}
+            Ok(false) => return Ok(Answered::Stopped),
+            Err(fault) => return Err(fault),
+        }
+    }
+    Ok(Answered::Went(false))
+}
+
+/// Runs a cycle, and writes what it says. False where it passes a limit.
+fn write_cycle<O: Sink>(alloc: Global, session: &mut Session, out: &mut O) -> Result<bool, PutFault>
+    requires sound { IsSound session.old.agent }
+    requires sink { O.faults out.old < 2 ^ 64 - 1 }
+    ensures course { (history : ListOf RecordedFiring) →
+        WritesCycle session.old.mid_line (cycle (agent_of session.old.agent history)) session.new (O.written out.old) (O.written out.new) result }
+    ensures prefix { (history : ListOf RecordedFiring) →
+        AppendsSome (O.written out.old) (O.written out.new) (course_text session.old.mid_line (cycle (agent_of session.old.agent history))) }
+    ensures labels { session.new.labels ≡ session.old.labels }
+    ensures sound { result ≡ Ok true → IsSound session.new.agent }
+    ensures cause { HasPutCause (O.faults out.old) (O.faults out.new) result }
+{
+    let mut text = Text::new(alloc);
+    match session.cycle(&mut text) {
+        Ok(()) => put_cycle(out, &text, true),
+        Err(Stop::Limit(limit)) => {
+            let _ = limit;
+            put_cycle(out, &text, false)
+        }
+        Err(Stop::NoMemory) => Err(PutFault::NoMemory),
+    }
+}
+
+/// Writes what a cycle said, and gives whether it went.
+fn put_cycle<O: Sink>(out: &mut O, text: &Text, went: bool) -> Result<bool, PutFault>
+    requires { O.faults out.old < 2 ^ 64 - 1 }
+    ensures went { IfOk result (λ given. given ≡ went) }
+    ensures written { OnOk result (Appends (O.written out.old) (O.written out.new) text.now) }
+    ensures prefix { AppendsSome (O.written out.old) (O.written out.new) text.now }
+    ensures cause { HasPutCause (O.faults out.old) (O.faults out.new) result }
+{
+    put_all(out, text.as_str().as_bytes())?;
+    Ok(went)
+}
