@@ -1,4 +1,4 @@
--- From the trees of actions to one triple for each action (Soar manual, production syntax).
+-- From the trees of actions to one triple for each action (Soar manual, chapter 3, production syntax).
 use Rattle.std.specs.Prelude.{ℕ, ◌==◌, List, [], ◌∷◌, ◌++◌, Option, Some, None, if◌then◌else◌}
 use Rattle.soar_sym.specs.Words.{Texts}
 use Rattle.soar_rule.specs.declared.cond.Atom.{Atom}

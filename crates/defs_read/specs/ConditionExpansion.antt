@@ -1,4 +1,4 @@
--- From the trees of conditions to one triple for each condition (Soar manual, production syntax).
+-- From the trees of conditions to one triple for each condition (Soar manual, chapter 3, production syntax).
 use Rattle.std.specs.Prelude.{Bool, false, List, [], ◌∷◌, ◌++◌, Option, Some, None, if◌then◌else◌}
 use Rattle.soar_sym.specs.Words.{Texts}
 use Rattle.soar_sym.specs.declared.symbol.Sym.TheVariants.{Word}

@@ -1,4 +1,4 @@
--- From the tree of a text to one triple for each condition and action (Soar manual, production syntax; names of new variables are this engine's).
+-- From the tree of a text to one triple for each condition and action (Soar manual, chapter 3, production syntax; names of new variables are this engine's).
 use Rattle.std.specs.Prelude.{List, [], ◌∷◌, map, flat_map}
 use Rattle.soar_sym.specs.Words.{Texts, with_texts}
 use Rattle.soar_rule.specs.declared.production.Kind.{Kind}

@@ -1,4 +1,4 @@
--- From the trees of fields to tests (Soar manual, production syntax).
+-- From the trees of fields to tests (Soar manual, chapter 3, production syntax).
 use Rattle.std.specs.Prelude.{ℕ, ◌==◌, List, [], ◌∷◌, map, Option, Some, None, if◌then◌else◌}
 use Rattle.soar_sym.specs.Words.{Texts}
 use Rattle.soar_sym.specs.declared.symbol.Sym.{Sym}

@@ -1,4 +1,4 @@
--- The grammar of productions: what may stand in a text (Soar manual, production syntax; the profile is this engine's).
+-- The grammar of productions: what may stand in a text (Soar manual, chapter 3, production syntax; the profile is this engine's).
 use Rattle.std.specs.Prelude.{ℕ, Bool, ℤ, List, Option}
 use Rattle.soar_rule.specs.declared.action.Func.{Func}
 

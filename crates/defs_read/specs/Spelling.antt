@@ -1,4 +1,4 @@
--- The tokens that spell a production (Soar manual, production syntax; the profile is this engine's).
+-- The tokens that spell a production (Soar manual, chapter 3, production syntax; the profile is this engine's).
 use Rattle.std.specs.Prelude.{ℕ, Bool, true, List, [], ◌∷◌, ◌++◌, Option, Some, None, if◌then◌else◌, flat_map, codes}
 use Rattle.soar_rule.specs.declared.action.Func.{Func}
 use Rattle.soar_rule.specs.declared.action.Func.TheVariants as func

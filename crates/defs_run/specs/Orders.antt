@@ -1,4 +1,4 @@
--- What a command asks for, and how it may be refused (Soar manual, the user interface; the texts are this engine's).
+-- What a command asks for, and how it may be refused (Soar manual, chapter 9, the user interface; the texts are this engine's).
 use Rattle.std.specs.Prelude.{ℕ, Bool, List, ◌∷◌, ◌++◌, codes}
 use Rattle.std.specs.Fmt.{decimal}
 use Rattle.soar_sym.specs.Words.{Texts}

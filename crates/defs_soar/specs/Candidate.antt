@@ -1,4 +1,4 @@
--- The rule that an explanation gives, in its two forms (Soar manual, chunking; order and names are this engine's).
+-- The rule that an explanation gives, in its two forms (Soar manual, chapter 4, chunking; order and names are this engine's).
 --
 -- The grounds are its positive conditions, with the tests taken over; then come negations; the results are its actions.
 -- In the general form identifiers are variables: a chunk. In the literal form they stay: a justification.

@@ -1,4 +1,4 @@
--- The candidate for a learned rule, and what is learned from an explanation (Soar manual, chunking; the order of causes is this engine's).
+-- The candidate for a learned rule, and what is learned from an explanation (Soar manual, chapter 4, chunking; the order of causes is this engine's).
 --
 -- A candidate has two forms. In the general one each identifier of the grounds is a variable; it is there where the explanation
 -- has a state among its grounds and each of its identifiers a variable. In the literal one identifiers stay; it needs only the state.

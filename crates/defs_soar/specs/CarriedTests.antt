@@ -1,4 +1,4 @@
--- The tests between identifiers that a learned rule takes over (Soar manual, chunking; the places are this engine's).
+-- The tests between identifiers that a learned rule takes over (Soar manual, chapter 4, chunking; the places are this engine's).
 --
 -- A `<>` or `<=>` of a step's positive condition is taken over where a side is an identifier and neither side is the chain's own affair.
 -- It stands at the field in which the later of its two sides first occurs, so that both are bound there.

@@ -1,4 +1,4 @@
--- What a chain tells of its identifiers: which are higher ones, and which its firings made (Soar manual, chunking; the reading is this engine's).
+-- What a chain tells of its identifiers: which are higher ones, and which its firings made (Soar manual, chapter 4, chunking; the reading is this engine's).
 --
 -- The chain is read by itself, without the agent. An identifier is higher where a ground holds it or a `^superstate` leads to it,
 -- and it is no state of the chain's own depth. It is made by the chain where some firing made it new and no ground holds it.

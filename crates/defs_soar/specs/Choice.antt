@@ -1,4 +1,4 @@
--- What the preferences of a slot leave (Soar manual, preference semantics).
+-- What the preferences of a slot leave (Soar manual, chapter 2, preference semantics).
 use Rattle.std.specs.Prelude.{Bool, true, false, ◌&&◌, ◌||◌, not, ℤ, pos, ◌+ℤ◌, List, [], ◌∷◌, map, filter, Option, Some, None, if◌then◌else◌}
 use Rattle.std.specs.List.{list_any, list_all}
 use Rattle.soar_sym.specs.Equality.{symbol_eq}

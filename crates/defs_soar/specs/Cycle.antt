@@ -1,4 +1,4 @@
--- The cycle: input, proposal, decision, application, output (Soar manual, execution cycle).
+-- The cycle: input, proposal, decision, application, output (Soar manual, chapter 2, execution cycle).
 use Rattle.std.specs.Prelude.{ℕ, suc, Bool, true, false, ◌&&◌, not, List, [], ◌∷◌, ◌++◌, map, filter, if◌then◌else◌}
 use Rattle.soar_sym.specs.declared.symbol.Triple.{Triple}
 use Rattle.soar_rule.specs.Repeat.{Turn, ends, goes_on, turns}

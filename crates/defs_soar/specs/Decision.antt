@@ -1,4 +1,4 @@
--- Decisions: operators are selected, and substates made where none can be (Soar manual, decision procedure).
+-- Decisions: operators are selected, and substates made where none can be (Soar manual, chapter 2, decision procedure).
 use Rattle.std.specs.Prelude.{ℕ, suc, ◌+◌, Bool, true, false, ◌&&◌, nat_lt, not, List, [], ◌∷◌, ◌++◌, filter, length, drop, Option, Some, None, if◌then◌else◌}
 use Rattle.soar_sym.specs.Equality.{symbol_eq}
 use Rattle.soar_sym.specs.Letters.{last_of, with_last}

@@ -1,4 +1,4 @@
--- What a goal depends on (Soar manual, goal dependency sets), found from the whole history.
+-- What a goal depends on (Soar manual, chapter 2, goal dependency sets), found from the whole history.
 use Rattle.std.specs.Prelude.{ℕ, Bool, true, false, ◌&&◌, ◌||◌, ◌==◌, not, nat_lt, List, [], ◌∷◌, map, flat_map, filter, Option, Some, None}
 use Rattle.std.specs.List.{list_any}
 use Rattle.soar_sym.specs.Equality.{symbol_eq}

@@ -1,4 +1,4 @@
--- Which candidate a draw takes (Soar manual, indifferent selection; whole numbers in place of floating point).
+-- Which candidate a draw takes (Soar manual, chapter 9, indifferent selection; whole numbers in place of floating point).
 use Rattle.std.specs.Prelude.{ℕ, ◌+◌, ◌-◌, ◌/◌, ◌%◌, Bool, ◌&&◌, nat_lt, ℤ, pos, negsuc, ◌+ℤ◌, int_lt, int_le, List, [], ◌∷◌, length, if◌then◌else◌}
 use Rattle.std.specs.List.{list_all}
 use Rattle.defs_soar.specs.declared.choice.Mode.{Mode}

@@ -1,4 +1,4 @@
--- What explains firings, and the steps of an explanation (Soar manual, backtracing).
+-- What explains firings, and the steps of an explanation (Soar manual, chapter 4, backtracing).
 --
 -- A firing is explained by the makers of the elements that it used, and by theirs, back to elements of higher goals: the grounds.
 -- The steps are the architecture's own elements, then items, then firings, each in order, a selection just before the firing that first used it.

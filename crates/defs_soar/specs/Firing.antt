@@ -1,4 +1,4 @@
--- What a firing makes, action by action (Soar manual, right-hand sides).
+-- What a firing makes, action by action (Soar manual, chapter 3, right-hand sides).
 use Rattle.std.specs.Prelude.{ℕ, suc, Bool, true, false, ◌&&◌, ◌||◌, not, pos, neg_ℤ, int_le, List, [], ◌∷◌, ◌++◌, Option, Some, None, Result, Ok, Err, if◌then◌else◌}
 use Rattle.soar_sym.specs.Words.{Texts}
 use Rattle.soar_sym.specs.declared.symbol.Sym.{Sym}

@@ -1,4 +1,4 @@
--- The functions of actions (Soar manual, right-hand side functions; the causes are this engine's).
+-- The functions of actions (Soar manual, chapter 3, right-hand side functions; the causes are this engine's).
 use Rattle.std.specs.Prelude.{ℕ, ◌+◌, ◌^◌, Bool, true, false, ◌==◌, not, nat_lt, ℤ, pos, negsuc, neg_ℤ, int_lt, ◌+ℤ◌, ◌-ℤ◌, ◌*ℤ◌, ◌/◌, ◌%◌, List, [], ◌∷◌, ◌++◌, length, Result, Ok, Err, if◌then◌else◌}
 use Rattle.std.specs.Fmt.{decimal, signed_decimal}
 use Rattle.soar_sym.specs.Equality.{symbol_eq}

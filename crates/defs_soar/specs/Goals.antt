@@ -1,4 +1,4 @@
--- Goals and their own elements (Soar manual, impasses and substates).
+-- Goals and their own elements (Soar manual, chapter 2, impasses and substates).
 use Rattle.std.specs.Prelude.{◌&&◌, not, Bool, false, pos, List, [], ◌∷◌, ◌++◌, map, filter, length, Option, Some, None}
 use Rattle.soar_sym.specs.Equality.{symbol_eq}
 use Rattle.soar_sym.specs.declared.symbol.Sym.{Sym}

@@ -1,4 +1,4 @@
--- A learned rule joins, and its firing takes results over (Soar manual, chunking; numbers are this engine's).
+-- A learned rule joins, and its firing takes results over (Soar manual, chapter 4, chunking; numbers are this engine's).
 --
 -- The rule fires at once, at the elements of its own conditions. The results are then its rows, and no longer those of the firing explained;
 -- where no rule is learned they stay there, with instance support.

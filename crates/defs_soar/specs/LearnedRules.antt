@@ -1,4 +1,4 @@
--- What the outcome of learning does to the wave at hand, and the names of learned rules (Soar manual, chunking; names and numbers are this engine's).
+-- What the outcome of learning does to the wave at hand, and the names of learned rules (Soar manual, chapter 4, chunking; names and numbers are this engine's).
 --
 -- The names of the candidate's variables join the table first. A learned rule is named `chunk*N` or `justification*N`, each kind counted by itself,
 -- past names that are loaded.

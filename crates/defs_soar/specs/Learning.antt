@@ -1,4 +1,4 @@
--- Learning from the firings of a wave (Soar manual, chunking; names and numbers are this engine's).
+-- Learning from the firings of a wave (Soar manual, chapter 4, chunking; names and numbers are this engine's).
 --
 -- After all firings of the wave, each that made a result is explained, in order of number, by what was before the wave.
 -- A learned rule's firing may in turn have results for a still higher goal; learning goes on from it afterwards.

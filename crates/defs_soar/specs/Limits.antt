@@ -1,13 +1,13 @@
 -- Limits: a step brings totals to numbers, and the first that is beyond its limit ends the program.
 --
--- The order in which a cycle comes to them:
---   the number of the cycle; elements and tags of the input phase;
---   in each wave: the number of the wave; the retractions; for each firing in order its number, and then its identifiers and words
---   as they are needed; for each explanation in order the words of its candidate, the number of its name, the word of its name,
---   the number of its rule, the number of its firing; preferences, after the rows are added and before rejects take any away;
---   elements, after goals have gone; tags;
---   in the decision: the number of a new substate's identifier; elements and tags.
--- A command's words come before all else that it does.
+-- In which order a run meets them, here once for all steps.
+--   A command: the words that it brings.
+--   The input phase: how many cycles there were, then working memory.
+--   A wave: how many waves, how many retractions; then what its firings need, one by one, each beginning with its own number; then what
+--   learning needs, one explanation after the other (variables' names, the number and the text of the rule's name, the rule, its firing);
+--   then preference memory while rejects have not yet taken rows out; then working memory.
+--   A decision: the substate's identifier, then working memory.
+-- Of working memory the elements come before the tags, and goals have gone by then.
 use Rattle.std.specs.Prelude.{ℕ, nat_lt, List, [], ◌∷◌, ◌++◌, Option, Some, None, if◌then◌else◌, codes}
 use Rattle.std.specs.Fmt.{decimal}
 use Rattle.defs_soar.specs.declared.limit.Which.{Which}

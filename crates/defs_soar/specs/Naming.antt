@@ -1,4 +1,4 @@
--- What the variables of a firing stand for, new identifiers, and the values of its actions (Soar manual, right-hand sides).
+-- What the variables of a firing stand for, new identifiers, and the values of its actions (Soar manual, chapter 3, right-hand sides).
 use Rattle.std.specs.Prelude.{ℕ, zero, suc, ◌+◌, ◌-◌, List, [], ◌∷◌, ◌++◌, length, Option, Some, None, Result, Ok, Err, if◌then◌else◌}
 use Rattle.soar_sym.specs.Letters.{last_of, with_last}
 use Rattle.soar_sym.specs.Words.{Texts, text_of, with_text}

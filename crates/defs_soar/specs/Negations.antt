@@ -1,4 +1,4 @@
--- The negations of a chain that a learned rule takes over: those about higher goals (Soar manual, chunking; the reading is this engine's).
+-- The negations of a chain that a learned rule takes over: those about higher goals (Soar manual, chapter 4, chunking; the reading is this engine's).
 --
 -- A negation is about higher goals where each identifier field in it is bound to a higher identifier, or bound earlier inside it as a value.
 -- Any other is local. What is bound is taken over as its symbol; other variables are the negation's own.

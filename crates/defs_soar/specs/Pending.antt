@@ -1,4 +1,4 @@
--- The work that is pending: firings to retract and instances to fire (Soar manual, elaboration cycle).
+-- The work that is pending: firings to retract and instances to fire (Soar manual, chapter 2, elaboration cycle).
 use Rattle.std.specs.Prelude.{ℕ, Bool, true, false, ◌&&◌, ◌==◌, not, min, List, [], ◌∷◌, ◌++◌, map, flat_map, filter}
 use Rattle.std.specs.List.{list_any}
 use Rattle.soar_rule.specs.declared.production.Kind.{Kind}

@@ -1,4 +1,4 @@
--- Phases: waves until nothing is pending, and what they told (Soar manual, elaboration cycle).
+-- Phases: waves until nothing is pending, and what they told (Soar manual, chapter 2, elaboration cycle).
 use Rattle.std.specs.Prelude.{Bool, true, false, ◌||◌, not, List, [], ◌∷◌, ◌++◌}
 use Rattle.soar_rule.specs.Repeat.{Turn, ends, goes_on, turns}
 use Rattle.defs_soar.specs.Agents.{Agent}

@@ -1,4 +1,4 @@
--- Preference memory: a list of rows (Soar manual, preference memory and support).
+-- Preference memory: a list of rows (Soar manual, chapter 2, preference memory and support).
 use Rattle.std.specs.Prelude.{ℕ, Bool, ◌&&◌, ◌==◌, not, List, [], ◌∷◌, ◌++◌, filter, if◌then◌else◌}
 use Rattle.std.specs.List.{list_any}
 use Rattle.soar_sym.specs.Equality.{symbol_eq}

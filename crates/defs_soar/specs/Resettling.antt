@@ -1,4 +1,4 @@
--- An agent settled anew, and what that step told and drew (Soar manual, elaboration cycle).
+-- An agent settled anew, and what that step told and drew (Soar manual, chapter 2, elaboration cycle).
 use Rattle.std.specs.Prelude.{◌+◌, Bool, false, ◌==◌, not, List, [], ◌∷◌, ◌++◌, map, filter, length}
 use Rattle.std.specs.List.{list_any}
 use Rattle.soar_wm.specs.declared.element.Element.{Element}

@@ -1,4 +1,4 @@
--- What a firing made for higher goals (Soar manual, results), with what hangs on it.
+-- What a firing made for higher goals (Soar manual, chapter 4, results), with what hangs on it.
 --
 -- Results are a firing's preferences for identifiers of a level above its match goal's. With a result goes what it leads to:
 -- each local or new identifier that is its value or referent, unless it is a goal, with all acceptable rows of that identifier, step by step.

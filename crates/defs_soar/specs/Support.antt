@@ -1,4 +1,4 @@
--- Operator support and instance support (Soar manual, persistence; the static rule is this engine's).
+-- Operator support and instance support (Soar manual, chapter 2, persistence; the static rule is this engine's).
 use Rattle.std.specs.Prelude.{ℕ, zero, suc, Bool, true, false, ◌&&◌, ◌==◌, not, List, [], ◌∷◌, Option, Some, None, if◌then◌else◌, ◌||◌}
 use Rattle.std.specs.List.{list_any}
 use Rattle.soar_sym.specs.Equality.{symbol_eq}

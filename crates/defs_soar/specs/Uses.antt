@@ -1,4 +1,4 @@
--- How firings used their elements, and which firing made an element (Soar manual, backtracing).
+-- How firings used their elements, and which firing made an element (Soar manual, chapter 4, backtracing).
 use Rattle.std.specs.Prelude.{ℕ, Bool, true, false, ◌&&◌, ◌||◌, not, min, nat_lt, List, [], ◌∷◌, map, flat_map, filter, Option, Some, None, if◌then◌else◌}
 use Rattle.soar_sym.specs.Equality.{symbol_eq}
 use Rattle.soar_sym.specs.declared.symbol.Sym.{Sym}

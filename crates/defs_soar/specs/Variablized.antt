@@ -1,4 +1,4 @@
--- What is variablized in a learned rule, and the names of these variables (Soar manual, variablization; the names are this engine's).
+-- What is variablized in a learned rule, and the names of these variables (Soar manual, chapter 4, variablization; the names are this engine's).
 --
 -- An identifier has one variable wherever it stands, named by its letter and a number. A negation's own variables are named by x.
 use Rattle.std.specs.Prelude.{ℕ, suc, ◌+◌, Bool, false, ◌&&◌, ◌==◌, List, [], ◌∷◌, ◌++◌, flat_map, Option, Some, None, if◌then◌else◌}

@@ -1,4 +1,4 @@
--- What the choice at a goal comes to: operators that are left, or an impasse (Soar manual, decision procedure).
+-- What the choice at a goal comes to: operators that are left, or an impasse (Soar manual, chapter 2, decision procedure).
 use Rattle.std.specs.Prelude.{ℕ, zero, suc, Bool, true, false, ◌&&◌, ◌==◌, nat_lt, List, [], ◌∷◌, map, length, Option, Some, None, if◌then◌else◌}
 use Rattle.soar_sym.specs.Equality.{symbol_eq}
 use Rattle.soar_sym.specs.declared.symbol.Sym.{Sym}

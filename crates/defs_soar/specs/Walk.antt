@@ -1,4 +1,4 @@
--- The walk of a decision from the top goal down (Soar manual, decision procedure).
+-- The walk of a decision from the top goal down (Soar manual, chapter 2, decision procedure).
 use Rattle.std.specs.Prelude.{ℕ, zero, suc, Bool, true, false, List, [], ◌∷◌, length, Option, Some, None}
 use Rattle.soar_sym.specs.Words.{Texts}
 use Rattle.soar_sym.specs.declared.symbol.Sym.{Sym}

@@ -1,4 +1,4 @@
--- The wave at hand: its firings, how their preferences are held, and what it came to so far (Soar manual, elaboration cycle).
+-- The wave at hand: its firings, how their preferences are held, and what it came to so far (Soar manual, chapter 2, elaboration cycle).
 use Rattle.std.specs.Prelude.{ℕ, Bool, ◌&&◌, not, List, [], ◌∷◌, flat_map, Option, if◌then◌else◌}
 use Rattle.soar_sym.specs.Words.{Texts}
 use Rattle.soar_sym.specs.declared.symbol.Sym.{Sym}

@@ -1,4 +1,4 @@
--- The firings of a wave (Soar manual, elaboration cycle).
+-- The firings of a wave (Soar manual, chapter 2, elaboration cycle).
 use Rattle.std.specs.Prelude.{suc, Bool, false, ◌||◌, List, [], ◌∷◌, ◌++◌, map}
 use Rattle.soar_rule.specs.Symbols.{constants_of}
 use Rattle.soar_wm.specs.WorkingMemory.{triple_of}

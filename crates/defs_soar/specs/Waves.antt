@@ -1,4 +1,4 @@
--- Waves: the work of the least level that has any, and what it leaves (Soar manual, elaboration cycle).
+-- Waves: the work of the least level that has any, and what it leaves (Soar manual, chapter 2, elaboration cycle).
 use Rattle.std.specs.Prelude.{ℕ, suc, ◌+◌, Bool, true, false, ◌&&◌, ◌==◌, not, List, [], ◌∷◌, ◌++◌, map, flat_map, filter, length, if◌then◌else◌}
 use Rattle.std.specs.List.{list_any}
 use Rattle.soar_sym.specs.declared.symbol.Sym.{Sym}

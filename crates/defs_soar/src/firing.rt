@@ -9,7 +9,7 @@ use defs_match::{Instance, Rule};
 use soar_sym::{List, Sym, Text};
 use soar_wm::Element;
 
-/// In which way a firing used an element of its instance (Soar manual, backtracing).
+/// In which way a firing used an element of its instance (Soar manual, chapter 4, backtracing).
 #[derive(Clone, Copy, PartialEq, Eq)]
 pub enum How {
     /// Its identifier is of a higher level, or the firing is of the top goal.

@@ -5,7 +5,7 @@ ghost use Rattle.defs_soar.specs.Goals as meaning;
 use soar_sym::architecture::OPERATOR;
 use soar_sym::{List, Sym, is_symbol};
 
-/// Why a goal is there (Soar manual, impasses).
+/// Why a goal is there (Soar manual, chapter 2, impasses).
 #[derive(Clone, Copy, PartialEq, Eq)]
 pub enum Impasse {
     /// The top goal.

@@ -3,7 +3,7 @@ ghost use Rattle.defs_soar.specs.Values.{is_kind, kind_place};
 
 use soar_sym::Sym;
 
-/// What a preference says of its value, in the order in which kinds are listed (Soar manual, preference semantics).
+/// What a preference says of its value, in the order in which kinds are listed (Soar manual, chapter 2, preference semantics).
 #[derive(Clone, Copy, PartialEq, Eq)]
 pub enum PrefKind {
     /// `+`

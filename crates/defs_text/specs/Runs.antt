@@ -1,4 +1,4 @@
--- A run: a longest piece of run bytes, which is classified as a whole (Soar manual, production syntax; the classes are this engine's).
+-- A run: a longest piece of run bytes, which is classified as a whole (Soar manual, chapter 3, production syntax; the classes are this engine's).
 use Rattle.std.specs.Prelude.{ℕ, ◌+◌, ◌-◌, ◌*◌, ◌^◌, Bool, true, false, ◌&&◌, ◌||◌, ◌==◌, not, ℤ, pos, neg_ℤ, int_lt, int_le, List, [], ◌∷◌, length, take, drop, if◌then◌else◌, codes}
 use Rattle.std.specs.List.{prefix_len, list_all, list_any}
 use Rattle.std.specs.Str.{bytes_eq}

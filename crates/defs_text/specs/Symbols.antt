@@ -1,4 +1,4 @@
--- The texts of symbols and of instances (Soar manual, the print and matches commands; the forms are this engine's).
+-- The texts of symbols and of instances (Soar manual, chapter 9, the print and matches commands; the forms are this engine's).
 use Rattle.std.specs.Prelude.{ℕ, Bool, true, false, ◌&&◌, not, nat_le, List, [], ◌∷◌, ◌++◌, if◌then◌else◌}
 use Rattle.std.specs.List.{list_all}
 use Rattle.std.specs.Fmt.{decimal, signed_decimal}

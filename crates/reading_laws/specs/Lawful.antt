@@ -1,4 +1,4 @@
--- What the trees of productions keep beside their form: the side rules of the grammar (Soar manual, production syntax).
+-- What the trees of productions keep beside their form: the side rules of the grammar (Soar manual, chapter 3, production syntax).
 use Rattle.std.specs.Prelude.{◌≡◌, ◌⊎◌, ◌≤◌, ◌<◌, ℕ, suc, Bool, true, false, not, List, [], ◌∷◌, Option, Some, None, codes}
 use Rattle.soar_rule.specs.declared.action.Func.{Func}
 use Rattle.soar_rule.specs.declared.action.Func.TheVariants as func

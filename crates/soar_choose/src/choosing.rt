@@ -9,7 +9,7 @@ use defs_soar::{Choice, PrefKind, Preference, Scored};
 use soar_sym::{List, NoMemory, Sym, SymTable, is_symbol};
 use std::alloc::Global;
 
-/// What the rows of a slot leave, or the impasse that they give, in symbol order (Soar manual, preference semantics).
+/// What the rows of a slot leave, or the impasse that they give, in symbol order (Soar manual, chapter 2, preference semantics).
 pub fn choose(alloc: Global, table: &SymTable, rows: &List<Preference>) -> Result<Choice, NoMemory>
     requires known { AreKnown table.now rows.now }
     requires few { length rows.now ≤ 1000000 }

@@ -25,7 +25,7 @@ pub struct Fired {
 }
 
 /// Fires the instances in order, numbered from the one after `last` on, against the goals and the working
-/// memory before the wave (Soar manual, elaboration cycle). Each firing's rows have the support of its kind.
+/// memory before the wave (Soar manual, chapter 2, elaboration cycle). Each firing's rows have the support of its kind.
 /// Of a wave that is stopped new words and identifiers may stay.
 pub fn fire_all(
     alloc: Global,

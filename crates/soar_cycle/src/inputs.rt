@@ -10,7 +10,7 @@ use soar_sym::{List, Triple};
 use std::alloc::Global;
 
 impl Agent {
-    /// Puts other inputs in the place of those that there are, and settles (Soar manual, input and output).
+    /// Puts other inputs in the place of those that there are, and settles (Soar manual, chapter 2, input and output).
     pub fn change_inputs(&mut self, alloc: Global, inputs: List<Triple>) -> Result<(), Stop>
         requires sound { IsSound self.old }
         requires known { AreTriplesKnown self.old.table inputs }

@@ -36,7 +36,7 @@ const OUTPUT: Sym = Sym::Ident {
 };
 
 impl Agent {
-    /// The top state with its input and output links, and no rule (Soar manual, the top state).
+    /// The top state with its input and output links, and no rule (Soar manual, chapter 2, the top state).
     pub fn new(alloc: Global) -> Result<Agent, NoMemory>
         ensures stands { IfOk result (λ agent. agent_of agent [] ≡ first_agent 1) }
         ensures sound { IfOk result (λ agent. IsSound agent) }

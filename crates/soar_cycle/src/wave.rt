@@ -24,7 +24,7 @@ pub enum Waved {
 }
 
 impl Agent {
-    /// Runs a wave of the proposal phase (Soar manual, elaboration cycle). What its firings write goes to `text`.
+    /// Runs a wave of the proposal phase (Soar manual, chapter 2, elaboration cycle). What its firings write goes to `text`.
     pub fn wave(&mut self, alloc: Global, text: &mut Text) -> Result<Waved, Stop>
         requires sound { IsSound self.old }
         ensures wave { (history : ListOf RecordedFiring) → WavesFrom self.old self.new history result }

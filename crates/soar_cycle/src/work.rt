@@ -23,7 +23,7 @@ pub struct Work {
     pub fired: List<Instance>,
 }
 
-/// The work of the active level, which is the least that has any (Soar manual, elaboration cycle).
+/// The work of the active level, which is the least that has any (Soar manual, chapter 2, elaboration cycle).
 /// `proposing` leaves out the instances of operator kind.
 pub fn pending(
     alloc: Global,

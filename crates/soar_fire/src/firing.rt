@@ -14,7 +14,7 @@ use soar_sym::{Letters, List, SymTable};
 use std::alloc::Global;
 
 /// Takes the actions of a rule for an instance of it, in their order, in each the identifier, attribute,
-/// value and referent (Soar manual, right-hand sides). `goals` are those before the wave.
+/// value and referent (Soar manual, chapter 3, right-hand sides). `goals` are those before the wave.
 ///
 /// New words join the table and new identifiers take the next numbers of their letters; of a firing
 /// that is refused some may have.

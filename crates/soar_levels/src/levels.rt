@@ -9,7 +9,7 @@ use std::alloc::Global;
 use std::marker::Model;
 
 /// The level of each identifier that a goal reaches: a goal's own depth, else the least depth of a goal
-/// from which walks lead to it (Soar manual, substates and levels).
+/// from which walks lead to it (Soar manual, chapter 2, substates and levels).
 #[derive(Drop)]
 pub struct Levels {
     told: Marks,

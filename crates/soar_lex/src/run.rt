@@ -7,7 +7,7 @@ ghost use Rattle.soar_lex.specs.Answers.{IsKind};
 
 use crate::number::{integer, is_float, is_integer};
 
-/// What a run of bytes is (Soar manual, production syntax).
+/// What a run of bytes is (Soar manual, chapter 3, production syntax).
 #[derive(Clone, Copy, PartialEq, Eq)]
 pub enum Run {
     Arrow,

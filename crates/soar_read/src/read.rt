@@ -13,7 +13,7 @@ use soar_sym::{List, SymTable};
 use soar_tree::{Stop, read_tree};
 use std::alloc::Global;
 
-/// Reads the production that the tokens spell (Soar manual, production syntax). The names of its new variables join the table.
+/// Reads the production that the tokens spell (Soar manual, chapter 3, production syntax). The names of its new variables join the table.
 /// The tokens of words and of variables must hold words of the table: neither identifiers nor integers.
 pub fn read_production(
     alloc: Global,

@@ -1,4 +1,4 @@
-// The elements of the goals themselves (Soar manual, impasses and substates).
+// The elements of the goals themselves (Soar manual, chapter 2, impasses and substates).
 ghost use Rattle.std.specs.Prelude.{◌≡◌, ◌<◌, ◌^◌, [], ◌∷◌, ◌++◌, length, map, pos, OnOk};
 ghost use Rattle.soar_sym.specs.declared.symbol.Sym.TheVariants.{Int};
 ghost use Rattle.defs_soar.specs.Architecture.{item_count_word, item_word, non_numeric_count_word, non_numeric_word};

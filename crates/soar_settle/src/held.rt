@@ -1,4 +1,4 @@
-// The triples that preference memory, the goals and the inputs hold up (Soar manual, support).
+// The triples that preference memory, the goals and the inputs hold up (Soar manual, chapter 2, support).
 ghost use Rattle.std.specs.Prelude.{◌≡◌, ◌++◌, flat_map, IfOk, OnOk};
 ghost use Rattle.defs_soar.specs.Goals.{selected_by_goal, selected_element};
 ghost use Rattle.defs_soar.specs.Held as meaning;

@@ -1,4 +1,4 @@
-// What the goals reach, and what goes since they do not reach it (Soar manual, support).
+// What the goals reach, and what goes since they do not reach it (Soar manual, chapter 2, support).
 ghost use Rattle.std.specs.Prelude.{◌≡◌, IfOk};
 ghost use Rattle.soar_settle.specs.Passes.{TellsReach};
 ghost use Rattle.soar_settle.specs.Reached as reached;

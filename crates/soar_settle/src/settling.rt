@@ -18,7 +18,7 @@ pub struct Pass {
 }
 
 /// Takes away the inputs that are not of the top level and then the rows that no goal reaches, and gives the
-/// triples that are held then and reached (Soar manual, support). One pass is enough.
+/// triples that are held then and reached (Soar manual, chapter 2, support). One pass is enough.
 pub fn settle(
     alloc: Global,
     goals: &List<Goal>,

@@ -11,7 +11,7 @@ use soar_sym::SymTable;
 use std::alloc::Global;
 use tree_parts::{Reader, Stop, Tree};
 
-/// Reads the tree that the tokens spell, all of them (Soar manual, production syntax), or tells the first token with which no production goes on.
+/// Reads the tree that the tokens spell, all of them (Soar manual, chapter 3, production syntax), or tells the first token with which no production goes on.
 /// The tokens of words and of variables must hold words of the table: neither identifiers nor integers.
 #[tactic(auto, unfolding(defs_read::specs::ReadingActions::tree_of))]
 pub fn read_tree(alloc: Global, table: &SymTable, tokens: &[Token]) -> Result<Tree, Stop>
