@@ -35,7 +35,7 @@ record IsRound (depth : ℕ) (left : List ℕ) (v : Wave) : Type 0 where
 one_done : (depth n : ℕ) (left : List ℕ) (v : Wave) → IsRound depth (n ∷ left) v → IsRound depth left v
 one_done depth n left v h = record { goes = h.goes; known = λ k i. h.known k (inr i); depths = λ f i j. h.depths f i (inr j) }
 
--- a learning_event about one of them
+-- a learning step about one of them
 lesson_done : (depth : ℕ) (left : List ℕ) (below : ℕ) (w v : Wave) → IsRound depth left w → below ≤ suc depth → IsTaught below w.next (fresh_firings w) w.last_firing v → IsRound depth left v
 lesson_done depth left below w v h few (keeps next firings last) = record {
   goes = record {

@@ -1,4 +1,4 @@
--- What a learning_event adds to a wave: nothing, or one firing, from which learning goes on where it is of a higher goal.
+-- What a learning step adds to a wave: nothing, or one firing, from which learning goes on where it is of a higher goal.
 use Rattle.std.proofs.Common.{◌≡◌, refl, sym, ◌∙◌, ap, ℕ, suc, nat_lt, cond, List, [], ◌∷◌, ◌++◌, length, map}
 use Rattle.soar_rule.specs.Productions.{ProductionOf}
 use Rattle.soar_sym.specs.declared.symbol.Sym.{Sym}
@@ -18,7 +18,7 @@ use Rattle.learning_laws.proofs.JoinLaws.{fresh_more, fresh_told}
 use Rattle.learning_laws.proofs.LearnedRuleLaws.{firings_same}
 use Rattle.learning_laws.proofs.WorkLaws.{map_both}
 
--- a wave after a learning_event about a firing of this depth, where these were the numbers to go on with, the firings, and the last number
+-- a wave after a learning step about a firing of this depth, where these were the numbers to go on with, the firings, and the last number
 pub data IsTaught (depth : ℕ) (next : List ℕ) (firings : List FiringOf) (last : ℕ) (v : Wave) : Type 0 where
   keeps : v.next ≡ next → fresh_firings v ≡ firings → v.last_firing ≡ last → IsTaught depth next firings last v
   joins : (f : FiringOf) → fresh_firings v ≡ firings ++ f ∷ [] → f.number ≡ suc last → v.last_firing ≡ suc last

@@ -7,7 +7,7 @@ use Rattle.defs_soar.specs.CandidateOf.{candidate_of}
 use Rattle.defs_soar.specs.CarriedTests.{carried_tests}
 use Rattle.defs_soar.specs.ConditionOrder.{ordered_grounds}
 use Rattle.defs_soar.specs.Cycle.{after_input, after_output, cycle, run}
-use Rattle.defs_soar.specs.Decision.{decided_by}
+use Rattle.defs_soar.specs.Decision.{decided_alone, decided_by}
 use Rattle.defs_soar.specs.Dependencies.{dependency_set}
 use Rattle.defs_soar.specs.Learning.{with_learning, without_learning}
 use Rattle.defs_soar.specs.Negations.{negations_taken_over}
@@ -21,5 +21,5 @@ use Rattle.defs_soar.specs.WaveFirings.{with_firings}
 use Rattle.defs_soar.specs.Waves.{wave_of}
 
 unfoldable pub computing : ℕ
-unfolding digits canonical general_form literal_form carried_tests ordered_grounds after_input after_output cycle run decided_by dependency_set with_learning without_learning negations_taken_over outcome_of candidate_of pending_in results_of trimmed resettled with_firings wave_of phase
+unfolding digits canonical general_form literal_form carried_tests ordered_grounds after_input after_output cycle run decided_by decided_alone dependency_set with_learning without_learning negations_taken_over outcome_of candidate_of pending_in results_of trimmed resettled with_firings wave_of phase
 computing = 0

@@ -5,7 +5,6 @@ use Rattle.soar_rule.specs.Repeat.{Turn, ends, goes_on, turns}
 use Rattle.soar_wm.specs.WorkingMemory.{triple_of}
 use Rattle.defs_soar.specs.Agents.{Agent, Queued}
 use Rattle.defs_soar.specs.Architecture.{output_identifier}
-use Rattle.defs_soar.specs.Decision.{decided_by}
 use Rattle.defs_soar.specs.Events.{Part, input_phase, proposal_phase, application_phase, output_phase, Event, begins, is_cut, shows_no_longer, shows, halts}
 use Rattle.defs_soar.specs.Goals.{goal_ids, is_goal}
 use Rattle.defs_soar.specs.Levels.{reached_from}
@@ -85,8 +84,9 @@ then_phase end part proposing c = let p = phase end proposing c.agent in cut_lin
 abbrev pub unless_halted : (Course → Course) → Course → Course
 unless_halted f c = elim (c.agent.halted) [ true ↦ c | false ↦ f c ]
 
-abbrev pub then_decision : Course → Course
-then_decision c = then_step c (decided_by c.agent)
+-- how an agent decides is an argument, so that a stage may do without substates
+abbrev pub then_decision : (Agent → AgentStep) → Course → Course
+then_decision deciding c = then_step c (deciding c.agent)
 
 abbrev pub then_application : WaveEnd → Course → Course
 then_application end c = then_phase end application_phase false c
@@ -97,17 +97,17 @@ then_output c = then_step c (after_output c.agent)
 -- ---- the cycle
 
 -- after a halt the phases before output are left out
-unfoldable pub cycle : WaveEnd → Agent → Course
-cycle end a =
-    then_output (unless_halted (then_application end) (unless_halted then_decision (then_phase end proposal_phase true (then_step (still a) (after_input a)))))
+unfoldable pub cycle : (Agent → AgentStep) → WaveEnd → Agent → Course
+cycle deciding end a =
+    then_output (unless_halted (then_application end) (unless_halted (then_decision deciding) (then_phase end proposal_phase true (then_step (still a) (after_input a)))))
 
-abbrev pub one_cycle : WaveEnd → Course → Turn Course
-one_cycle end c = elim (c.agent.halted) [ true ↦ ends c | false ↦ goes_on (then_course c (cycle end c.agent)) ]
+abbrev pub one_cycle : (Agent → AgentStep) → WaveEnd → Course → Turn Course
+one_cycle deciding end c = elim (c.agent.halted) [ true ↦ ends c | false ↦ goes_on (then_course c (cycle deciding end c.agent)) ]
 
 abbrev pub course_of : Turn Course → Course
 course_of (ends c) = c
 course_of (goes_on c) = c
 
 -- so many cycles, or until the agent halts
-unfoldable pub run : WaveEnd → ℕ → Agent → Course
-run end n a = course_of (turns n (one_cycle end) (still a))
+unfoldable pub run : (Agent → AgentStep) → WaveEnd → ℕ → Agent → Course
+run deciding end n a = course_of (turns n (one_cycle deciding end) (still a))

@@ -94,3 +94,16 @@ after_walk a w = elim (w.decided) [
 
 unfoldable pub decided_by : Agent → AgentStep
 decided_by a = after_walk a (walked (view_of a) None a.holding.goals)
+
+-- ---- without substates
+
+-- an impasse ends the selection and makes no substate, and an operator that nothing changes goes on
+abbrev pub after_walk_alone : Agent → Walked → AgentStep
+after_walk_alone a w = elim (w.decided) [
+  | selects_operator operator takes ↦ after_selection a w.goals operator takes
+  | meets why items ↦ with_decision [] (resettled a (cut_below a w.goals))
+]
+
+-- the decision of an agent that makes no substates
+unfoldable pub decided_alone : Agent → AgentStep
+decided_alone a = after_walk_alone a (walked (view_of a) None a.holding.goals)

@@ -15,7 +15,7 @@ use Rattle.defs_soar.specs.Architecture.{link_letter}
 use Rattle.defs_soar.specs.Functions.{Computed, gives, spells, fails, computed}
 use Rattle.defs_soar.specs.Limits.{Total, identifiers_to, words_to}
 
--- what the variables stand for, the table of words, the letters, the names of variables, and what was totals so far
+-- what the variables stand for, the table of words, the letters, the names of variables, and the totals so far
 pub record Naming : Type 0 where
   pub bindings : Bindings
   pub words : Texts

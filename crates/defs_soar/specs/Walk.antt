@@ -62,7 +62,7 @@ abbrev pub renewed : Option (List Item) → Goal → Goal
 renewed None goal = goal
 renewed (Some items) goal = record goal { items = items }
 
--- At each goal a selected operator that is left stays, and the walk goes on below it. Else an operator that is left is totals.
+-- At each goal a selected operator that is left stays, and the walk goes on below it. Else one of those that are left is drawn.
 -- Where none is left, the goal below stays if it has that impasse, with its items renewed.
 abbrev pub walked : View → Option (List Item) → List Goal → Walked
 walked v renewal [] = record { goals = []; decided = meets impasse.Top [] }

@@ -29,7 +29,7 @@ pub record Fresh : Type 0 where
   pub dropped : List Dropped
   pub text : List ℕ
 
--- a firing, or a learning_event without one
+-- a firing, or what learning told without one
 pub data Entry : Type 0 where
   fired : Fresh → Entry
   noted : LearningEvent → Entry

@@ -1,6 +1,6 @@
 use soar_sym::{List, Sym};
 
-/// How a candidate is totals where several are left (Soar manual, chapter 9, indifferent selection; whole numbers are this engine's).
+/// How a candidate is drawn where several are left (Soar manual, chapter 9, indifferent selection; whole numbers are this engine's).
 #[derive(Clone, Copy, PartialEq, Eq)]
 pub enum Mode {
     First,

@@ -19,7 +19,7 @@ use Rattle.defs_soar.specs.CandidateOf.{candidate_of}
 use Rattle.defs_soar.specs.CarriedTests.{carried_tests}
 use Rattle.defs_soar.specs.ConditionOrder.{ordered_grounds}
 use Rattle.defs_soar.specs.Cycle.{after_input, after_output, cycle, run}
-use Rattle.defs_soar.specs.Decision.{decided_by}
+use Rattle.defs_soar.specs.Decision.{decided_alone, decided_by}
 use Rattle.defs_soar.specs.Dependencies.{dependency_set}
 use Rattle.defs_soar.specs.Learning.{with_learning, without_learning}
 use Rattle.defs_soar.specs.Negations.{negations_taken_over}
@@ -39,5 +39,5 @@ use Rattle.defs_run.specs.Whole.{whole_transcript}
 use Rattle.defs_run.specs.WholeReading.{read_whole}
 
 unfoldable pub computing : ℕ
-unfolding encode_utf8 digits is_utf8 chars utf8_valid_len cuts_of canonical ordered taken_in_order lexed production_of production_text tree_of part_at term_at general_form literal_form carried_tests ordered_grounds after_input after_output cycle run decided_by dependency_set with_learning without_learning negations_taken_over outcome_of candidate_of pending_in results_of chain_lines pieces_of trimmed resettled with_firings wave_of phase script_of obeyed whole_transcript read_whole
+unfolding encode_utf8 digits is_utf8 chars utf8_valid_len cuts_of canonical ordered taken_in_order lexed production_of production_text tree_of part_at term_at general_form literal_form carried_tests ordered_grounds after_input after_output cycle run decided_by decided_alone dependency_set with_learning without_learning negations_taken_over outcome_of candidate_of pending_in results_of chain_lines pieces_of trimmed resettled with_firings wave_of phase script_of obeyed whole_transcript read_whole
 computing = 0

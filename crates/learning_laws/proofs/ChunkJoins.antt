@@ -1,4 +1,4 @@
--- A chunk that joins keeps a wave lawful; so each learning_event does.
+-- A chunk that joins keeps a wave lawful; so each learning step does.
 use Rattle.std.proofs.Common.{◌≡◌, refl, sym, ◌∙◌, ap, subst, ℕ, suc, ◌≤◌, ◌<◌, Bool, true, false, ◌&&◌, inl, inr, arith, List, [], ◌++◌, length, flat_map}
 use Rattle.std.specs.Prelude.{not}
 use Rattle.soar_sym.specs.Equality.{symbol_eq}
@@ -237,7 +237,7 @@ module _ (a : Agent) (w : Wave) (x : Fresh) (h : IsLawfulAgent a) (k : IsLawfulW
   pub chunk_joins : IsLawfulWave a (with_chunk m l (named_form words (general_form words c depth)) (ordered_grounds words c.grounds) named)
   chunk_joins = joining_keeps a l production taken (identifiers_of taken) (λ number tags. learns number name l.explained.number tags) counted h counted_lawful joining
 
--- each learning_event keeps a wave lawful
+-- each learning step keeps a wave lawful
 pub learning_steps_keep : LearningStepsKeep
 learning_steps_keep a w x h k i =
     go (outcome_at (before_wave a) (explained_in a w x.firing) w) refl

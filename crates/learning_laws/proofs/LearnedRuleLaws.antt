@@ -1,4 +1,4 @@
--- Words that join the table keep a wave lawful, and so do a learning_event without a rule, and doing without learning.
+-- Words that join the table keep a wave lawful, and so do a learning step without a rule, and doing without learning.
 use Rattle.std.proofs.Common.{◌≡◌, refl, sym, ◌∙◌, ap, subst, ℕ, ◌+◌, ◌≤◌, ◌<◌, Bool, true, false, ◌==◌, nat_lt, cond, inl, inr, arith, List, [], ◌∷◌, ◌++◌, length, map, length-append}
 use Rattle.soar_sym.specs.Letters.{last_of}
 use Rattle.soar_wm.specs.declared.element.Element.{Element}

@@ -17,7 +17,7 @@ use Rattle.defs_soar.specs.WaveAtHand.{all_fresh, Fresh, Wave, WaveEnd}
 use Rattle.defs_soar.specs.WaveFirings.{first_wave, before_wave, with_firings}
 use Rattle.defs_soar.specs.Waves.{wave_of, worked}
 use Rattle.learning_laws.specs.LawfulAgents.{IsLawfulAgent}
-use Rattle.learning_laws.specs.LawfulWaves.{IsLawfulWave, KeepsWaves, LearningKeeps, explained_in, LearningStepsKeep, PhasesKeep, RunsKeep, WavesKeep}
+use Rattle.learning_laws.specs.LawfulWaves.{IsLawfulWave, KeepsAgents, KeepsWaves, LearningKeeps, explained_in, LearningStepsKeep, PhasesKeep, RunsKeep, WavesKeep}
 use Rattle.learning_laws.proofs.ChunkJoins.{learning_steps_keep}
 use Rattle.learning_laws.proofs.DecideLaws.{decision_keeps}
 use Rattle.learning_laws.proofs.FoundedLaws.{input_keeps, output_keeps}
@@ -25,7 +25,7 @@ use Rattle.learning_laws.proofs.FiringsLaws.{all_firings_keep}
 use Rattle.learning_laws.proofs.Lists.{filter_within}
 use Rattle.learning_laws.proofs.WorkLaws.{work_keeps}
 
--- ---- learning, learning_event by learning_event
+-- ---- learning, step by step
 
 others_same : (a : Agent) (w : Wave) (next : List ℕ) → IsLawfulWave a w → IsLawfulWave a (record w { next = next })
 others_same a w next k = record { founded = k.founded; wishes = k.wishes; counted = k.counted; later = k.later; explains = k.explains; can = k.can }
@@ -72,7 +72,7 @@ turns_lawful step keeps (suc n) c h = go (step c) (keeps c h) (turns_lawful step
     go (ends b) k later = k
     go (goes_on b) k later = later b k
 
-module _ (end : WaveEnd) (keeps : KeepsWaves end) where
+module _ (deciding : Agent → AgentStep) (end : WaveEnd) (decides : KeepsAgents deciding) (keeps : KeepsWaves end) where
   wave_lawful : (proposing : Bool) (a : Agent) → IsLawfulAgent a → IsLawfulAgent (wave_of end a (pending proposing a)).agent
   unfolding wave_of
   wave_lawful proposing a h =
@@ -115,39 +115,39 @@ module _ (end : WaveEnd) (keeps : KeepsWaves end) where
       go true = h
       go false = keeps c h
 
-  cycle_lawful : (a : Agent) → IsLawfulAgent a → IsLawfulAgent (cycle end a).agent
+  cycle_lawful : (a : Agent) → IsLawfulAgent a → IsLawfulAgent (cycle deciding end a).agent
   unfolding cycle
   cycle_lawful a h =
       let input = then_step (still a) (after_input a) in
       let proposed = then_phase end proposal_phase true input in
-      let decided = unless_halted then_decision proposed in
+      let decided = unless_halted (then_decision deciding) proposed in
       let applied = unless_halted (then_application end) decided in
       let h1 = step_lawful (after_input a) (input_keeps a h) in
       let h2 = then_phase_lawful proposal_phase true input h1 in
-      let h3 = unless_lawful then_decision (λ c k. step_lawful (decided_by c.agent) (decision_keeps c.agent k)) proposed h2 in
+      let h3 = unless_lawful (then_decision deciding) (λ c k. step_lawful (deciding c.agent) (decides c.agent k)) proposed h2 in
       let h4 = unless_lawful (then_application end) (λ c k. then_phase_lawful application_phase false c k) decided h3 in
       step_lawful (after_output applied.agent) (output_keeps applied.agent h4)
 
-  one_cycle_lawful : (c : Course) → IsLawfulAgent c.agent → TurnLawful (one_cycle end c)
+  one_cycle_lawful : (c : Course) → IsLawfulAgent c.agent → TurnLawful (one_cycle deciding end c)
   one_cycle_lawful c h = go (c.agent.halted)
     where
-      go : (b : Bool) → TurnLawful (elim b [ true ↦ ends c | false ↦ goes_on (then_course c (cycle end c.agent)) ])
+      go : (b : Bool) → TurnLawful (elim b [ true ↦ ends c | false ↦ goes_on (then_course c (cycle deciding end c.agent)) ])
       go true = h
       go false = cycle_lawful c.agent h
 
-  run_lawful : (n : ℕ) (a : Agent) → IsLawfulAgent a → IsLawfulAgent (run end n a).agent
+  run_lawful : (n : ℕ) (a : Agent) → IsLawfulAgent a → IsLawfulAgent (run deciding end n a).agent
   unfolding run
-  run_lawful n a h = go (turns n (one_cycle end) (still a)) (turns_lawful (one_cycle end) one_cycle_lawful n (still a) h)
+  run_lawful n a h = go (turns n (one_cycle deciding end) (still a)) (turns_lawful (one_cycle deciding end) one_cycle_lawful n (still a) h)
     where
       go : (t : Turn Course) → TurnLawful t → IsLawfulAgent (course_of t).agent
       go (ends c) k = k
       go (goes_on c) k = k
 
 pub waves_keep : WavesKeep
-waves_keep end keeps a proposing h = wave_lawful end keeps proposing a h
+waves_keep end keeps a proposing h = wave_lawful decided_by end decision_keeps keeps proposing a h
 
 pub phases_keep : PhasesKeep
-phases_keep end keeps a proposing h = phase_lawful end keeps proposing a h
+phases_keep end keeps a proposing h = phase_lawful decided_by end decision_keeps keeps proposing a h
 
 pub runs_keep : RunsKeep
-runs_keep end keeps n a h = run_lawful end keeps n a h
+runs_keep deciding end decides keeps n a h = run_lawful deciding end decides keeps n a h

@@ -1,4 +1,4 @@
--- What a firing of a lawful wave teaches is a learning_event.
+-- What a firing of a lawful wave teaches is a learning step.
 use Rattle.std.proofs.Common.{◌≡◌, refl, sym, ◌∙◌, ap, subst, ℕ, ◌≤◌, ◌<◌, true, false, ◌&&◌, inl, inr, ◌⊎◌, arith, List, [], ◌∷◌, ◌++◌, length, map, flat_map, filter}
 use Rattle.std.specs.List.{list_any}
 use Rattle.soar_sym.specs.Letters.{last_of}

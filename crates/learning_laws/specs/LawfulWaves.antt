@@ -15,6 +15,7 @@ use Rattle.defs_soar.specs.LearnedFirings.{ExplainedFiring, without_rule}
 use Rattle.defs_soar.specs.Outcome.{chunked}
 use Rattle.defs_soar.specs.Pending.{firable_of, is_justification, pending}
 use Rattle.defs_soar.specs.Phases.{phase}
+use Rattle.defs_soar.specs.Resettling.{AgentStep}
 use Rattle.defs_soar.specs.Results.{results_of}
 use Rattle.defs_soar.specs.LearnedRules.{after_explanation, with_names}
 use Rattle.defs_soar.specs.Uses.{all_uses}
@@ -54,7 +55,7 @@ AllFiringsKeep = (a : Agent) (proposing : Bool) → IsLawfulAgent a → IsLawful
 abbrev pub WorkKeeps : Type 0
 WorkKeeps = (a : Agent) (gone : List LiveFiring) (w : Wave) → IsLawfulAgent a → IsLawfulWave a w → IsLawfulAgent (after_work a gone w).agent
 
--- what a firing of a lawful wave teaches at any time in it, where the outcome is a chunk, is a learning_event: so the chunk goes again
+-- what a firing of a lawful wave teaches at any time in it, where the outcome is a chunk, is a learning step: so the chunk goes again
 abbrev pub explained_in : Agent → Wave → FiringOf → ExplainedFiring
 explained_in a w f = explained_on (before_wave a) f (results_of w.names.words (reach_of a) a.holding.rows f)
 
@@ -68,13 +69,13 @@ ChunksOfWavesGoAgain =
     (a : Agent) (w : Wave) (x : Fresh) → IsLawfulAgent a → IsLawfulWave a w → IsIn x (all_fresh w.entries) → outcome_at (before_wave a) (explained_in a w x.firing) w ≡ chunked
     → a.settings.local_negations ≡ false → LearnsChunk (before_wave a) (explained_in a w x.firing) w (after_explanation (before_wave a) (explained_in a w x.firing) w)
 
--- ---- each learning_event keeps a wave lawful; so learning does, and a wave, a phase and a run keep an agent lawful
+-- ---- each learning step keeps a wave lawful; so learning does, and a wave, a phase and a run keep an agent lawful
 
 abbrev pub LearningStepsKeep : Type 0
 LearningStepsKeep =
     (a : Agent) (w : Wave) (x : Fresh) → IsLawfulAgent a → IsLawfulWave a w → IsIn x (all_fresh w.entries) → IsLawfulWave a (after_explanation (before_wave a) (explained_in a w x.firing) w)
 
--- two parts of it: words that join the table keep a wave lawful, and so does a learning_event without a rule
+-- two parts of it: words that join the table keep a wave lawful, and so does a learning step without a rule
 abbrev pub NamesKeep : Type 0
 NamesKeep = (a : Agent) (w : Wave) (texts : List (List ℕ)) → IsLawfulWave a w → IsLawfulWave a (with_names texts w)
 
@@ -98,5 +99,9 @@ WavesKeep = (end : WaveEnd) → KeepsWaves end → (a : Agent) (proposing : Bool
 abbrev pub PhasesKeep : Type 0
 PhasesKeep = (end : WaveEnd) → KeepsWaves end → (a : Agent) (proposing : Bool) → IsLawfulAgent a → IsLawfulAgent (phase end proposing a).course.agent
 
+-- a way to deciding that keeps an agent lawful
+abbrev pub KeepsAgents : (Agent → AgentStep) → Type 0
+KeepsAgents deciding = (a : Agent) → IsLawfulAgent a → IsLawfulAgent (deciding a).agent
+
 abbrev pub RunsKeep : Type 0
-RunsKeep = (end : WaveEnd) → KeepsWaves end → (n : ℕ) (a : Agent) → IsLawfulAgent a → IsLawfulAgent (run end n a).agent
+RunsKeep = (deciding : Agent → AgentStep) (end : WaveEnd) → KeepsAgents deciding → KeepsWaves end → (n : ℕ) (a : Agent) → IsLawfulAgent a → IsLawfulAgent (run deciding end n a).agent

@@ -49,7 +49,7 @@ obeys_same mid first second new before after (Err (stop.Limit limit)) same r = r
 }
 obeys_same mid first second new before after (Err stop.NoMemory) same r = tt
 
--- what is totals within its limits tells nothing
+-- totals within their limits tell nothing
 pub drawn_same : (totals : List Total) (reply : Reply) → first_passed totals ≡ None → IsSame (draws totals reply) reply
 drawn_same totals reply none = record {
   session = refl;
@@ -64,7 +64,7 @@ words_fit count few = ap (λ o. or_limit o None) (not_passed count which.Words (
 pub words_spent : (count : ℕ) → 2 ^ 32 - 1 < count → first_passed (words_to count ∷ []) ≡ Some which.Words
 words_spent count many = ap (λ o. or_limit o None) (is_passed count which.Words (omega (arith, many)))
 
--- nothing is done where what is totals first limit_passed a limit
+-- nothing is done where the first total passes its limit
 pub drawn_stops : (mid : Bool) (totals : List Total) (reply : Reply) (new : SessionKept) (said : List ℕ) (limit : Which) → first_passed totals ≡ Some limit → new.mid_line ≡ mid
     → Obeys mid (draws totals reply) new said said (Err (stop.Limit limit))
 drawn_stops mid totals reply new said limit passed same =

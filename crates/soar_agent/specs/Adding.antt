@@ -32,7 +32,7 @@ adds_labelled id attr name s = unless_twice (spelled_by id attr (labelled s name
 abbrev pub adds_triple : Triple → Session → Carried
 adds_triple t s = unless_twice (record { session = s; triple = t; totals = [] })
 
--- what is totals for it, and the inputs with it
+-- the totals that it comes to, and the inputs with it
 abbrev pub puts : Spelled → Reply
 puts t = draws t.totals (with_inputs (t.session.agent.holding.inputs ++ t.triple ∷ []) t.session)
 

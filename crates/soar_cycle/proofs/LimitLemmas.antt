@@ -1,4 +1,4 @@
--- Whether a number that is totals limit_passed its limit.
+-- Whether a total passes its limit.
 use Rattle.std.proofs.Common.{◌≡◌, ℕ, ◌<◌, ◌≤◌, ◌∙◌, Bool, true, false, nat_lt, List, ◌∷◌, ◌++◌, Option, Some, None, cond, refl, sym, ap, arith}
 use Rattle.defs_soar.specs.declared.limit.Which.{Which}
 use Rattle.defs_soar.specs.Limits.{Total, limit_of, limit_passed, or_limit, passed_by, first_passed}

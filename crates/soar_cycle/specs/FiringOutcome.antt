@@ -1,4 +1,4 @@
--- Firing in turn as the code does it: it stops at the first limit, where the definition goes on and notes what was totals.
+-- Firing in turn as the code does it: it stops at the first limit, where the definition goes on and notes the totals.
 use Rattle.std.specs.Prelude.{◌≡◌, ℕ, suc, Bool, false, ◌||◌, nat_lt, List, [], ◌∷◌, ◌++◌, map, flat_map, Option, Some, None, Result, Ok, Err, if◌then◌else◌}
 use Rattle.soar_sym.specs.Words.{Texts}
 use Rattle.soar_wm.specs.declared.element.Element.{Element}

@@ -1,4 +1,4 @@
--- Firing as the code does it: it stops at the first limit, where the definition goes on and notes what was totals.
+-- Firing as the code does it: it stops at the first limit, where the definition goes on and notes the totals.
 use Rattle.std.specs.Prelude.{◌≡◌, ℕ, ◌+◌, nat_lt, List, [], ◌∷◌, ◌++◌, length, Option, Some, None, Result, Ok, Err, if◌then◌else◌}
 use Rattle.soar_sym.specs.Letters.{last_of, with_last}
 use Rattle.soar_sym.specs.Words.{Texts, with_text}
