@@ -52,7 +52,7 @@ pub values_scored : (rows : List Preference) (xs : List Sym) → values_left (al
 values_scored rows [] = refl
 values_scored rows (x ∷ xs) = ap (λ ys. x ∷ ys) (values_scored rows xs)
 
-left_among : (rows : List Preference) (values : List Sym) (left : List Scored) → among rows values ≡ choice.Left left → all_scored rows values ≡ left
+pub left_among : (rows : List Preference) (values : List Sym) (left : List Scored) → among rows values ≡ choice.Left left → all_scored rows values ≡ left
 left_among rows [] left e = cc
 left_among rows (a ∷ []) left e = cc
 left_among rows (a ∷ b ∷ values) left e = by (all_indifferent rows (a ∷ b ∷ values)) (all_scored rows (a ∷ b ∷ values)) e

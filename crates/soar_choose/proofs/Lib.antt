@@ -6,4 +6,5 @@ mod RisingLemmas
 mod RowLemmas
 mod SameChoiceLemmas
 mod ShuffleLemmas
+mod SumLemmas
 mod SymbolOrderLemmas

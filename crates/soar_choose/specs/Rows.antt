@@ -1,11 +1,13 @@
 -- What is owed for rows and candidates.
-use Rattle.std.specs.Prelude.{ℕ, ◌<◌, ◌≤◌, ℤ, pos, neg_ℤ, ◌≤ℤ◌, List, [], ◌∷◌, Option, Some, None}
+use Rattle.std.specs.Prelude.{ℕ, ◌<◌, ◌≤◌, ℤ, pos, neg_ℤ, ◌≤ℤ◌, List, [], ◌∷◌, length, Option, Some, None}
 use Rattle.soar_sym.specs.Words.{Texts, IsKnown}
 use Rattle.soar_sym.specs.declared.symbol.Sym.{Sym}
 use Rattle.soar_sym.specs.declared.symbol.Sym.TheVariants.{Int}
 use Rattle.defs_soar.specs.declared.preference.PrefKind.{PrefKind}
 use Rattle.defs_soar.specs.declared.preference.PrefKind.TheVariants as kind
 use Rattle.defs_soar.specs.declared.preference.Preference.{Preference}
+use Rattle.defs_soar.specs.declared.choice.Choice.{Choice}
+use Rattle.defs_soar.specs.declared.choice.Choice.TheVariants as choice
 use Rattle.defs_soar.specs.declared.choice.Mode.{Mode}
 use Rattle.defs_soar.specs.declared.choice.Mode.TheVariants as mode
 use Rattle.defs_soar.specs.declared.choice.Scored.{Scored}
@@ -35,6 +37,16 @@ AreInRange (row ∷ rows) = IsNumberInRange row.wish.kind row.wish.referent × A
 abbrev pub AreSumsWithin : List Scored → Type 0
 AreSumsWithin [] = Unit {0}
 AreSumsWithin (s ∷ left) = IsWithin 1000000000000000 s.sum × AreSumsWithin left
+
+-- ---- what a choice gives to a draw
+
+abbrev pub AreLeftWithin : Choice → Type 0
+AreLeftWithin (choice.Left left) = AreSumsWithin left
+AreLeftWithin other = Unit {0}
+
+abbrev pub IsSomeLeft : Choice → Type 0
+IsSomeLeft (choice.Left left) = 0 < length left
+IsSomeLeft other = Unit {0}
 
 -- a probability of at most 1
 abbrev pub IsFraction : Mode → Type 0

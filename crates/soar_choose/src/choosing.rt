@@ -1,7 +1,7 @@
 ghost use Rattle.std.specs.Prelude.{◌≡◌, ◌≤◌, ◌||◌, not, filter, length, IfOk};
 ghost use Rattle.std.specs.List.{list_all};
 ghost use Rattle.defs_soar.specs.Choice.{choice_of, candidates as candidates_of, has_kind as has_kind_of, all_scored as all_scored_of, beats as beats_of, is_beaten as is_beaten_of, unbeaten as unbeaten_of, if_some as if_some_of, best_of as best_of_rows, without_worst as without_worst_of, is_indifferent_alone as is_indifferent_alone_of, are_indifferent as are_indifferent_of, all_indifferent as all_indifferent_of, among as among_of, among_unbeaten as among_unbeaten_of, among_candidates as among_candidates_of};
-ghost use Rattle.soar_choose.specs.Rows.{AreKnown, AreInRange};
+ghost use Rattle.soar_choose.specs.Rows.{AreKnown, AreInRange, AreLeftWithin, AreSumsWithin, IsSomeLeft};
 
 use crate::rows::{has_kind, says_of, scored};
 use crate::values::values_of;
@@ -10,11 +10,14 @@ use soar_sym::{List, NoMemory, Sym, SymTable, is_symbol};
 use std::alloc::Global;
 
 /// What the rows of a slot leave, or the impasse that they give, in symbol order (Soar manual, chapter 2, preference semantics).
+#[tactic(auto, using(crate::proofs::SumLemmas::some_left))]
 pub fn choose(alloc: Global, table: &SymTable, rows: &List<Preference>) -> Result<Choice, NoMemory>
     requires known { AreKnown table.now rows.now }
     requires few { length rows.now ≤ 1000000 }
     requires range { AreInRange rows.now }
-    ensures { IfOk result (λ choice. choice ≡ choice_of table.now rows.now) }
+    ensures choice { IfOk result (λ choice. choice ≡ choice_of table.now rows.now) }
+    ensures some { IfOk result (λ choice. IsSomeLeft choice) }
+    ensures sums { IfOk result (λ choice. AreLeftWithin choice) }
 {
     let rows = rows.as_slice();
     let required = values_of(alloc, table, PrefKind::Require, rows)?;
@@ -59,7 +62,8 @@ fn among_candidates(
 ) -> Result<Choice, NoMemory>
     requires few { length rows.now ≤ 1000000 }
     requires range { AreInRange rows.now }
-    ensures { IfOk result (λ choice. choice ≡ among_candidates_of rows.now candidates.now) }
+    ensures choice { IfOk result (λ choice. choice ≡ among_candidates_of rows.now candidates.now) }
+    ensures sums { IfOk result (λ choice. AreLeftWithin choice) }
 {
     if candidates.is_empty() {
         return Ok(Choice::NoCandidate);
@@ -77,7 +81,8 @@ fn among_unbeaten(
 ) -> Result<Choice, NoMemory>
     requires few { length rows.now ≤ 1000000 }
     requires range { AreInRange rows.now }
-    ensures { IfOk result (λ choice. choice ≡ among_unbeaten_of rows.now candidates.now values.items) }
+    ensures choice { IfOk result (λ choice. choice ≡ among_unbeaten_of rows.now candidates.now values.items) }
+    ensures sums { IfOk result (λ choice. AreLeftWithin choice) }
 {
     if values.is_empty() {
         return Ok(Choice::Conflict(all_scored(alloc, rows, candidates)?));
@@ -91,7 +96,8 @@ fn among_unbeaten(
 fn among(alloc: Global, rows: &[Preference], values: &[Sym]) -> Result<Choice, NoMemory>
     requires few { length rows.now ≤ 1000000 }
     requires range { AreInRange rows.now }
-    ensures { IfOk result (λ choice. choice ≡ among_of rows.now values.now) }
+    ensures choice { IfOk result (λ choice. choice ≡ among_of rows.now values.now) }
+    ensures sums { IfOk result (λ choice. AreLeftWithin choice) }
 {
     let all = all_scored(alloc, rows, values)?;
     if all_indifferent(rows, values) {
@@ -105,7 +111,8 @@ fn among(alloc: Global, rows: &[Preference], values: &[Sym]) -> Result<Choice, N
 fn all_scored(alloc: Global, rows: &[Preference], values: &[Sym]) -> Result<List<Scored>, NoMemory>
     requires few { length rows.now ≤ 1000000 }
     requires range { AreInRange rows.now }
-    ensures { IfOk result (λ all. all ≡ all_scored_of rows.now values.now) }
+    ensures scored { IfOk result (λ all. all ≡ all_scored_of rows.now values.now) }
+    ensures sums { IfOk result (λ all. AreSumsWithin all) }
 {
     let mut all = List::new(alloc);
     'values: for value in values {

@@ -63,7 +63,8 @@ fn number_in_row(row: &Preference, value: Sym) -> i64
 fn sum_of(rows: &[Preference], value: Sym) -> i64
     requires few { length rows.now ≤ 1000000 }
     requires range { AreInRange rows.now }
-    ensures { result ≡ sum_of_rows rows.now value }
+    ensures sum { result ≡ sum_of_rows rows.now value }
+    ensures within { IsWithin 1000000000000000 result }
 {
     let mut sum = 0;
     'rows: for row in rows {
@@ -76,7 +77,8 @@ fn sum_of(rows: &[Preference], value: Sym) -> i64
 pub(crate) fn scored(rows: &[Preference], value: Sym) -> Scored
     requires few { length rows.now ≤ 1000000 }
     requires range { AreInRange rows.now }
-    ensures { result ≡ scored_of rows.now value }
+    ensures scored { result ≡ scored_of rows.now value }
+    ensures within { IsWithin 1000000000000000 result.sum }
 {
     Scored {
         value,

@@ -1,0 +1,4 @@
+mod DrawnLemmas
+mod MakerLemmas
+mod SlotLemmas
+mod TagLemmas
