@@ -9,13 +9,14 @@ use Rattle.defs_soar.specs.declared.firing.How.TheVariants as how
 use Rattle.defs_soar.specs.declared.firing.Used.{Used}
 use Rattle.defs_soar.specs.declared.goal.Goal.{Goal}
 use Rattle.defs_soar.specs.declared.goal.Item.{Item}
+use Rattle.defs_soar.specs.declared.goal.Selection.{Selection}
 use Rattle.defs_soar.specs.declared.preference.Preference.{Preference}
 use Rattle.defs_soar.specs.Architecture.{item_word}
 use Rattle.defs_soar.specs.Explanation.{maker_named}
 use Rattle.defs_soar.specs.Goals.{goal_elements}
 use Rattle.defs_soar.specs.Laws.{IsIn}
 use Rattle.defs_soar.specs.Levels.{is_level_one, level_in}
-use Rattle.defs_soar.specs.Uses.{all_uses, goal_selecting, is_above, item_in, item_uses, made_uses, marked_element, own_uses, used_as, uses_of}
+use Rattle.defs_soar.specs.Uses.{all_uses, is_above, item_in, item_uses, made_uses, marked_element, own_uses, selection_told, used_as, uses_of}
 use Rattle.defs_soar.specs.Values.{has_triple_among}
 use Rattle.defs_soar.specs.WaveAtHand.{BeforeWave}
 use Rattle.learning_laws.specs.Waves.{IsSettled}
@@ -23,7 +24,7 @@ use Rattle.learning_laws.proofs.Lists.{in_flat_map}
 use Rattle.learning_laws.proofs.UseLaws.{maker_makes, selecting}
 
 module _ (m : BeforeWave) (next depth : ℕ) (settled : IsSettled m next) (P : ℕ → Type 0) (of_rows : (row : Preference) → IsIn row m.rows → P row.firing)
-    (of_goals : (g : Goal) (s : Sym) → IsIn g m.reach.goals → g.selected ≡ Some s → P g.selected_by) where
+    (of_goals : (g : Goal) (s : Selection) → IsIn g m.reach.goals → g.selected ≡ Some s → P s.maker) where
   abbrev AreMakers : List Used → Type 0
   AreMakers us = (u : Used) → IsIn u us → (n : ℕ) → IsIn n (maker_named u) → P n
 
@@ -50,17 +51,17 @@ module _ (m : BeforeWave) (next depth : ℕ) (settled : IsSettled m next) (P : �
       go true false later = none_named e how.Architecture [] (λ n j. j) nothing
       go false b later = later
 
-  made_make : (e : Element) → IsIn e m.elements → is_level_one (level_in m.reach.goals m.reach.reached e.id) ≡ false → has_triple_among (goal_elements m.reach.goals) (triple_of e) ≡ false → (o : Option Goal)
-      → goal_selecting m.reach.goals e ≡ o → AreMakers (made_uses m.rows e o)
+  made_make : (e : Element) → IsIn e m.elements → is_level_one (level_in m.reach.goals m.reach.reached e.id) ≡ false → has_triple_among (goal_elements m.reach.goals) (triple_of e) ≡ false → (o : Option Selection)
+      → selection_told m.reach.goals e ≡ o → AreMakers (made_uses m.rows e o)
   made_make e i below own None s u (inl q) n j =
       let row = maker_makes m.rows e (settled.held e i (record { below = below; others = own; unselected = s })) in
       elim (subst (λ v. IsIn n (maker_named v)) (sym q) j) [ inl p ↦ subst P (row.3 ∙ p) (of_rows row.0 row.1) | inr z ↦ absurd z ]
   made_make e i below own None s u (inr z) n j = absurd z
-  made_make e i below own (Some g) s u (inl q) n j = absurd (subst (λ v. IsIn n (maker_named v)) (sym q) j)
-  made_make e i below own (Some g) s u (inr (inl q)) n j =
-      let k = selecting m.reach.goals e g s in
-      elim (subst (λ v. IsIn n (maker_named v)) (sym q) j) [ inl p ↦ subst P p (of_goals g e.value k.there k.selected) | inr z ↦ absurd z ]
-  made_make e i below own (Some g) s u (inr (inr z)) n j = absurd z
+  made_make e i below own (Some s) told u (inl q) n j = absurd (subst (λ v. IsIn n (maker_named v)) (sym q) j)
+  made_make e i below own (Some s) told u (inr (inl q)) n j =
+      let k = selecting m.reach.goals e s told in
+      elim (subst (λ v. IsIn n (maker_named v)) (sym q) j) [ inl p ↦ subst P p (of_goals k.goal s k.there k.selected) | inr z ↦ absurd z ]
+  made_make e i below own (Some s) told u (inr (inr z)) n j = absurd z
 
   uses_make : (e : Element) → IsIn e m.elements → AreMakers (uses_of m.reach m.rows depth e)
   uses_make e i = go (nat_lt depth 2 || is_above (level_in m.reach.goals m.reach.reached e.id) depth) refl (has_triple_among (goal_elements m.reach.goals) (triple_of e)) refl
@@ -75,10 +76,10 @@ module _ (m : BeforeWave) (next depth : ℕ) (settled : IsSettled m next) (P : �
           of false false x y z = grind arith
 
       go : (a : Bool) → (nat_lt depth 2 || is_above (level_in m.reach.goals m.reach.reached e.id) depth) ≡ a → (b : Bool) → has_triple_among (goal_elements m.reach.goals) (triple_of e) ≡ b
-          → AreMakers (cond a (used_as e how.Upper ∷ []) (cond b (own_uses e.id m.reach.goals e) (made_uses m.rows e (goal_selecting m.reach.goals e))))
+          → AreMakers (cond a (used_as e how.Upper ∷ []) (cond b (own_uses e.id m.reach.goals e) (made_uses m.rows e (selection_told m.reach.goals e))))
       go true p b q = none_named e how.Upper [] (λ n j. j) nothing
       go false p true q = own_make e.id m.reach.goals e
-      go false p false q = made_make e i (deep (level_in m.reach.goals m.reach.reached e.id) p) q (goal_selecting m.reach.goals e) refl
+      go false p false q = made_make e i (deep (level_in m.reach.goals m.reach.reached e.id) p) q (selection_told m.reach.goals e) refl
 
   -- of elements that are there
   pub makers_are_roots : (elements : List Element) → ((e : Element) → IsIn e elements → IsIn e m.elements) → AreMakers (all_uses m.reach m.rows depth elements)

@@ -2,10 +2,10 @@
 use Rattle.std.proofs.Common.{◌≡◌, refl, sym, subst, ℕ, zero, suc, true, inl, inr, List, [], ◌∷◌, ◌++◌, length, map, flat_map, Option, Some, None}
 use Rattle.std.specs.Prelude.{take, drop}
 use Rattle.std.specs.List.{list_all}
-use Rattle.soar_sym.specs.declared.symbol.Sym.{Sym}
 use Rattle.soar_rule.specs.Repeat.{Turn, ends, goes_on, turns}
 use Rattle.soar_wm.specs.declared.element.Element.{Element}
 use Rattle.defs_soar.specs.declared.goal.Goal.{Goal}
+use Rattle.defs_soar.specs.declared.goal.Selection.{Selection}
 use Rattle.defs_soar.specs.declared.preference.Preference.{Preference}
 use Rattle.defs_soar.specs.Agents.{Agent, LiveFiring}
 use Rattle.defs_soar.specs.Explanation.{explaining}
@@ -94,16 +94,16 @@ module _ (live : List LiveFiring) (rows : List Preference) (goals : List Goal) w
       in_right n (map (λ (l : LiveFiring). l.number) live) _ (in_right n (map (λ (row : Preference). row.firing) rows) (flat_map makers_of_goal goals) (in_flat_mapped makers_of_goal g n goals i j))
 
 -- the maker of a selection
-pub maker_selected : (g : Goal) (n : ℕ) → IsIn n (makers_of_goal g) → (s : Sym) × (g.selected ≡ Some s) × (g.selected_by ≡ n)
+pub maker_selected : (g : Goal) (n : ℕ) → IsIn n (makers_of_goal g) → (s : Selection) × (g.selected ≡ Some s) × (s.maker ≡ n)
 maker_selected g n i = go g.selected refl i
   where
-    go : (o : Option Sym) → g.selected ≡ o → IsIn n (elim o [ Some operator ↦ g.selected_by ∷ [] | None ↦ [] ]) → (s : Sym) × (g.selected ≡ Some s) × (g.selected_by ≡ n)
+    go : (o : Option Selection) → g.selected ≡ o → IsIn n (elim o [ Some selection ↦ selection.maker ∷ [] | None ↦ [] ]) → (s : Selection) × (g.selected ≡ Some s) × (s.maker ≡ n)
     go None q j = absurd j
     go (Some s) q (inl e) = (s, q, e)
     go (Some s) q (inr z) = absurd z
 
-pub selected_maker : (g : Goal) (s : Sym) → g.selected ≡ Some s → IsIn g.selected_by (makers_of_goal g)
-selected_maker g s q = subst (λ o. IsIn g.selected_by (elim o [ Some operator ↦ g.selected_by ∷ [] | None ↦ [] ])) (sym q) (inl refl)
+pub selected_maker : (g : Goal) (s : Selection) → g.selected ≡ Some s → IsIn s.maker (makers_of_goal g)
+selected_maker g s q = subst (λ o. IsIn s.maker (elim o [ Some selection ↦ selection.maker ∷ [] | None ↦ [] ])) (sym q) (inl refl)
 
 pub among_roots : (t before : Remains) → IsAmong t before → (n : ℕ) → IsIn n (roots_held t.live t.rows t.goals) → IsIn n (roots_held before.live before.rows before.goals)
 among_roots t before h =

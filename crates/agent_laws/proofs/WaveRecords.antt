@@ -60,7 +60,7 @@ module _ (a : Agent) (gone : List LiveFiring) (w : Wave) (h : IsLawfulAgent a) (
       let uses = k.explains x.0 x.1 in
       let u = in_flat_map maker_named n f.used j in
       makers_are_roots (before_wave a) _ x.0.firing.depth (lawful_agents_are_settled a h) (λ m. IsIn m (roots_of a)) (λ row r. root_of_row a.holding.live a.holding.rows a.holding.goals row r)
-      (λ g s r q. root_of_goal a.holding.live a.holding.rows a.holding.goals g r g.selected_by (selected_maker g s q))
+      (λ g s r q. root_of_goal a.holding.live a.holding.rows a.holding.goals g r s.maker (selected_maker g s q))
       uses.0 uses.1 u.0 (subst (IsIn u.0) (ap (λ (y : FiringOf). y.used) (sym x.2) ∙ uses.2) u.1) n u.2
 
   all_joined : IsPartOf (kept ++ fresh_firings w) (firings_of_history a ++ fresh_firings w) (numbers (fresh_firings w) ++ roots_of a)

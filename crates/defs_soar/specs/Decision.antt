@@ -66,7 +66,7 @@ after_selection a goals operator takes =
     with_decision (selection_events a goals operator) (resettled (record a { queues = without_words takes a.queues }) (cut_below a goals))
 
 abbrev pub new_goal : Sym → Impasse → List Item → Goal
-new_goal id why items = record { id = id; impasse = why; items = items; selected = None; selected_tag = 0; selected_by = 0 }
+new_goal id why items = record { id = id; impasse = why; items = items; selected = None }
 
 abbrev pub with_goal : Remains → Goal → Remains
 with_goal t goal = record t { goals = t.goals ++ goal ∷ [] }

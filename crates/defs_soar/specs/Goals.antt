@@ -8,6 +8,7 @@ use Rattle.defs_soar.specs.declared.goal.Impasse.{Impasse}
 use Rattle.defs_soar.specs.declared.goal.Impasse.TheVariants as impasse
 use Rattle.defs_soar.specs.declared.goal.Item.{Item}
 use Rattle.defs_soar.specs.declared.goal.Goal.{Goal}
+use Rattle.defs_soar.specs.declared.goal.Selection.{Selection}
 use Rattle.defs_soar.specs.Architecture.{io_identifier, input_identifier, output_identifier, io_word, input_link_word, output_link_word, state_word, nil_word, superstate_word, type_word, operator_word, impasse_word, choices_word, attribute_word, quiescence_word, t_word, item_word, item_count_word, non_numeric_word, non_numeric_count_word, tie_word, conflict_word, constraint_failure_word, no_change_word, multiple_word, none_word}
 use Rattle.defs_soar.specs.Sorted.{has_symbol}
 
@@ -84,9 +85,9 @@ abbrev pub goal_elements : List Goal → List Triple
 goal_elements [] = []
 goal_elements (top ∷ goals) = top_elements top.id ++ elements_below top.id goals
 
-abbrev pub selected_by_goal : Goal → Option Sym → List Triple
+abbrev pub selected_by_goal : Goal → Option Selection → List Triple
 selected_by_goal goal None = []
-selected_by_goal goal (Some operator) = plain_triple goal.id operator_word operator ∷ []
+selected_by_goal goal (Some selection) = plain_triple goal.id operator_word selection.operator ∷ []
 
 abbrev pub selected_element : Goal → List Triple
 selected_element goal = selected_by_goal goal goal.selected

@@ -24,7 +24,7 @@ use Rattle.defs_soar.specs.Limits.{words_to, counts_to}
 use Rattle.defs_soar.specs.Naming.{text_of_name}
 use Rattle.defs_soar.specs.Outcome.{Outcome, lost, blocked, groundless, justified, reused, chunked, outcome_of, has_grounds}
 use Rattle.defs_soar.specs.Results.{with_each_symbol}
-use Rattle.defs_soar.specs.Ungrounded.{ungrounded}
+use Rattle.defs_soar.specs.Ungrounded.{symbols_of_element, ungrounded}
 use Rattle.defs_soar.specs.Values.{is_identifier}
 use Rattle.defs_soar.specs.WaveAtHand.{BeforeWave, Wave}
 
@@ -46,7 +46,7 @@ free_number (suc k) words rules front n =
 
 -- the elements of conditions, and the identifiers that variables in them are bound to, in that order
 abbrev pub identifiers_of : List Element → List Sym
-identifiers_of elements = with_each_symbol [] (filter is_identifier (flat_map (λ e. e.id ∷ e.attr ∷ e.value ∷ []) elements))
+identifiers_of elements = with_each_symbol [] (filter is_identifier (flat_map symbols_of_element elements))
 
 abbrev pub with_joined_word : List ℕ → Wave → Wave
 with_joined_word text w =

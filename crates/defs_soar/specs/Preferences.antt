@@ -5,7 +5,12 @@ use Rattle.soar_sym.specs.Equality.{symbol_eq}
 use Rattle.soar_sym.specs.declared.symbol.Sym.{Sym}
 use Rattle.defs_soar.specs.declared.preference.PrefKind.TheVariants as kind
 use Rattle.defs_soar.specs.declared.preference.Preference.{Preference}
+use Rattle.defs_soar.specs.declared.preference.Wish.{Wish}
 use Rattle.defs_soar.specs.Values.{is_kind, wish_eq, same_triple}
+
+-- a firing's wish as a row, with operator support or with instance support
+abbrev pub as_row : ℕ → Bool → Wish → Preference
+as_row firing operator_support w = record { firing = firing; wish = w; operator_support = operator_support }
 
 -- an operator-supported row that differs in the firing alone is there already
 abbrev pub is_kept_already : List Preference → Preference → Bool

@@ -17,6 +17,7 @@ use Rattle.defs_soar.specs.Dependencies.{has_level, is_new_in, symbols_of_refere
 use Rattle.defs_soar.specs.Goals.{is_goal, plain_triple}
 use Rattle.defs_soar.specs.History.{Reach, FiringOf}
 use Rattle.defs_soar.specs.Levels.{level_in, same_length}
+use Rattle.defs_soar.specs.Preferences.{as_row}
 use Rattle.defs_soar.specs.Sorted.{has_symbol}
 use Rattle.defs_soar.specs.Uses.{is_above}
 use Rattle.defs_soar.specs.Values.{is_identifier, is_kind, same_triple}
@@ -67,12 +68,12 @@ each_triple_once words (row ∷ rows) = with_closure_row words row (each_triple_
 
 -- ---- the results
 
-abbrev pub as_row : FiringOf → Wish → Preference
-as_row f w = record { firing = f.number; wish = w; operator_support = false }
+abbrev pub result_row : FiringOf → Wish → Preference
+result_row f w = as_row f.number false w
 
 -- the acceptable rows that may hang on a result: those before the wave, and the firing's own
 abbrev pub rows_seen : List Preference → FiringOf → List Preference
-rows_seen rows f = rows ++ map (as_row f) f.made
+rows_seen rows f = rows ++ map (result_row f) f.made
 
 -- the rows that hang on the results of a firing
 abbrev pub closure_of : Texts → Reach → List Preference → FiringOf → List Preference
@@ -82,7 +83,7 @@ closure_of words before rows f =
 
 -- the wishes for higher identifiers as they were made, and then what hangs on them, in order of triple
 unfoldable pub results_of : Texts → Reach → List Preference → FiringOf → List Preference
-results_of words before rows f = map (as_row f) (filter (is_result before f.depth) f.made) ++ closure_of words before rows f
+results_of words before rows f = map (result_row f) (filter (is_result before f.depth) f.made) ++ closure_of words before rows f
 
 -- whether a wish of the firing goes over to what is learned: a result, or an acceptable wish for what hangs on one
 abbrev pub goes_over : Reach → List Preference → FiringOf → Wish → Bool

@@ -104,7 +104,7 @@ abbrev pub firings_of_history : Agent → List FiringOf
 firings_of_history a = map (λ past. past.firing) a.history
 
 abbrev pub makers_of_goal : Goal → List ℕ
-makers_of_goal goal = elim (goal.selected) [ Some operator ↦ goal.selected_by ∷ [] | None ↦ [] ]
+makers_of_goal goal = elim (goal.selected) [ Some selection ↦ selection.maker ∷ [] | None ↦ [] ]
 
 -- the live firings, those of rows, and those that a selection rests on
 abbrev pub roots_of : Agent → List ℕ

@@ -20,6 +20,7 @@ use Rattle.defs_soar.specs.declared.preference.Preference.{Preference}
 use Rattle.defs_soar.specs.declared.goal.Goal.{Goal}
 use Rattle.defs_soar.specs.Architecture.{operator_word}
 use Rattle.defs_soar.specs.Goals.{goal_ids, is_goal, is_operator_slot}
+use Rattle.defs_soar.specs.Preferences.{as_row}
 
 -- ---- the match goal
 
@@ -121,6 +122,9 @@ abbrev pub operator_kind : List Goal → List Element → Bindings → Productio
 operator_kind goals elements bindings production = kind_by production.support (applies goals elements bindings production)
 
 -- preferences for operators of goals always have instance support
+abbrev pub has_operator_support : List Goal → Bool → Wish → Bool
+has_operator_support goals operator_kind_of w = operator_kind_of && not (is_operator_slot goals w.id w.attr)
+
+-- a wish of a firing as its row
 abbrev pub row_of : List Goal → ℕ → Bool → Wish → Preference
-row_of goals firing operator_kind_of w =
-    record { firing = firing; wish = w; operator_support = operator_kind_of && not (is_operator_slot goals w.id w.attr) }
+row_of goals firing operator_kind_of w = as_row firing (has_operator_support goals operator_kind_of w) w

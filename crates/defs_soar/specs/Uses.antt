@@ -9,6 +9,7 @@ use Rattle.defs_soar.specs.declared.firing.How.TheVariants as how
 use Rattle.defs_soar.specs.declared.firing.Used.{Used}
 use Rattle.defs_soar.specs.declared.goal.Goal.{Goal}
 use Rattle.defs_soar.specs.declared.goal.Item.{Item}
+use Rattle.defs_soar.specs.declared.goal.Selection.{Selection}
 use Rattle.defs_soar.specs.declared.preference.PrefKind.TheVariants as kind
 use Rattle.defs_soar.specs.declared.preference.Preference.{Preference}
 use Rattle.defs_soar.specs.Architecture.{operator_word, item_word}
@@ -67,20 +68,20 @@ own_uses superstate (goal ∷ goals) e =
     if symbol_eq goal.id e.id then (if symbol_eq e.attr item_word then item_uses superstate e (item_in goal.items e.value) else used_as e how.Architecture ∷ [])
     else own_uses goal.id goals e
 
--- the goal whose selected operator the element tells
-abbrev pub goal_selecting : List Goal → Element → Option Goal
-goal_selecting [] e = None
-goal_selecting (goal ∷ goals) e =
-    if symbol_eq goal.id e.id && (symbol_eq e.attr operator_word && (not e.accept && is_selected goal.selected e.value)) then Some goal else goal_selecting goals e
+-- the selection of a goal that the element tells
+abbrev pub selection_told : List Goal → Element → Option Selection
+selection_told [] e = None
+selection_told (goal ∷ goals) e =
+    if symbol_eq goal.id e.id && (symbol_eq e.attr operator_word && (not e.accept && is_selected goal.selected e.value)) then goal.selected else selection_told goals e
   where
-    is_selected : Option Sym → Sym → Bool
+    is_selected : Option Selection → Sym → Bool
     is_selected None s = false
-    is_selected (Some operator) s = symbol_eq operator s
+    is_selected (Some selection) s = symbol_eq selection.operator s
 
 -- a selected operator and its marked element, or an element that was made
-abbrev pub made_uses : List Preference → Element → Option Goal → List Used
-made_uses rows e (Some goal) =
-    used_as e (how.Selected goal.selected_tag) ∷ used_as (marked_element goal.id e.value goal.selected_tag) (how.Made goal.selected_by) ∷ []
+abbrev pub made_uses : List Preference → Element → Option Selection → List Used
+made_uses rows e (Some selection) =
+    used_as e (how.Selected selection.tag) ∷ used_as (marked_element e.id e.value selection.tag) (how.Made selection.maker) ∷ []
 made_uses rows e None = used_as e (how.Made (maker_of rows e)) ∷ []
 
 -- an element of a firing of this depth; goals, reach and rows are those before its wave
@@ -88,7 +89,7 @@ abbrev pub uses_of : Reach → List Preference → ℕ → Element → List Used
 uses_of before rows depth e =
     if nat_lt depth 2 || is_above (level_in before.goals before.reached e.id) depth then used_as e how.Upper ∷ []
     else if has_triple_among (goal_elements before.goals) (triple_of e) then own_uses e.id before.goals e
-    else made_uses rows e (goal_selecting before.goals e)
+    else made_uses rows e (selection_told before.goals e)
 
 abbrev pub element_with : List Element → ℕ → List Element
 element_with elements tag = elim (element_of tag elements) [ Some e ↦ e ∷ [] | None ↦ [] ]

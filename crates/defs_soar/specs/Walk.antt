@@ -9,6 +9,7 @@ use Rattle.defs_soar.specs.declared.goal.Goal.{Goal}
 use Rattle.defs_soar.specs.declared.goal.Impasse.{Impasse}
 use Rattle.defs_soar.specs.declared.goal.Impasse.TheVariants as impasse
 use Rattle.defs_soar.specs.declared.goal.Item.{Item}
+use Rattle.defs_soar.specs.declared.goal.Selection.{Selection}
 use Rattle.defs_soar.specs.declared.preference.Preference.{Preference}
 use Rattle.defs_soar.specs.Architecture.{operator_word}
 use Rattle.defs_soar.specs.Choice.{choice_of}
@@ -31,17 +32,17 @@ abbrev pub below_goal : Goal → Walked → Walked
 below_goal goal w = record w { goals = goal ∷ w.goals }
 
 abbrev pub without_selection : Goal → Goal
-without_selection goal = record goal { selected = None; selected_tag = 0; selected_by = 0 }
+without_selection goal = record goal { selected = None }
 
 abbrev pub with_selection : List Element → List Preference → Goal → Option Sym → Goal
 with_selection elements rows goal None = without_selection goal
 with_selection elements rows goal (Some operator) =
     let tag = marked_tag elements goal.id operator in
-    record goal { selected = Some operator; selected_tag = tag; selected_by = maker_of rows (marked_element goal.id operator tag) }
+    record goal { selected = Some (record { operator = operator; tag = tag; maker = maker_of rows (marked_element goal.id operator tag) }) }
 
-abbrev pub is_among_left : List Scored → Option Sym → Bool
+abbrev pub is_among_left : List Scored → Option Selection → Bool
 is_among_left left None = false
-is_among_left left (Some operator) = has_symbol (values_of_scored left) operator
+is_among_left left (Some selection) = has_symbol (values_of_scored left) selection.operator
 
 abbrev pub has_impasse : Impasse → List Goal → Bool
 has_impasse why [] = false

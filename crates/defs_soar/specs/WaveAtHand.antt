@@ -1,5 +1,5 @@
 -- The wave at hand: its firings, how their preferences are held, and what it came to so far (Soar manual, chapter 2, elaboration cycle).
-use Rattle.std.specs.Prelude.{ℕ, Bool, ◌&&◌, not, List, [], ◌∷◌, flat_map, Option, if◌then◌else◌}
+use Rattle.std.specs.Prelude.{ℕ, Bool, List, [], ◌∷◌, flat_map, Option, if◌then◌else◌}
 use Rattle.soar_sym.specs.Words.{Texts}
 use Rattle.soar_sym.specs.declared.symbol.Sym.{Sym}
 use Rattle.soar_wm.specs.declared.element.Element.{Element}
@@ -9,10 +9,11 @@ use Rattle.defs_soar.specs.declared.preference.Preference.{Preference}
 use Rattle.defs_soar.specs.declared.preference.Wish.{Wish}
 use Rattle.defs_soar.specs.Agents.{Names, Program, Settings}
 use Rattle.defs_soar.specs.Events.{WishSupport, by_instance, by_operator, LearningEvent, Event}
-use Rattle.defs_soar.specs.Goals.{goal_ids, is_operator_slot}
+use Rattle.defs_soar.specs.Goals.{goal_ids}
 use Rattle.defs_soar.specs.History.{Reach, FiringOf}
 use Rattle.defs_soar.specs.Limits.{Total}
 use Rattle.defs_soar.specs.Sorted.{has_symbol, with_symbol}
+use Rattle.defs_soar.specs.Support.{has_operator_support}
 
 -- a wish of a firing, and how it is held
 pub record SupportedWish : Type 0 where
@@ -70,7 +71,7 @@ goals_among words goals [] = []
 goals_among words goals (s ∷ symbols) = if has_symbol (goal_ids goals) s then with_symbol words (goals_among words goals symbols) s else goals_among words goals symbols
 
 abbrev pub support_by_kind : List Goal → Bool → Wish → WishSupport
-support_by_kind goals kind w = if kind && not (is_operator_slot goals w.id w.attr) then by_operator else by_instance
+support_by_kind goals kind w = if has_operator_support goals kind w then by_operator else by_instance
 
 abbrev pub supported_wish : List Goal → Bool → Wish → SupportedWish
 supported_wish goals kind w = record { wish = w; wish_support = support_by_kind goals kind w }

@@ -9,7 +9,7 @@ use Rattle.defs_soar.specs.Events.{by_instance, by_operator, by_learned, Event, 
 use Rattle.defs_soar.specs.History.{RecordedFiring}
 use Rattle.defs_soar.specs.Limits.{Total, preferences_to, counts_to}
 use Rattle.defs_soar.specs.Pending.{Work, is_justification}
-use Rattle.defs_soar.specs.Preferences.{with_row, with_rows, without_firings, is_kept_already, rows_after}
+use Rattle.defs_soar.specs.Preferences.{as_row, with_row, with_rows, without_firings, is_kept_already, rows_after}
 use Rattle.defs_soar.specs.Resettling.{AgentStep, resettled}
 use Rattle.defs_soar.specs.Trimming.{numbers_of}
 use Rattle.defs_soar.specs.WaveAtHand.{SupportedWish, Fresh, Entry, fired, noted, BeforeWave, Wave, WaveEnd, all_fresh}
@@ -19,8 +19,8 @@ use Rattle.defs_soar.specs.WaveFirings.{before_wave, first_wave, with_firings}
 
 abbrev pub held_row : ℕ → SupportedWish → List Preference
 held_row number x = elim (x.wish_support) [
-  | by_instance ↦ record { firing = number; wish = x.wish; operator_support = false } ∷ []
-  | by_operator ↦ record { firing = number; wish = x.wish; operator_support = true } ∷ []
+  | by_instance ↦ as_row number false x.wish ∷ []
+  | by_operator ↦ as_row number true x.wish ∷ []
   | by_learned ↦ []
 ]
 

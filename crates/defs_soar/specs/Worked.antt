@@ -109,10 +109,10 @@ RejectTakesAll =
 -- ---- settling and levels
 
 abbrev pub top_goal : Goal
-top_goal = record { id = s1; impasse = impasse.Top; items = []; selected = None; selected_tag = 0; selected_by = 0 }
+top_goal = record { id = s1; impasse = impasse.Top; items = []; selected = None }
 
 abbrev pub sub_goal : Goal
-sub_goal = record { id = s2; impasse = impasse.StateNoChange; items = []; selected = None; selected_tag = 0; selected_by = 0 }
+sub_goal = record { id = s2; impasse = impasse.StateNoChange; items = []; selected = None }
 
 -- A1 hangs on B1, which nothing reaches, so both fall in one settling; C1 stays
 abbrev pub ChainFalls : Type 0

@@ -25,16 +25,22 @@ pub struct Item {
     pub tag: u32,
 }
 
-/// An entry of the goal stack. The last two are of its selected operator: the tag of the marked element
-/// and the number of its least maker at the selection, and 0 without one.
+/// A selected operator, the tag of its marked element when it was selected, and the least number of a firing
+/// that had an acceptable or require preference for it then.
+#[derive(Drop)]
+pub struct Selection {
+    pub operator: Sym,
+    pub tag: u32,
+    pub maker: u64,
+}
+
+/// An entry of the goal stack.
 #[derive(Drop)]
 pub struct Goal {
     pub id: Sym,
     pub impasse: Impasse,
     pub items: List<Item>,
-    pub selected: Option<Sym>,
-    pub selected_tag: u32,
-    pub selected_by: u64,
+    pub selected: Option<Selection>,
 }
 
 /// Whether the symbol is the identifier of a goal.

@@ -9,6 +9,7 @@ use Rattle.soar_wm.specs.declared.element.Element.{Element}
 use Rattle.defs_soar.specs.declared.goal.Goal.{Goal}
 use Rattle.defs_soar.specs.declared.goal.Impasse.{Impasse}
 use Rattle.defs_soar.specs.declared.goal.Item.{Item}
+use Rattle.defs_soar.specs.declared.goal.Selection.{Selection}
 use Rattle.defs_soar.specs.declared.preference.Preference.{Preference}
 use Rattle.defs_soar.specs.Agents.{Agent, Names}
 use Rattle.defs_soar.specs.Architecture.{operator_word}
@@ -53,7 +54,7 @@ module _ (a : Agent) (h : IsLawfulAgent a) where
     pub ids : (g : Goal) → IsIn g goals → (is_identifier g.id ≡ true) × IsGiven (record a.names { letters = letters }) g.id
     pub fewer : (s : Sym) → IsGiven a.names s → is_goal goals s ≡ true → is_goal a.holding.goals s ≡ true
     pub named : GoalsAreNamed ever goals
-    pub selected : (g : Goal) (s : Sym) → IsIn g goals → g.selected ≡ Some s → IsIn (marked_element g.id s g.selected_tag) ever × IsMadeIn (firings_of_agent a) g.selected_by (marked_element g.id s g.selected_tag)
+    pub selected : (g : Goal) (s : Selection) → IsIn g goals → g.selected ≡ Some s → IsIn (marked_element g.id s.operator s.tag) ever × IsMadeIn (firings_of_agent a) s.maker (marked_element g.id s.operator s.tag)
 
   module _ (letters : List ℕ) (t : Remains) (k : AreGoals letters t.goals) (rows : (row : Preference) → IsIn row t.rows → IsIn row a.holding.rows) (inputs : t.inputs ≡ a.holding.inputs) where
     abbrev names : Names
@@ -198,7 +199,7 @@ module _ (a : Agent) (h : IsLawfulAgent a) where
       not_given : (s : Sym) → IsGiven a.names s → Ident 83 number ≡ s → ⊥
       not_given s g e = let low : number ≤ last_of a.names.letters 83 = subst (IsNumbered a.names.letters) (sym e) g.1 in absurd (omega arith)
 
-      unselected : (g : Goal) (s : Sym) → new_goal (Ident 83 number) why items ≡ g → g.selected ≡ Some s → ⊥
+      unselected : (g : Goal) (s : Selection) → new_goal (Ident 83 number) why items ≡ g → g.selected ≡ Some s → ⊥
       unselected g s e q = let k = ap (λ (x : Goal). x.selected) e ∙ q in absurd (cc)
 
   -- ---- the decision

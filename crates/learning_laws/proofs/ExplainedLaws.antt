@@ -13,7 +13,7 @@ use Rattle.defs_soar.specs.declared.preference.Wish.{Wish}
 use Rattle.defs_soar.specs.History.{FiringOf}
 use Rattle.defs_soar.specs.Laws.{IsIn}
 use Rattle.defs_soar.specs.Learning.{explained_on}
-use Rattle.defs_soar.specs.Results.{accepted_for, as_row, closure_of, each_triple_once, hanging_on, is_result, results_of, row_triple, rows_seen, with_closure_row}
+use Rattle.defs_soar.specs.Results.{accepted_for, closure_of, each_triple_once, hanging_on, is_result, result_row, results_of, row_triple, rows_seen, with_closure_row}
 use Rattle.defs_soar.specs.Sorted.{has_symbol}
 use Rattle.defs_soar.specs.Values.{is_kind, same_triple}
 use Rattle.defs_soar.specs.WaveAtHand.{BeforeWave}
@@ -47,18 +47,18 @@ from_each_triple words [] x i = i
 from_each_triple words (row ∷ rows) x i = elim (from_closure words row (each_triple_once words rows) x i) [ inl e ↦ inl e | inr j ↦ inr (from_each_triple words rows x j) ]
 
 -- a result is a row that was there, or one of the firing's own wishes
-from_results : (m : BeforeWave) (order : Texts) (f : FiringOf) (x : Preference) → IsIn x (results_of order m.reach m.rows f) → IsIn x m.rows ⊎ ((w : Wish) × IsIn w f.made × (as_row f w ≡ x))
+from_results : (m : BeforeWave) (order : Texts) (f : FiringOf) (x : Preference) → IsIn x (results_of order m.reach m.rows f) → IsIn x m.rows ⊎ ((w : Wish) × IsIn w f.made × (result_row f w ≡ x))
 unfolding results_of
 from_results m order f x i =
-    elim (in_append x (map (as_row f) (filter (is_result m.reach f.depth) f.made)) (closure_of order m.reach m.rows f) i) [
-      | inl j ↦ let own = in_map (as_row f) x (filter (is_result m.reach f.depth) f.made) j in inr (own.0, (filter_within (is_result m.reach f.depth) f.made own.0 own.1).0, own.2)
+    elim (in_append x (map (result_row f) (filter (is_result m.reach f.depth) f.made)) (closure_of order m.reach m.rows f) i) [
+      | inl j ↦ let own = in_map (result_row f) x (filter (is_result m.reach f.depth) f.made) j in inr (own.0, (filter_within (is_result m.reach f.depth) f.made own.0 own.1).0, own.2)
       | inr j ↦
           let seen = rows_seen m.rows f in
           let ids = hanging_on m.reach f seen (filter (is_result m.reach f.depth) f.made) in
           let among = (filter_within (λ row. is_kind row.wish.kind kind.Accept && has_symbol ids row.wish.id) seen x (from_each_triple order (accepted_for seen ids) x j)).0 in
-          elim (in_append x m.rows (map (as_row f) f.made) among) [
+          elim (in_append x m.rows (map (result_row f) f.made) among) [
             | inl k ↦ inl k
-            | inr k ↦ let own = in_map (as_row f) x f.made k in inr (own.0, own.1, own.2)
+            | inr k ↦ let own = in_map (result_row f) x f.made k in inr (own.0, own.1, own.2)
           ]
     ]
 

@@ -10,6 +10,7 @@ use Rattle.defs_match.specs.Rules.{RuleOf}
 use Rattle.defs_soar.specs.declared.goal.Goal.{Goal}
 use Rattle.defs_soar.specs.Agents.{Names}
 use Rattle.defs_soar.specs.declared.goal.Impasse.TheVariants as impasse
+use Rattle.defs_soar.specs.declared.goal.Selection.{Selection}
 use Rattle.defs_soar.specs.Decision.{new_goal}
 use Rattle.defs_soar.specs.Goals.{goal_elements, is_goal}
 use Rattle.defs_soar.specs.Laws.{IsIn}
@@ -100,7 +101,7 @@ module _ (words : Texts) (long : 24 ≤ length words) (once : EachOnce words) (r
   one_top g (inl q) = sym q
   one_top g (inr i) = absurd i
 
-  none_selected : (g : Goal) (s : Sym) → IsIn g first_holding.goals → g.selected ≡ Some s → ⊥
+  none_selected : (g : Goal) (s : Selection) → IsIn g first_holding.goals → g.selected ≡ Some s → ⊥
   none_selected g s i q = let k = sym (ap (λ (x : Goal). x.selected) (one_top g i)) ∙ q in absurd (cc)
 
   first_founded : IsFounded names first_holding [] rules 0 []

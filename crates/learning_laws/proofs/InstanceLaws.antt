@@ -18,6 +18,7 @@ use Rattle.defs_soar.specs.declared.firing.How.TheVariants as how
 use Rattle.defs_soar.specs.declared.firing.Used.{Used}
 use Rattle.defs_soar.specs.declared.goal.Goal.{Goal}
 use Rattle.defs_soar.specs.declared.goal.Item.{Item}
+use Rattle.defs_soar.specs.declared.goal.Selection.{Selection}
 use Rattle.defs_soar.specs.declared.preference.Preference.{Preference}
 use Rattle.defs_soar.specs.Architecture.{item_word}
 use Rattle.defs_soar.specs.Goals.{goal_elements}
@@ -25,7 +26,7 @@ use Rattle.defs_soar.specs.Levels.{level_in}
 use Rattle.defs_soar.specs.Values.{has_triple_among}
 use Rattle.defs_soar.specs.History.{Reach}
 use Rattle.defs_soar.specs.Laws.{IsIn}
-use Rattle.defs_soar.specs.Uses.{all_uses, elements_matched, goal_selecting, is_above, item_in, item_uses, made_uses, own_uses, used_as, uses_of}
+use Rattle.defs_soar.specs.Uses.{all_uses, elements_matched, is_above, item_in, item_uses, made_uses, own_uses, selection_told, used_as, uses_of}
 use Rattle.learning_laws.specs.Replay.{if_taken, passed_on}
 use Rattle.learning_laws.proofs.Lists.{in_flat_map, in_flat_mapped, in_left, in_map, in_mapped}
 
@@ -170,18 +171,18 @@ own_first superstate (goal ∷ goals) e = go (own_first goal.id goals e) (symbol
     go later true false = inl refl
     go later false b = later
 
-made_first : (rows : List Preference) (e : Element) (o : Option Goal) → IsIn e (map (λ (u : Used). u.element) (made_uses rows e o))
-made_first rows e (Some goal) = inl refl
+made_first : (rows : List Preference) (e : Element) (o : Option Selection) → IsIn e (map (λ (u : Used). u.element) (made_uses rows e o))
+made_first rows e (Some selection) = inl refl
 made_first rows e None = inl refl
 
 use_first : (before : Reach) (rows : List Preference) (depth : ℕ) (e : Element) → IsIn e (map (λ (u : Used). u.element) (uses_of before rows depth e))
 use_first before rows depth e =
     go (nat_lt depth 2 || is_above (level_in before.goals before.reached e.id) depth) (has_triple_among (goal_elements before.goals) (triple_of e))
   where
-    go : (a b : Bool) → IsIn e (map (λ (u : Used). u.element) (cond a (used_as e how.Upper ∷ []) (cond b (own_uses e.id before.goals e) (made_uses rows e (goal_selecting before.goals e)))))
+    go : (a b : Bool) → IsIn e (map (λ (u : Used). u.element) (cond a (used_as e how.Upper ∷ []) (cond b (own_uses e.id before.goals e) (made_uses rows e (selection_told before.goals e)))))
     go true b = inl refl
     go false true = own_first e.id before.goals e
-    go false false = made_first rows e (goal_selecting before.goals e)
+    go false false = made_first rows e (selection_told before.goals e)
 
 pub each_used : (before : Reach) (rows : List Preference) (depth : ℕ) (elements : List Element) (e : Element) → IsIn e elements → IsIn e (map (λ (u : Used). u.element) (all_uses before rows depth elements))
 each_used before rows depth elements e i =

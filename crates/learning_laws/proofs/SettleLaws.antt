@@ -7,13 +7,14 @@ use Rattle.soar_wm.specs.declared.element.Element.{Element}
 use Rattle.defs_soar.specs.declared.firing.DropCause.{DropCause}
 use Rattle.defs_soar.specs.declared.firing.DropCause.TheVariants as cause
 use Rattle.defs_soar.specs.declared.goal.Goal.{Goal}
+use Rattle.defs_soar.specs.declared.goal.Selection.{Selection}
 use Rattle.defs_soar.specs.declared.preference.PrefKind.TheVariants as kind
 use Rattle.defs_soar.specs.declared.preference.Wish.{Wish}
 use Rattle.defs_soar.specs.Architecture.{operator_word}
 use Rattle.defs_soar.specs.Firing.{fits_operator, is_in_range, is_ordinary_kind, judged}
 use Rattle.defs_soar.specs.Goals.{goal_ids, is_goal, is_operator_slot}
 use Rattle.defs_soar.specs.Laws.{IsIn}
-use Rattle.defs_soar.specs.Uses.{goal_selecting}
+use Rattle.defs_soar.specs.Uses.{selection_told}
 use Rattle.defs_soar.specs.Values.{is_kind}
 use Rattle.learning_laws.specs.LawfulAgents.{BelowAreNamed, GoalsAreNamed, ItemsAreNamed}
 use Rattle.learning_laws.specs.BeforeWave.{CanBeMade}
@@ -85,25 +86,30 @@ some_goal ever (g ∷ goals) h = omega arith
 
 -- ---- selections
 
-pub not_unselected : (goals : List Goal) (e : Element) (g : Goal) → IsIn g goals → g.id ≡ e.id → e.attr ≡ operator_word → e.accept ≡ false → g.selected ≡ Some e.value → goal_selecting goals e ≡ None → ⊥
-not_unselected [] e g i id attr accept selected h = i
-not_unselected (x ∷ goals) e g (inl q) id attr accept selected h =
-    let here : goal_selecting (x ∷ goals) e ≡ Some (record x { selected = Some e.value }) =
-    (λ j. goal_selecting (record x { selected = (ap (λ (y : Goal). y.selected) q ∙ selected) j } ∷ goals) e)
-    ∙ found (symbol_eq x.id e.id) (symbol_eq e.attr operator_word) (not e.accept) (symbol_eq e.value e.value) (ap (λ (y : Goal). symbol_eq y.id e.id) q ∙ ap (λ s. symbol_eq s e.id) id ∙ same_itself e.id)
-    (ap (λ s. symbol_eq s operator_word) attr) (ap not accept) (same_itself e.value) in
+pub not_unselected : (goals : List Goal) (e : Element) (g : Goal) (s : Selection) → IsIn g goals → g.id ≡ e.id → e.attr ≡ operator_word → e.accept ≡ false → g.selected ≡ Some s → s.operator ≡ e.value
+    → selection_told goals e ≡ None → ⊥
+not_unselected [] e g s i id attr accept selected value h = i
+not_unselected (x ∷ goals) e g s (inl q) id attr accept selected value h =
+    let here : selection_told (x ∷ goals) e ≡ Some s =
+    (λ j. selection_told (record x { selected = (ap (λ (y : Goal). y.selected) q ∙ selected) j } ∷ goals) e)
+    ∙ found (symbol_eq x.id e.id) (symbol_eq e.attr operator_word) (not e.accept) (symbol_eq s.operator e.value) (ap (λ (y : Goal). symbol_eq y.id e.id) q ∙ ap (λ y. symbol_eq y e.id) id ∙ same_itself e.id)
+    (ap (λ y. symbol_eq y operator_word) attr) (ap not accept) (ap (λ y. symbol_eq y e.value) value ∙ same_itself e.value) in
     let k = sym here ∙ h in absurd (cc)
   where
-    found : (a b c d : Bool) → a ≡ true → b ≡ true → c ≡ true → d ≡ true
-        → ◌≡◌ {A = Option Goal} (cond (a && (b && (c && d))) (Some (record x { selected = Some e.value })) (goal_selecting goals e)) (Some (record x { selected = Some e.value }))
-    found a b c d p r s t =
-        ap (λ y. cond y (Some (record x { selected = Some e.value })) (goal_selecting goals e)) (and_true a (b && (c && d)) p (and_true b (c && d) r (and_true c d s t)))
-not_unselected (x ∷ goals) e g (inr i) id attr accept selected h = not_unselected goals e g i id attr accept selected (by (x.selected) (goal_selecting (x ∷ goals) e) refl h)
+    found : (a b c d : Bool) → a ≡ true → b ≡ true → c ≡ true → d ≡ true → ◌≡◌ {A = Option Selection} (cond (a && (b && (c && d))) (Some s) (selection_told goals e)) (Some s)
+    found a b c d p r t u = ap (λ y. cond y (Some s) (selection_told goals e)) (and_true a (b && (c && d)) p (and_true b (c && d) r (and_true c d t u)))
+not_unselected (x ∷ goals) e g s (inr i) id attr accept selected value h = not_unselected goals e g s i id attr accept selected value (by (x.selected) (selection_told (x ∷ goals) e) refl h)
   where
-    none : (b : Bool) (y : Goal) → cond b (Some y) (goal_selecting goals e) ≡ None → goal_selecting goals e ≡ None
-    none true y q = absurd (cc)
-    none false y q = q
+    none : (a b c : Bool) → cond (a && (b && (c && false))) None (selection_told goals e) ≡ None → selection_told goals e ≡ None
+    none true true true q = q
+    none true true false q = q
+    none true false c q = q
+    none false b c q = q
 
-    by : (o : Option Sym) (p : Option Goal) → p ≡ goal_selecting (record x { selected = o } ∷ goals) e → p ≡ None → goal_selecting goals e ≡ None
-    by None p q r = none (symbol_eq x.id e.id && (symbol_eq e.attr operator_word && (not e.accept && false))) (record x { selected = None }) (sym q ∙ r)
-    by (Some s) p q r = none (symbol_eq x.id e.id && (symbol_eq e.attr operator_word && (not e.accept && symbol_eq s e.value))) (record x { selected = Some s }) (sym q ∙ r)
+    some : (b : Bool) (t : Selection) → cond b (Some t) (selection_told goals e) ≡ None → selection_told goals e ≡ None
+    some true t q = absurd (cc)
+    some false t q = q
+
+    by : (o : Option Selection) (p : Option Selection) → p ≡ selection_told (record x { selected = o } ∷ goals) e → p ≡ None → selection_told goals e ≡ None
+    by None p q r = none (symbol_eq x.id e.id) (symbol_eq e.attr operator_word) (not e.accept) (sym q ∙ r)
+    by (Some t) p q r = some (symbol_eq x.id e.id && (symbol_eq e.attr operator_word && (not e.accept && symbol_eq t.operator e.value))) t (sym q ∙ r)

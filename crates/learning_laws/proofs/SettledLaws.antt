@@ -7,6 +7,7 @@ use Rattle.soar_wm.specs.declared.element.Element.{Element}
 use Rattle.soar_wm.specs.WorkingMemory.{triple_of}
 use Rattle.defs_match.specs.Rules.{RuleOf}
 use Rattle.defs_soar.specs.declared.goal.Goal.{Goal}
+use Rattle.defs_soar.specs.declared.goal.Selection.{Selection}
 use Rattle.defs_soar.specs.declared.preference.PrefKind.TheVariants as kind
 use Rattle.defs_soar.specs.declared.preference.Preference.{Preference}
 use Rattle.defs_soar.specs.Agents.{Agent, Queued}
@@ -71,8 +72,8 @@ module _ (a : Agent) (t : Remains) (queue : List Queued) (rules : List RuleOf) (
   row_given row i s j =
       let by = f.rows row i in f.symbols.made by.0 by.1 s (in_flat_mapped symbols_of_wish row.wish s by.0.made by.3 j)
 
-  selected_given : (g : Goal) (s : Sym) → IsIn g t.goals → g.selected ≡ Some s → IsGiven a.names s
-  selected_given g s i q = f.elements.given (marked_element g.id s g.selected_tag) (f.elements.selected g s i q) s (inr (inr (inl refl)))
+  selected_given : (g : Goal) (s : Selection) → IsIn g t.goals → g.selected ≡ Some s → IsGiven a.names s.operator
+  selected_given g s i q = f.elements.given (marked_element g.id s.operator s.tag) (f.elements.selected g s i q) s.operator (inr (inr (inl refl)))
 
   named_now : GoalsAreNamed (f.elements.ever ++ new) now.goals
   named_now = still_named f.elements.ever new now.goals t.goals ended.less.goals ended.less.some f.elements.items
@@ -92,7 +93,7 @@ module _ (a : Agent) (t : Remains) (queue : List Queued) (rules : List RuleOf) (
           (goals_given a.names f.symbols.words f.symbols.links (f.elements.ever ++ []) given_before now.goals named_before goal_given) u j
       go (of_selection g s j q e) = subst (λ v. AreGiven a.names (symbols_of_triple v)) e (three g s j q)
         where
-          three : (g : Goal) (s : Sym) → IsIn g now.goals → g.selected ≡ Some s → AreGiven a.names (symbols_of_triple (plain_triple g.id operator_word s))
+          three : (g : Goal) (s : Selection) → IsIn g now.goals → g.selected ≡ Some s → AreGiven a.names (symbols_of_triple (plain_triple g.id operator_word s.operator))
           three g s j q x (inl e) = subst (IsGiven a.names) e (goal_given g j)
           three g s j q x (inr (inl e)) = subst (IsGiven a.names) e (word_given a.names f.symbols.words f.symbols.links 7 (omega arith))
           three g s j q x (inr (inr (inl e))) = subst (IsGiven a.names) e (selected_given g s (front_in now.goals t.goals ended.less.goals g j) q)
@@ -222,7 +223,7 @@ module _ (a : Agent) (t : Remains) (queue : List Queued) (rules : List RuleOf) (
         go : Holds now.rows now.goals now.inputs (triple_of e) → (row : Preference) × IsIn row now.rows × IsOfRow now.goals row (triple_of e)
         go (of_goals j) = let k = sym (in_among (triple_of e) (goal_elements now.goals) j) ∙ made.others in absurd (cc)
         go (of_selection g s j q z) =
-            absurd (not_unselected now.goals e g j (ap (λ (u : Triple). u.id) z) (sym (ap (λ (u : Triple). u.attr) z)) (sym (ap (λ (u : Triple). u.accept) z)) (q ∙ ap Some (ap (λ (u : Triple). u.value) z)) made.unselected)
+            absurd (not_unselected now.goals e g s j (ap (λ (u : Triple). u.id) z) (sym (ap (λ (u : Triple). u.attr) z)) (sym (ap (λ (u : Triple). u.accept) z)) q (ap (λ (u : Triple). u.value) z) made.unselected)
         go (of_input j) =
             let top = level_one_again now.goals all (map triple_of later) e.id
             (λ u k l. each_there u (filter_keeps (λ u. is_some (level_in now.goals (reaches now.goals all) u.id)) all u k l)) (inputs_top (triple_of e) j) in

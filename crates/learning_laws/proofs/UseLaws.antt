@@ -10,6 +10,7 @@ use Rattle.defs_soar.specs.declared.firing.How.TheVariants as how
 use Rattle.defs_soar.specs.declared.firing.Used.{Used}
 use Rattle.defs_soar.specs.declared.goal.Goal.{Goal}
 use Rattle.defs_soar.specs.declared.goal.Item.{Item}
+use Rattle.defs_soar.specs.declared.goal.Selection.{Selection}
 use Rattle.defs_soar.specs.declared.preference.PrefKind.TheVariants as kind
 use Rattle.defs_soar.specs.declared.preference.Preference.{Preference}
 use Rattle.defs_soar.specs.Architecture.{item_word, operator_word}
@@ -17,7 +18,7 @@ use Rattle.defs_soar.specs.Goals.{goal_elements, goal_ids, is_goal}
 use Rattle.defs_soar.specs.History.{FiringOf}
 use Rattle.defs_soar.specs.Laws.{IsIn}
 use Rattle.defs_soar.specs.Levels.{is_level_one, level_in}
-use Rattle.defs_soar.specs.Uses.{goal_selecting, is_above, item_in, item_uses, least_from, least_number, made_uses, maker_of, makes_element, marked_element, own_uses, used_as, uses_of}
+use Rattle.defs_soar.specs.Uses.{is_above, item_in, item_uses, least_from, least_number, made_uses, maker_of, makes_element, marked_element, own_uses, selection_told, used_as, uses_of}
 use Rattle.defs_soar.specs.Values.{has_triple_among, is_kind}
 use Rattle.defs_soar.specs.WaveAtHand.{BeforeWave}
 use Rattle.learning_laws.specs.Record.{IsMadeEarlier, UseIsLawful}
@@ -76,44 +77,55 @@ row_wish_makes e row h m =
 
 -- ---- selections
 
--- the goal that selects it is one of the goals, and has it selected
-pub record Selecting (goals : List Goal) (e : Element) (g : Goal) : Type 0 where
-  pub there : IsIn g goals
-  pub id : g.id ≡ e.id
+-- one of the goals has this selection, which the element tells
+pub record Selecting (goals : List Goal) (e : Element) (s : Selection) : Type 0 where
+  pub goal : Goal
+  pub there : IsIn goal goals
+  pub id : goal.id ≡ e.id
   pub attr : e.attr ≡ operator_word
-  pub selected : g.selected ≡ Some e.value
+  pub selected : goal.selected ≡ Some s
+  pub value : s.operator ≡ e.value
 
-later_selecting : (x : Goal) (goals : List Goal) (e : Element) (g : Goal) → Selecting goals e g → Selecting (x ∷ goals) e g
-later_selecting x goals e g s = record { there = inr s.there; id = s.id; attr = s.attr; selected = s.selected }
+later_selecting : (x : Goal) (goals : List Goal) (e : Element) (s : Selection) → Selecting goals e s → Selecting (x ∷ goals) e s
+later_selecting x goals e s k = record { goal = k.goal; there = inr k.there; id = k.id; attr = k.attr; selected = k.selected; value = k.value }
 
-pub selecting : (goals : List Goal) (e : Element) (g : Goal) → goal_selecting goals e ≡ Some g → Selecting goals e g
-selecting [] e g h = absurd (cc)
-selecting (x ∷ goals) e g h = by (x.selected) refl (selecting goals e g)
+pub selecting : (goals : List Goal) (e : Element) (s : Selection) → selection_told goals e ≡ Some s → Selecting goals e s
+selecting [] e s h = absurd (cc)
+selecting (x ∷ goals) e s h = by (x.selected) refl (selecting goals e s)
   where
-    at : (o : Option Sym) → x.selected ≡ o → goal_selecting (record x { selected = o } ∷ goals) e ≡ Some g
-    at o q = ap (λ (p : Option Sym). goal_selecting (record x { selected = p } ∷ goals) e) (sym q) ∙ h
+    at : (o : Option Selection) → x.selected ≡ o → selection_told (record x { selected = o } ∷ goals) e ≡ Some s
+    at o q = ap (λ (p : Option Selection). selection_told (record x { selected = p } ∷ goals) e) (sym q) ∙ h
 
-    none : (a b c : Bool) → cond (a && (b && (c && false))) (Some (record x { selected = None })) (goal_selecting goals e) ≡ Some g → goal_selecting goals e ≡ Some g
+    none : (a b c : Bool) → cond (a && (b && (c && false))) None (selection_told goals e) ≡ Some s → selection_told goals e ≡ Some s
     none true true true q = q
     none true true false q = q
     none true false c q = q
     none false b c q = q
 
-    found : (s : Sym) → x.selected ≡ Some s → (a b c d : Bool) → symbol_eq x.id e.id ≡ a → symbol_eq e.attr operator_word ≡ b → symbol_eq s e.value ≡ d
-        → cond (a && (b && (c && d))) (Some (record x { selected = Some s })) (goal_selecting goals e) ≡ Some g → (goal_selecting goals e ≡ Some g → Selecting goals e g) → Selecting (x ∷ goals) e g
-    found s q true true true true p r u k later =
-        let same : record x { selected = Some s } ≡ g = cc in
-        let mine : x ≡ g = (λ j. record x { selected = q j }) ∙ same in
-        let value = symbol_same s e.value u in
-        subst (Selecting (x ∷ goals) e) mine (record { there = inl refl; id = symbol_same x.id e.id p; attr = symbol_same e.attr operator_word r; selected = q ∙ ap Some value })
-    found s q true true true false p r u k later = later_selecting x goals e g (later k)
-    found s q true true false d p r u k later = later_selecting x goals e g (later k)
-    found s q true false c d p r u k later = later_selecting x goals e g (later k)
-    found s q false b c d p r u k later = later_selecting x goals e g (later k)
+    found : (t : Selection) → x.selected ≡ Some t → (a b c d : Bool) → symbol_eq x.id e.id ≡ a → symbol_eq e.attr operator_word ≡ b → symbol_eq t.operator e.value ≡ d
+        → cond (a && (b && (c && d))) (Some t) (selection_told goals e) ≡ Some s → (selection_told goals e ≡ Some s → Selecting goals e s) → Selecting (x ∷ goals) e s
+    found t q true true true true p r u k later =
+        let same : t ≡ s = cc in
+        record {
+          goal = x;
+          there = inl refl;
+          id = symbol_same x.id e.id p;
+          attr = symbol_same e.attr operator_word r;
+          selected = q ∙ ap Some same;
+          value = ap (λ (y : Selection). y.operator) (sym same) ∙ symbol_same t.operator e.value u;
+        }
+    found t q true true true false p r u k later = later_selecting x goals e s (later k)
+    found t q true true false d p r u k later = later_selecting x goals e s (later k)
+    found t q true false c d p r u k later = later_selecting x goals e s (later k)
+    found t q false b c d p r u k later = later_selecting x goals e s (later k)
 
-    by : (o : Option Sym) → x.selected ≡ o → (goal_selecting goals e ≡ Some g → Selecting goals e g) → Selecting (x ∷ goals) e g
-    by None q later = later_selecting x goals e g (later (none (symbol_eq x.id e.id) (symbol_eq e.attr operator_word) (not e.accept) (at None q)))
-    by (Some s) q later = found s q (symbol_eq x.id e.id) (symbol_eq e.attr operator_word) (not e.accept) (symbol_eq s e.value) refl refl refl (at (Some s) q) later
+    by : (o : Option Selection) → x.selected ≡ o → (selection_told goals e ≡ Some s → Selecting goals e s) → Selecting (x ∷ goals) e s
+    by None q later = later_selecting x goals e s (later (none (symbol_eq x.id e.id) (symbol_eq e.attr operator_word) (not e.accept) (at None q)))
+    by (Some t) q later = found t q (symbol_eq x.id e.id) (symbol_eq e.attr operator_word) (not e.accept) (symbol_eq t.operator e.value) refl refl refl (at (Some t) q) later
+
+-- the marked element of the goal is that of the element
+pub marked_is : (goals : List Goal) (e : Element) (s : Selection) (k : Selecting goals e s) → marked_element k.goal.id s.operator s.tag ≡ marked_element e.id e.value s.tag
+marked_is goals e s k = λ j. marked_element (k.id j) (k.value j) s.tag
 
 is_goal_of : (goals : List Goal) (g : Goal) → IsIn g goals → is_goal goals g.id ≡ true
 is_goal_of goals g i = any_in (symbol_eq g.id) g.id (goal_ids goals) (in_mapped (λ (x : Goal). x.id) g goals i) (same_itself g.id)
@@ -165,7 +177,7 @@ module _ (m : BeforeWave) (next depth : ℕ) (f : FiringOf) (settled : IsSettled
       go true false later = one_architecture e
       go false b later = later
 
-  made_stands : (e : Element) → IsIn e m.elements → is_level_one (level_in m.reach.goals m.reach.reached e.id) ≡ false → has_triple_among (goal_elements m.reach.goals) (triple_of e) ≡ false → (o : Option Goal) → goal_selecting m.reach.goals e ≡ o → Stands (made_uses m.rows e o)
+  made_stands : (e : Element) → IsIn e m.elements → is_level_one (level_in m.reach.goals m.reach.reached e.id) ≡ false → has_triple_among (goal_elements m.reach.goals) (triple_of e) ≡ false → (o : Option Selection) → selection_told m.reach.goals e ≡ o → Stands (made_uses m.rows e o)
   made_stands e i below own None s all u (inl q) =
       let row = maker_makes m.rows e (settled.held e i (record { below = below; others = own; unselected = s })) in
       let by = settled.rows row.0 row.1 in
@@ -173,20 +185,21 @@ module _ (m : BeforeWave) (next depth : ℕ) (f : FiringOf) (settled : IsSettled
       (earlier (maker_of m.rows e) e
       (record { firing = by.0; is_there = by.1; number_is = by.2 ∙ row.3; makes = any_in (wish_makes e) row.0.wish by.0.made by.3 (row_wish_makes e row.0 row.2 (settled.marks e i (record { below = below; others = own; unselected = s }))) }))
   made_stands e i below own None s all u (inr j) = absurd j
-  made_stands e i below own (Some g) s all u (inl q) =
-      let k = selecting m.reach.goals e g s in
-      let flag : e.of_state ≡ true = settled.flags e i ∙ ap (is_goal m.reach.goals) (sym k.id) ∙ is_goal_of m.reach.goals g k.there in
-      let same : marked_element g.id e.value g.selected_tag ≡ record e { accept = true; tag = g.selected_tag } =
-      λ j. record { tag = g.selected_tag; id = k.id j; attr = sym k.attr j; value = e.value; accept = true; of_state = sym flag j } in
+  made_stands e i below own (Some s) told all u (inl q) =
+      let k = selecting m.reach.goals e s told in
+      let flag : e.of_state ≡ true = settled.flags e i ∙ ap (is_goal m.reach.goals) (sym k.id) ∙ is_goal_of m.reach.goals k.goal k.there in
+      let same : marked_element e.id e.value s.tag ≡ record e { accept = true; tag = s.tag } =
+      λ j. record { tag = s.tag; id = e.id; attr = sym k.attr j; value = e.value; accept = true; of_state = sym flag j } in
       subst (UseIsLawful m.firings f) q
       (record {
-        number = g.selected_by;
-        is_used = subst (λ x. IsIn (used_as x (how.Made g.selected_by)) f.used) same (all (used_as (marked_element g.id e.value g.selected_tag) (how.Made g.selected_by)) (inr (inl refl)));
+        number = s.maker;
+        is_used = subst (λ x. IsIn (used_as x (how.Made s.maker)) f.used) same (all (used_as (marked_element e.id e.value s.tag) (how.Made s.maker)) (inr (inl refl)));
       })
-  made_stands e i below own (Some g) s all u (inr (inl q)) =
-      let k = selecting m.reach.goals e g s in
-      subst (UseIsLawful m.firings f) q (earlier g.selected_by (marked_element g.id e.value g.selected_tag) (settled.selections g e.value k.there k.selected))
-  made_stands e i below own (Some g) s all u (inr (inr j)) = absurd j
+  made_stands e i below own (Some s) told all u (inr (inl q)) =
+      let k = selecting m.reach.goals e s told in
+      let by = subst (IsMadeIn m.firings s.maker) (marked_is m.reach.goals e s k) (settled.selections k.goal s k.there k.selected) in
+      subst (UseIsLawful m.firings f) q (earlier s.maker (marked_element e.id e.value s.tag) by)
+  made_stands e i below own (Some s) told all u (inr (inr j)) = absurd j
 
   uses_stand : (e : Element) → IsIn e m.elements → Stands (uses_of m.reach m.rows depth e)
   uses_stand e i = go (nat_lt depth 2 || is_above (level_in m.reach.goals m.reach.reached e.id) depth) refl (has_triple_among (goal_elements m.reach.goals) (triple_of e)) refl
@@ -205,10 +218,10 @@ module _ (m : BeforeWave) (next depth : ℕ) (f : FiringOf) (settled : IsSettled
           of false false x y z = grind arith
 
       go : (a : Bool) → (nat_lt depth 2 || is_above (level_in m.reach.goals m.reach.reached e.id) depth) ≡ a → (b : Bool) → has_triple_among (goal_elements m.reach.goals) (triple_of e) ≡ b
-          → Stands (cond a (used_as e how.Upper ∷ []) (cond b (own_uses e.id m.reach.goals e) (made_uses m.rows e (goal_selecting m.reach.goals e))))
+          → Stands (cond a (used_as e how.Upper ∷ []) (cond b (own_uses e.id m.reach.goals e) (made_uses m.rows e (selection_told m.reach.goals e))))
       go true p b q = upper
       go false p true q = own_stands e.id m.reach.goals e
-      go false p false q = made_stands e i (deep (level_in m.reach.goals m.reach.reached e.id) p) q (goal_selecting m.reach.goals e) refl
+      go false p false q = made_stands e i (deep (level_in m.reach.goals m.reach.reached e.id) p) q (selection_told m.reach.goals e) refl
 
 pub uses_are_lawful : UsesAreLawful
 uses_are_lawful m next depth elements f settled within number used u i =

@@ -10,6 +10,7 @@ use Rattle.defs_soar.specs.declared.choice.Scored.{Scored}
 use Rattle.defs_soar.specs.declared.goal.Goal.{Goal}
 use Rattle.defs_soar.specs.declared.goal.Impasse.TheVariants as impasse
 use Rattle.defs_soar.specs.declared.goal.Item.{Item}
+use Rattle.defs_soar.specs.declared.goal.Selection.{Selection}
 use Rattle.defs_soar.specs.declared.preference.Preference.{Preference}
 use Rattle.defs_soar.specs.Agents.{Agent}
 use Rattle.defs_soar.specs.Architecture.{operator_word}
@@ -136,8 +137,8 @@ module _ (a : Agent) (h : IsLawfulAgent a) where
   pub record GoalIs (superstate : Sym) (g : Goal) : Type 0 where
     pub items : ItemsAreNamed ever superstate g.items
     pub goal : is_goal goals g.id ≡ true
-    pub selected : (s : Sym) → g.selected ≡ Some s → IsIn (marked_element g.id s g.selected_tag) ever × IsMadeIn (firings_of_agent a) g.selected_by (marked_element g.id s g.selected_tag)
-    pub root : (s : Sym) → g.selected ≡ Some s → IsIn g.selected_by (roots_of a)
+    pub selected : (s : Selection) → g.selected ≡ Some s → IsIn (marked_element g.id s.operator s.tag) ever × IsMadeIn (firings_of_agent a) s.maker (marked_element g.id s.operator s.tag)
+    pub root : (s : Selection) → g.selected ≡ Some s → IsIn s.maker (roots_of a)
 
   abbrev pub EndIs : Sym → Decided → Type 0
   EndIs superstate (selects_operator operator takes) = Unit {0}
@@ -155,13 +156,13 @@ module _ (a : Agent) (h : IsLawfulAgent a) where
   root_of_row n i =
       in_right n (map (λ l. l.number) a.holding.live) _ (in_left n (map (λ (row : Preference). row.firing) a.holding.rows) (flat_map makers_of_goal goals) i)
 
-  root_of_goal : (g : Goal) (s : Sym) → IsIn g goals → g.selected ≡ Some s → IsIn g.selected_by (roots_of a)
+  root_of_goal : (g : Goal) (s : Selection) → IsIn g goals → g.selected ≡ Some s → IsIn s.maker (roots_of a)
   root_of_goal g s i q =
-      in_right g.selected_by (map (λ l. l.number) a.holding.live) _ (in_right g.selected_by (map (λ (row : Preference). row.firing) a.holding.rows) (flat_map makers_of_goal goals)
-      (in_flat_mapped makers_of_goal g g.selected_by goals i (maker_is g s q)))
+      in_right s.maker (map (λ l. l.number) a.holding.live) _ (in_right s.maker (map (λ (row : Preference). row.firing) a.holding.rows) (flat_map makers_of_goal goals)
+      (in_flat_mapped makers_of_goal g s.maker goals i (maker_is g s q)))
     where
-      maker_is : (g : Goal) (s : Sym) → g.selected ≡ Some s → IsIn g.selected_by (makers_of_goal g)
-      maker_is g s q = subst (λ o. IsIn g.selected_by (elim o [ Some operator ↦ g.selected_by ∷ [] | None ↦ [] ])) (sym q) (inl refl)
+      maker_is : (g : Goal) (s : Selection) → g.selected ≡ Some s → IsIn s.maker (makers_of_goal g)
+      maker_is g s q = subst (λ o. IsIn s.maker (elim o [ Some selection ↦ selection.maker ∷ [] | None ↦ [] ])) (sym q) (inl refl)
 
   no_selection : (superstate : Sym) (g : Goal) → ItemsAreNamed ever superstate g.items → is_goal goals g.id ≡ true → GoalIs superstate (without_selection g)
   no_selection superstate g named goal = record { items = named; goal = goal; selected = λ s q. absurd (cc); root = λ s q. absurd (cc) }
@@ -176,15 +177,16 @@ module _ (a : Agent) (h : IsLawfulAgent a) where
         items = named;
         goal = goal;
         selected = λ s z.
-            let e : operator ≡ s = cc in
-            let found = value_in left n operator q in
-            let c = is_candidate g.id operator goal (subst (HasRow (slot_of a.holding.rows g.id operator_word)) found.2 (k found.0 found.1)) in
-            subst (λ x. IsIn (marked_element g.id x (tag_at g.id operator)) ever × IsMadeIn (firings_of_agent a) (maker_of a.holding.rows (marked_element g.id operator (tag_at g.id operator))) (marked_element g.id x (tag_at g.id operator))) e
-            (h.founded.elements.present _ c.there, c.made);
-        root = λ s z.
-            let found = value_in left n operator q in
-            let c = is_candidate g.id operator goal (subst (HasRow (slot_of a.holding.rows g.id operator_word)) found.2 (k found.0 found.1)) in root_of_row (maker_of a.holding.rows (marked_element g.id operator (tag_at g.id operator))) c.root;
+            let e : mine ≡ s = cc in
+            subst (λ (x : Selection). IsIn (marked_element g.id x.operator x.tag) ever × IsMadeIn (firings_of_agent a) x.maker (marked_element g.id x.operator x.tag)) e (h.founded.elements.present _ c.there, c.made);
+        root = λ s z. let e : mine ≡ s = cc in subst (λ (x : Selection). IsIn x.maker (roots_of a)) e (root_of_row mine.maker c.root);
       }
+        where
+          mine : Selection
+          mine = record { operator = operator; tag = tag_at g.id operator; maker = maker_of a.holding.rows (marked_element g.id operator (tag_at g.id operator)) }
+
+          c : IsCandidate g.id operator
+          c = let found = value_in left n operator q in is_candidate g.id operator goal (subst (HasRow (slot_of a.holding.rows g.id operator_word)) found.2 (k found.0 found.1))
 
   abbrev Walks : Sym → List Item → Walked → Type 0
   Walks superstate items w = HasFirst items w.goals × WalkIs superstate w.goals w.decided

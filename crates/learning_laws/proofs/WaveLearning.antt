@@ -18,7 +18,7 @@ use Rattle.defs_soar.specs.History.{ChainOf, FiringOf}
 use Rattle.defs_soar.specs.Laws.{IsIn}
 use Rattle.defs_soar.specs.LearnedFirings.{ExplainedFiring}
 use Rattle.defs_soar.specs.Outcome.{chunked}
-use Rattle.defs_soar.specs.Results.{accepted_for, as_row, closure_of, hanging_on, is_result, results_of, rows_seen}
+use Rattle.defs_soar.specs.Results.{accepted_for, closure_of, hanging_on, is_result, result_row, results_of, rows_seen}
 use Rattle.defs_soar.specs.Sorted.{has_symbol}
 use Rattle.defs_soar.specs.LearnedRules.{names_joining, with_names, with_joined_word}
 use Rattle.defs_soar.specs.Ungrounded.{symbols_of_element}
@@ -48,18 +48,18 @@ letters_named [] w = refl
 letters_named (t ∷ texts) w = letters_named texts (with_joined_word t w)
 
 -- a result is one of the firing's own wishes, or an acceptable row
-from_results : (m : BeforeWave) (order : Texts) (f : FiringOf) (x : Preference) → IsIn x (results_of order m.reach m.rows f) → (IsIn x m.rows × (is_kind x.wish.kind kind.Accept ≡ true)) ⊎ ((w : Wish) × IsIn w f.made × (as_row f w ≡ x))
+from_results : (m : BeforeWave) (order : Texts) (f : FiringOf) (x : Preference) → IsIn x (results_of order m.reach m.rows f) → (IsIn x m.rows × (is_kind x.wish.kind kind.Accept ≡ true)) ⊎ ((w : Wish) × IsIn w f.made × (result_row f w ≡ x))
 unfolding results_of
 from_results m order f x i =
-    elim (in_append x (map (as_row f) (filter (is_result m.reach f.depth) f.made)) (closure_of order m.reach m.rows f) i) [
-      | inl j ↦ let own = in_map (as_row f) x (filter (is_result m.reach f.depth) f.made) j in inr (own.0, (filter_within (is_result m.reach f.depth) f.made own.0 own.1).0, own.2)
+    elim (in_append x (map (result_row f) (filter (is_result m.reach f.depth) f.made)) (closure_of order m.reach m.rows f) i) [
+      | inl j ↦ let own = in_map (result_row f) x (filter (is_result m.reach f.depth) f.made) j in inr (own.0, (filter_within (is_result m.reach f.depth) f.made own.0 own.1).0, own.2)
       | inr j ↦
           let seen = rows_seen m.rows f in
           let ids = hanging_on m.reach f seen (filter (is_result m.reach f.depth) f.made) in
           let among = filter_within (λ row. is_kind row.wish.kind kind.Accept && has_symbol ids row.wish.id) seen x (from_each_triple order (accepted_for seen ids) x j) in
-          elim (in_append x m.rows (map (as_row f) f.made) among.0) [
+          elim (in_append x m.rows (map (result_row f) f.made) among.0) [
             | inl k ↦ inl (k, (both_true (is_kind x.wish.kind kind.Accept) (has_symbol ids x.wish.id) among.1).0)
-            | inr k ↦ let own = in_map (as_row f) x f.made k in inr (own.0, own.1, own.2)
+            | inr k ↦ let own = in_map (result_row f) x f.made k in inr (own.0, own.1, own.2)
           ]
     ]
 

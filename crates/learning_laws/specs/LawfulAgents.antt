@@ -12,6 +12,7 @@ use Rattle.soar_wm.specs.WorkingMemory.{triple_of}
 use Rattle.defs_match.specs.Rules.{RuleOf}
 use Rattle.defs_soar.specs.declared.goal.Goal.{Goal}
 use Rattle.defs_soar.specs.declared.goal.Item.{Item}
+use Rattle.defs_soar.specs.declared.goal.Selection.{Selection}
 use Rattle.defs_soar.specs.declared.preference.PrefKind.TheVariants as kind
 use Rattle.defs_soar.specs.declared.preference.Preference.{Preference}
 use Rattle.defs_soar.specs.Agents.{Agent, Holding, Names, Queued}
@@ -101,7 +102,7 @@ pub record AreElements (names : Names) (h : Holding) (firings : List FiringOf) :
   pub present : (e : Element) → IsIn e h.elements → IsIn e ever
   pub used : (e : Element) → IsIn e (used_elements firings) → IsIn e ever
   pub items : GoalsAreNamed ever h.goals
-  pub selected : (g : Goal) (s : Sym) → IsIn g h.goals → g.selected ≡ Some s → IsIn (marked_element g.id s g.selected_tag) ever
+  pub selected : (g : Goal) (s : Selection) → IsIn g h.goals → g.selected ≡ Some s → IsIn (marked_element g.id s.operator s.tag) ever
 
 -- ---- the history
 
@@ -126,7 +127,7 @@ pub record IsFounded (names : Names) (h : Holding) (queue : List Queued) (rules 
   pub history : IsHistory names h.goals last firings
   pub rows : (row : Preference) → IsIn row h.rows → (f : FiringOf) × IsIn f firings × (f.number ≡ row.firing) × IsIn row.wish f.made
   pub accepted : (row : Preference) → IsIn row h.rows → is_kind row.wish.kind kind.Accept ≡ true → CanBeMade h.goals row.wish
-  pub selections : (g : Goal) (s : Sym) → IsIn g h.goals → g.selected ≡ Some s → IsMadeIn firings g.selected_by (marked_element g.id s g.selected_tag)
+  pub selections : (g : Goal) (s : Selection) → IsIn g h.goals → g.selected ≡ Some s → IsMadeIn firings s.maker (marked_element g.id s.operator s.tag)
   pub stand : (r : RuleOf) → IsIn r rules → NegationsStand r.production
 
 -- What settling sees to: what is made has a row, and is marked exactly where it is a goal's operator; elements are flagged as goals' where they are; and each

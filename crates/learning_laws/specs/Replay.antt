@@ -125,7 +125,7 @@ pub record AreAlike (free : Sym → Bool) (wishes others : List Wish) : Type 0 w
 
 -- the goals of these identifiers; nothing else of them matters to a firing
 abbrev pub as_goal : Sym → Goal
-as_goal s = record { id = s; impasse = impasse.Top; items = []; selected = None; selected_tag = 0; selected_by = 0 }
+as_goal s = record { id = s; impasse = impasse.Top; items = []; selected = None }
 
 -- what the rule makes from the firing's bindings, with the goals that it records
 abbrev pub made_again : Texts → List ℕ → FiringOf → List Wish

@@ -14,13 +14,14 @@ use Rattle.defs_match.specs.Rules.{RuleOf}
 use Rattle.defs_match.specs.declared.instance.Instance.{Instance}
 use Rattle.defs_soar.specs.declared.firing.Used.{Used}
 use Rattle.defs_soar.specs.declared.goal.Goal.{Goal}
+use Rattle.defs_soar.specs.declared.goal.Selection.{Selection}
 use Rattle.defs_soar.specs.declared.preference.Preference.{Preference}
 use Rattle.defs_soar.specs.Goals.{goal_elements, is_goal}
 use Rattle.defs_soar.specs.History.{FiringOf}
 use Rattle.defs_soar.specs.Levels.{is_level_one, level_in}
 use Rattle.defs_soar.specs.Laws.{IsIn}
 use Rattle.defs_soar.specs.Pending.{depth_of, Firable, firable_of}
-use Rattle.defs_soar.specs.Uses.{all_uses, elements_matched, goal_selecting, makes_element, marked_element}
+use Rattle.defs_soar.specs.Uses.{all_uses, elements_matched, makes_element, marked_element, selection_told}
 use Rattle.defs_soar.specs.Values.{has_triple_among}
 use Rattle.defs_soar.specs.WaveAtHand.{BeforeWave, Wave}
 use Rattle.defs_soar.specs.WaveFirings.{firing_of_work, made_in}
@@ -69,7 +70,7 @@ pub record IsMadeIn (firings : List FiringOf) (number : ℕ) (e : Element) : Typ
 pub record IsMadeElement (m : BeforeWave) (e : Element) : Type 0 where
   pub below : is_level_one (level_in m.reach.goals m.reach.reached e.id) ≡ false
   pub others : has_triple_among (goal_elements m.reach.goals) (triple_of e) ≡ false
-  pub unselected : goal_selecting m.reach.goals e ≡ None
+  pub unselected : selection_told m.reach.goals e ≡ None
 
 -- Where a wave begins: each row is of a wish that its firing made; each element that is of no goal's own has a row, and is marked exactly where it is a
 -- goal's operator; elements are flagged as goals' where they are; the maker of a selection made it; and the history is of lesser numbers.
@@ -78,7 +79,7 @@ pub record IsSettled (m : BeforeWave) (next : ℕ) : Type 0 where
   pub held : (e : Element) → IsIn e m.elements → IsMadeElement m e → list_any (makes_element e) m.rows ≡ true
   pub marks : (e : Element) → IsIn e m.elements → IsMadeElement m e → mark_eq e.accept (is_operator_of_goal e) ≡ true
   pub flags : (e : Element) → IsIn e m.elements → e.of_state ≡ is_goal m.reach.goals e.id
-  pub selections : (g : Goal) (s : Sym) → IsIn g m.reach.goals → g.selected ≡ Some s → IsMadeIn m.firings g.selected_by (marked_element g.id s g.selected_tag)
+  pub selections : (g : Goal) (s : Selection) → IsIn g m.reach.goals → g.selected ≡ Some s → IsMadeIn m.firings s.maker (marked_element g.id s.operator s.tag)
   pub numbers : (f : FiringOf) → IsIn f m.firings → f.number < next
 
 -- what a firing of these elements used stands on the history

@@ -84,8 +84,6 @@ fn first_goals(alloc: Global) -> Result<List<Goal>, NoMemory>
         impasse: Impasse::Top,
         items: List::new(alloc),
         selected: None,
-        selected_tag: 0,
-        selected_by: 0,
     })?;
     Ok(goals)
 }

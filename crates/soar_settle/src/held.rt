@@ -41,8 +41,8 @@ fn add_selected(out: &mut List<Triple>, goals: &[Goal]) -> Result<(), NoMemory>
 fn add_selected_of(out: &mut List<Triple>, goal: &Goal) -> Result<(), NoMemory>
     ensures { OnOk result (out.new ≡ out.old ++ selected_element goal.now) }
 {
-    if let Some(operator) = goal.selected {
-        out.push(plain_triple(goal.id, OPERATOR, operator))?;
+    if let Some(selection) = &goal.selected {
+        out.push(plain_triple(goal.id, OPERATOR, selection.operator))?;
     }
     Ok(())
 }

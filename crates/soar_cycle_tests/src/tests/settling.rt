@@ -24,8 +24,6 @@ fn goals_of(alloc: Global, names: &[u8]) -> Result<List<Goal>, NoMemory> {
             impasse: Impasse::StateNoChange,
             items: List::new(alloc),
             selected: None,
-            selected_tag: 0,
-            selected_by: 0,
         })?;
     }
     Ok(goals)

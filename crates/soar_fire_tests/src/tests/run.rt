@@ -37,8 +37,6 @@ fn one_goal(alloc: Global) -> Result<List<Goal>, AllocError> {
             impasse: Impasse::Top,
             items: List::new(alloc),
             selected: None,
-            selected_tag: 0,
-            selected_by: 0,
         },
     ]?))
 }

@@ -19,8 +19,6 @@ pub fn goals_of(alloc: Global, names: &[u8]) -> Result<List<Goal>, NoMemory> {
             impasse: Impasse::Top,
             items: List::new(alloc),
             selected: None,
-            selected_tag: 0,
-            selected_by: 0,
         })?;
     }
     Ok(goals)
