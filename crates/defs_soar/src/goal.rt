@@ -27,7 +27,7 @@ pub struct Item {
 
 /// A selected operator, the tag of its marked element when it was selected, and the least number of a firing
 /// that had an acceptable or require preference for it then.
-#[derive(Drop)]
+#[derive(Clone, Copy, PartialEq, Eq)]
 pub struct Selection {
     pub operator: Sym,
     pub tag: u32,

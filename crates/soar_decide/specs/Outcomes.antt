@@ -4,6 +4,7 @@ use Rattle.soar_sym.specs.declared.symbol.Sym.{Sym}
 use Rattle.defs_soar.specs.declared.goal.Goal.{Goal}
 use Rattle.defs_soar.specs.declared.goal.Impasse.{Impasse}
 use Rattle.defs_soar.specs.declared.goal.Item.{Item}
+use Rattle.defs_soar.specs.declared.goal.Selection.{Selection}
 use Rattle.defs_soar.specs.declared.preference.Preference.{Preference}
 use Rattle.defs_soar.specs.Architecture.{operator_word}
 use Rattle.defs_soar.specs.Preferences.{slot_of}
@@ -12,7 +13,6 @@ use Rattle.defs_soar.specs.Verdicts.{marked_tag, items_for, Verdict, are_left, i
 use Rattle.defs_soar.specs.Walk.{View, is_among_left, verdict_at}
 use Rattle.soar_decide.specs.declared.outcome.Outcome.{Outcome as OutcomeKept}
 use Rattle.soar_decide.specs.declared.outcome.Outcome.TheVariants as outcome
-use Rattle.soar_decide.specs.declared.outcome.Selection.{Selection}
 use Rattle.soar_decide.specs.declared.view.View.{View as ViewKept}
 
 -- its selected operator stays, another is selected (with whether that took a word), or there is an impasse

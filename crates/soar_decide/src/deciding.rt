@@ -1,6 +1,7 @@
 // The choice of a goal, and what it comes to.
 ghost use Rattle.std.specs.Prelude.{◌≡◌, ◌<◌, ◌≤◌, length, IfOk};
-ghost use Rattle.defs_soar.specs.Verdicts.{are_left, is_impasse, verdict_of};
+ghost use Rattle.defs_soar.specs.Sorted.{has_symbol};
+ghost use Rattle.defs_soar.specs.Verdicts.{are_left, is_impasse, values_of_scored, verdict_of};
 ghost use Rattle.defs_soar.specs.Walk.{is_among_left};
 ghost use Rattle.soar_choose.specs.Rows.{AreInRange, AreKnown, AreLeftWithin, AreSumsWithin, IsFraction, IsSomeLeft};
 ghost use Rattle.soar_decide.specs.Outcomes.{operator_rows, outcome_at, outcome_of, outcome_seen, selection_at, view_seen};
@@ -8,9 +9,9 @@ ghost use Rattle.soar_decide.specs.Outcomes.{operator_rows, outcome_at, outcome_
 use crate::drawing::{drawn, uses_word};
 use crate::items::{items_for, marked_tag};
 use crate::maker::maker_of;
-use crate::outcome::{Outcome, Selection};
+use crate::outcome::Outcome;
 use crate::view::View;
-use defs_soar::{Choice, Goal, Impasse, Preference, Scored};
+use defs_soar::{Choice, Goal, Impasse, Preference, Scored, Selection};
 use soar_choose::choose;
 use soar_sym::architecture::OPERATOR;
 use soar_sym::{List, NoMemory, Sym, is_symbol};
@@ -84,17 +85,17 @@ fn selection_at(view: &View<'_>, goal: &Goal, rows: &List<Preference>, operator:
 }
 
 /// Whether the selected operator, if there is one, is among those that are left.
-fn is_among_left(left: &[Scored], selected: Option<Sym>) -> bool
+fn is_among_left(left: &[Scored], selected: Option<Selection>) -> bool
     ensures { result ≡ is_among_left left.now selected }
 {
     match selected {
-        Some(operator) => has_value(left, operator),
+        Some(selection) => has_value(left, selection.operator),
         None => false,
     }
 }
 
 fn has_value(left: &[Scored], operator: Sym) -> bool
-    ensures { result ≡ is_among_left left.now (Some operator) }
+    ensures { result ≡ has_symbol (values_of_scored left.now) operator }
 {
     'left: for scored in left {
         if is_symbol(operator, scored.value) {

@@ -9,5 +9,5 @@ mod outcome;
 mod view;
 
 pub use deciding::decide;
-pub use outcome::{Outcome, Selection};
+pub use outcome::Outcome;
 pub use view::View;

@@ -1,13 +1,5 @@
-use defs_soar::{Impasse, Item};
-use soar_sym::{List, Sym};
-
-/// An operator that is selected: with the tag of its marked element, and the number of the least firing that made that.
-#[derive(Clone, Copy, PartialEq, Eq)]
-pub struct Selection {
-    pub operator: Sym,
-    pub tag: u32,
-    pub maker: u64,
-}
+use defs_soar::{Impasse, Item, Selection};
+use soar_sym::List;
 
 /// What a goal comes to in a decision.
 #[derive(Drop)]
