@@ -21,10 +21,11 @@ use crate::refused::{of_check, of_lexing, of_reading, refused};
 use crate::word::{first_run, is_word};
 use defs_run::Order;
 use defs_text::Token;
+use rule_check::check;
 use soar_edge::Command;
 use soar_lex::lex;
 use soar_read::read_production;
-use soar_rule::{Production, check};
+use soar_rule::Production;
 use soar_sym::{List, SymTable};
 use std::alloc::Global;
 

@@ -1,5 +1,5 @@
 -- Actions in turn.
-use Rattle.std.proofs.Common.{◌≡◌, ◌<◌, ℕ, ◌+◌, suc, List, [], ◌∷◌, ◌++◌, length, map, flat_map, drop, get_or, Ok, refl, sym, ap, ◌∙◌, subst, add-one, drop-cons}
+use Rattle.std.proofs.Common.{◌≡◌, ◌<◌, ℕ, ◌+◌, suc, List, [], ◌∷◌, ◌++◌, length, map, flat_map, drop, get_or, Result, Ok, Err, refl, sym, ap, ◌∙◌, subst, add-one, drop-cons}
 use Rattle.soar_sym.specs.Words.{Texts}
 use Rattle.soar_sym.specs.declared.symbol.Sym.{Sym}
 use Rattle.soar_rule.specs.declared.action.Action.{Action}
@@ -12,7 +12,9 @@ use Rattle.soar_fire.specs.ActionOutcomes.{action_outcome, actions_outcome}
 use Rattle.soar_fire.specs.Fires.{AreWishesKnown}
 use Rattle.soar_fire.specs.Growth.{OnlyGrows}
 use Rattle.soar_fire.specs.Known.{Knows, KnowsWishes, constants_of_actions, symbols_of_wish}
-use Rattle.soar_fire.specs.Outcomes.{reached, then_on, Standing}
+use Rattle.soar_fire.specs.Outcomes.{Outcome, reached, then_on, Standing, Leaves}
+use Rattle.soar_fire.specs.declared.fault.FireFault.{FireFault}
+use Rattle.soar_fire.proofs.OutcomeLemmas.{leaves_stopped}
 use Rattle.soar_fire.proofs.KnownLemmas.{knows_front, knows_back, knows_grown}
 
 -- ---- wishes
@@ -63,3 +65,13 @@ next_rest vars goals place actions i a made later s after within at is =
     ap (λ seen. actions_outcome vars goals place seen made s) (next_seen actions i a within at)
     ∙ ap (λ o. then_on o (λ m last. actions_outcome vars goals (suc place) (map action_seen (drop (i + 1) actions)) m last)) is
     ∙ ap (λ n. actions_outcome vars goals n (map action_seen (drop (i + 1) actions)) later after) (sym (add-one place))
+
+-- a limit that an action passed
+pub next_stop : (vars : List Sym) (goals : List Goal) (place : ℕ) (actions : List Action) (i : ℕ) (a : Action) (made later last : Made) (s after end : Standing) (whole : Outcome Made) (e : FireFault) (r : Result (Unit {0}) FireFault)
+    → i < length actions → a ≡ get_or actions i a
+    → actions_outcome vars goals place (map action_seen (drop i actions)) made s ≡ whole
+    → Leaves (action_outcome vars goals place (action_seen a) made s) later after (Err e) → r ≡ Err e → Leaves whole last end r
+next_stop vars goals place actions i a made later last s after end whole e r within at is h same =
+    subst (Leaves whole last end) (sym same)
+    (subst (λ o. Leaves o last end (Err e)) (sym (ap (λ seen. actions_outcome vars goals place seen made s) (next_seen actions i a within at)) ∙ is)
+    (leaves_stopped (action_outcome vars goals place (action_seen a) made s) (λ m then. actions_outcome vars goals (suc place) (map action_seen (drop (i + 1) actions)) m then) later last after end e h))

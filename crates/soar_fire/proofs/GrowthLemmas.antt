@@ -78,3 +78,11 @@ gains_twice words letters later after last end g h =
 -- a step that changes letters alone, and one behind it
 pub gains_then : (words : Texts) (letters after : List ℕ) (last : Texts) (end : List ℕ) → OnlyRise letters after → OnlyGains words after last end → OnlyGains words letters last end
 gains_then words letters after last end g h = gains_twice words letters words after last end (gains_letters words letters after g) h
+
+-- and two behind it
+pub gains_then_two : (words : Texts) (letters after : List ℕ) (later : Texts) (next : List ℕ) (last : Texts) (end : List ℕ) → OnlyRise letters after → OnlyGains words after later next → OnlyGains later next last end → OnlyGains words letters last end
+gains_then_two words letters after later next last end g h k = gains_twice words letters later next last end (gains_then words letters after later next g h) k
+
+-- and three behind it
+pub gains_then_three : (words : Texts) (letters after : List ℕ) (later : Texts) (next : List ℕ) (third : Texts) (fourth : List ℕ) (last : Texts) (end : List ℕ) → OnlyRise letters after → OnlyGains words after later next → OnlyGains later next third fourth → OnlyGains third fourth last end → OnlyGains words letters last end
+gains_then_three words letters after later next third fourth last end g h k m = gains_twice words letters third fourth last end (gains_then_two words letters after later next third fourth g h k) m

@@ -153,7 +153,7 @@ pub fn made_of(
 }
 
 /// Takes actions in turn.
-#[tactic(auto, using(crate::proofs::GrowthLemmas::gains_none, crate::proofs::GrowthLemmas::gains_twice))]
+#[tactic(auto, using(crate::proofs::GrowthLemmas::gains_none))]
 fn with_actions(
     scene: &Scene<'_>,
     actions: &[Action],

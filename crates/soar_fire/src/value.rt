@@ -160,7 +160,6 @@ pub fn called(
 }
 
 /// What a value stands for.
-#[tactic(auto, using(crate::proofs::GrowthLemmas::gains_letters, crate::proofs::GrowthLemmas::gains_words))]
 #[cycle(values)]
 pub fn evaluated(
     scene: &Scene<'_>,
@@ -198,7 +197,7 @@ pub fn evaluated(
 }
 
 /// What values stand for, from left to right, up to the first that stands for nothing.
-#[tactic(auto, using(crate::proofs::GrowthLemmas::gains_none, crate::proofs::GrowthLemmas::gains_twice))]
+#[tactic(auto, using(crate::proofs::GrowthLemmas::gains_none))]
 #[cycle(values)]
 pub fn evaluated_all(
     scene: &Scene<'_>,

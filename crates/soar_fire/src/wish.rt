@@ -78,7 +78,6 @@ fn evaluated_referent(
 }
 
 /// The identifier, and whether it is one, then attribute, value and referent.
-#[tactic(auto, using(crate::proofs::GrowthLemmas::gains_letters, crate::proofs::GrowthLemmas::gains_then, crate::proofs::GrowthLemmas::gains_twice))]
 pub fn wished(
     scene: &Scene<'_>,
     asked: &Asked<'_>,

@@ -1,12 +1,12 @@
-// Copies of productions, in memory of their own.
+// Copies of productions and patterns, in memory of their own.
 ghost use Rattle.std.specs.Prelude.{◌≡◌, IfOk, IsTrue, length};
 ghost use Rattle.soar_rule.specs.Below.{conds_below};
 ghost use Rattle.soar_rule.specs.Conditions.{conditions};
 ghost use Rattle.soar_rule.specs.Productions.{production_seen};
 
-use crate::cond::Cond;
+use crate::cond::{Cond, Pattern};
 use crate::production::Production;
-use crate::renumbering::{renumber_actions, renumber_conds};
+use crate::renumbering::{renumber_actions, renumber_conds, renumber_pattern};
 use soar_sym::{List, NoMemory, Text};
 use std::alloc::Global;
 
@@ -20,11 +20,7 @@ impl Production {
     }
 
     /// A copy with these conditions in the place of its own.
-    pub(crate) fn with_conds(
-        &self,
-        conds: List<Cond>,
-        alloc: Global,
-    ) -> Result<Production, NoMemory>
+    pub fn with_conds(&self, conds: List<Cond>, alloc: Global) -> Result<Production, NoMemory>
         requires { IsTrue (conds_below (length self.now.vars) conds) }
         ensures seen { IfOk result (λ copy. production_seen copy ≡ record (production_seen self.now) { conditions = conditions conds }) }
         ensures same { conds ≡ self.now.conds → IfOk result (λ copy. copy ≡ self.now) }
@@ -41,6 +37,15 @@ impl Production {
             conds,
             actions,
         })
+    }
+}
+
+impl Pattern {
+    /// A copy that shares no memory with it.
+    pub fn copy(&self, alloc: Global) -> Result<Pattern, NoMemory>
+        ensures { IfOk result (λ copy. copy ≡ self.now) }
+    {
+        renumber_pattern(None, self, alloc)
     }
 }
 

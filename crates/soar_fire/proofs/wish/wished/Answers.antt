@@ -2,7 +2,7 @@ use Rattle.std.proofs.Common.{IfSome}
 use Rattle.soar_sym.specs.Words.{IsKnown}
 use Rattle.soar_rule.specs.Productions.{preference_seen, value_seen}
 use Rattle.soar_fire.specs.Growth.{OnlyGrows}
-use Rattle.soar_fire.proofs.GrowthLemmas.{grown_twice}
+use Rattle.soar_fire.proofs.GrowthLemmas.{gains_letters, gains_then, gains_then_three, gains_then_two, grown_twice}
 use Rattle.soar_fire.proofs.KnownLemmas.{known_grown, knows_grown}
 use Rattle.soar_fire.proofs.WishLemmas.{attr_constants, value_constants, referent_constants, wish_known, judged_known}
 use Rattle.soar_fire.proofs.wish.wished.Goals as goal
@@ -34,3 +34,32 @@ returns-clause-known c =
     judged_known _ _ c.judged.result c.judged.ensures.same
     (wish_known c.evaluated_referent.new.table c.in-Ok.id c.in-Ok-2.attr c.in-Ok-3.value c.kind_of-kind.result c.in-Ok-4.referent
     (known_grown _ _ _ first id) (known_grown _ _ _ second attr) (known_grown _ _ _ third value) referent)
+
+-- ---- what the table and the letters gain up to each end
+
+pub returns-in_err-id-clause-gains : goal.returns-in_err-id-clause-gains
+returns-in_err-id-clause-gains c = gains_letters _ _ _ c.identifier_of.ensures.letters
+
+pub returns-in-Err-clause-gains : goal.returns-in-Err-clause-gains
+returns-in-Err-clause-gains c = gains_letters _ _ _ c.identifier_of.ensures.letters
+
+pub returns-in_err-attr-clause-gains : goal.returns-in_err-attr-clause-gains
+returns-in_err-attr-clause-gains c = gains_then _ _ _ _ _ c.identifier_of.ensures.letters c.evaluated.ensures.gains
+
+pub returns-in-Err-2-clause-gains : goal.returns-in-Err-2-clause-gains
+returns-in-Err-2-clause-gains c = gains_then _ _ _ _ _ c.identifier_of.ensures.letters c.evaluated.ensures.gains
+
+pub returns-in_err-value-clause-gains : goal.returns-in_err-value-clause-gains
+returns-in_err-value-clause-gains c = gains_then_two _ _ _ _ _ _ _ c.identifier_of.ensures.letters c.evaluated.ensures.gains c.evaluated-2.ensures.gains
+
+pub returns-in-Err-3-clause-gains : goal.returns-in-Err-3-clause-gains
+returns-in-Err-3-clause-gains c = gains_then_two _ _ _ _ _ _ _ c.identifier_of.ensures.letters c.evaluated.ensures.gains c.evaluated-2.ensures.gains
+
+pub returns-in_err-referent-clause-gains : goal.returns-in_err-referent-clause-gains
+returns-in_err-referent-clause-gains c = gains_then_three _ _ _ _ _ _ _ _ _ c.identifier_of.ensures.letters c.evaluated.ensures.gains c.evaluated-2.ensures.gains c.evaluated_referent.ensures.gains
+
+pub returns-in-Err-4-clause-gains : goal.returns-in-Err-4-clause-gains
+returns-in-Err-4-clause-gains c = gains_then_three _ _ _ _ _ _ _ _ _ c.identifier_of.ensures.letters c.evaluated.ensures.gains c.evaluated-2.ensures.gains c.evaluated_referent.ensures.gains
+
+pub returns-clause-gains : goal.returns-clause-gains
+returns-clause-gains c = gains_then_three _ _ _ _ _ _ _ _ _ c.identifier_of.ensures.letters c.evaluated.ensures.gains c.evaluated-2.ensures.gains c.evaluated_referent.ensures.gains

@@ -1,0 +1,17 @@
+pub mod AgreeLemmas
+pub mod BindingLemmas
+pub mod CheckingLemmas
+pub mod FoundLemmas
+pub mod ItemLemmas
+pub mod LastingLemmas
+pub mod LevelLemmas
+pub mod LinkingLemmas
+pub mod LookLemmas
+pub mod MarkLemmas
+pub mod MemberLemmas
+pub mod OrderBelowLemmas
+pub mod RoundLemmas
+pub mod SizeLemmas
+pub mod StopLemmas
+pub mod UnmarkedLemmas
+pub mod WaitingLemmas

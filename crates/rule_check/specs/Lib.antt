@@ -1,0 +1,9 @@
+pub mod Agreeing
+pub mod Levels
+pub mod Marking
+pub mod Members
+pub mod Parts
+pub mod Stops
+pub mod Taking
+pub mod Telling
+pub mod Unmarked

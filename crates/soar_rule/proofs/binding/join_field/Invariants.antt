@@ -1,7 +1,0 @@
-use Rattle.std.proofs.Common.{take, flat_map}
-use Rattle.soar_rule.specs.Marking.{Joined}
-use Rattle.soar_rule.specs.Variables.{plain_in_test}
-use Rattle.soar_rule.proofs.binding.join_field.Given as goal
-
-abbrev pub invariant-tests : goal.invariant-tests
-invariant-tests l = Joined l.initial.marks.marks l.marks.marks (flat_map plain_in_test (take l.test-index l.test-items))

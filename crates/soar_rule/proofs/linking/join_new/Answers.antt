@@ -1,6 +1,0 @@
-use Rattle.std.proofs.Common.{sym}
-use Rattle.soar_rule.proofs.LinkingLemmas.{joined_again}
-use Rattle.soar_rule.proofs.linking.join_new.Goals as goal
-
-pub returns-then-has-clause-joined : goal.returns-then-has-clause-joined
-returns-then-has-clause-joined c = joined_again c.args.marks.now.marks c.args.number (sym c.if-has.ensures)

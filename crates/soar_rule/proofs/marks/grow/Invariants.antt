@@ -1,9 +1,0 @@
-use Rattle.std.proofs.Common.{◌≡◌, ℕ, ◌-◌, length}
-use Rattle.soar_rule.specs.Marking.{is_marked}
-use Rattle.soar_rule.proofs.marks.grow.Given as goal
-
-abbrev pub invariant-marks : goal.invariant-marks
-invariant-marks l = (number : ℕ) → is_marked l.marks number ≡ is_marked l.initial.marks number
-
-abbrev pub decreases-marks : goal.decreases-marks
-decreases-marks l = l.count - length l.marks
