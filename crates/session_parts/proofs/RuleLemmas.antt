@@ -1,16 +1,11 @@
--- Names of rules.
-use Rattle.std.proofs.Common.{◌≡◌, ℕ, ◌==◌, Bool, true, false, cond, List, [], ◌∷◌, ◌++◌, map, Some, refl, ap, subst, ◌∙◌, append_assoc}
-use Rattle.std.specs.Prelude.{if◌then◌else◌, codes}
+-- Names of rules, and the words of a rule.
+use Rattle.std.proofs.Common.{◌≡◌, ℕ, ◌==◌, Bool, true, false, cond, List, [], ◌∷◌, Some, subst}
+use Rattle.std.specs.Prelude.{if◌then◌else◌}
 use Rattle.soar_sym.specs.Words.{Texts, IsKnown}
-use Rattle.soar_rule.specs.Productions.{ProductionOf}
+use Rattle.soar_sym.specs.declared.symbol.Sym.{Sym}
 use Rattle.soar_rule.specs.Symbols.{AreKnown, symbols_of}
 use Rattle.defs_match.specs.Rules.{RuleOf}
-use Rattle.defs_text.specs.Symbols.{symbol_text}
-use Rattle.defs_read.specs.Printing.{indented, inner_lines, lines_text, production_text}
-use Rattle.defs_soar.specs.Trace.{Written, rendered, followed_by, line_text}
-use Rattle.soar_sym.specs.declared.symbol.Sym.{Sym}
 use Rattle.defs_run.specs.Carrying.{is_named, rule_named}
-use Rattle.defs_run.specs.Sessions.{as_lines}
 use Rattle.defs_run.specs.Listing.{rule_name}
 use Rattle.soar_settle.specs.Known.{AreRulesKnown}
 

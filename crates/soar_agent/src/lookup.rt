@@ -12,7 +12,7 @@ impl Session {
     pub fn lookup(&self, alloc: Global) -> Lookup<'_>
         ensures table { result.table.now ≡ self.now.agent.table }
         ensures letters { result.letters.now ≡ self.now.agent.letters }
-        ensures memory { result.memory.now ≡ self.now.agent.memory }
+        ensures elements { result.memory.now.elements ≡ self.now.agent.memory.elements }
         ensures session { (history : ListOf RecordedFiring) → session_with result (session_of self.now history) ≡ session_of self.now history }
     {
         Lookup {

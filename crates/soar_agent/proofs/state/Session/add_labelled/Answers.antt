@@ -16,7 +16,7 @@ returns-in-Some c = λ history.
     let t : Spelled = spelled_by c.args.slot.id c.args.slot.attr (labelled s c.args.name None) in
     let next : List ℕ → List ℕ → List Element → Option ℕ = λ letters name elements. tag_of (plain_triple c.args.slot.id c.args.slot.attr (next_identifier letters name)) elements in
     let there : tag_of t.triple c.args.self.now.agent.memory.elements ≡ Some c.in-Some.tag =
-    ap (next c.args.self.now.agent.letters c.args.name) (sym (ap (λ m. m.elements) c.lookup.ensures.memory))
+    ap (next c.args.self.now.agent.letters c.args.name) (sym c.lookup.ensures.elements)
     ∙ (ap (λ letters. next letters c.args.name c.lookup.result.memory.now.elements) (sym c.lookup.ensures.letters)
     ∙ (ap (λ name. next c.lookup.result.letters.now name c.lookup.result.memory.now.elements) (sym c.as_str.ensures)
     ∙ (sym c.in_ok-tag.ensures ∙ c.in-Some.is))) in
@@ -29,7 +29,7 @@ returns-in-None c = λ history.
     let t : Spelled = spelled_by c.args.slot.id c.args.slot.attr (labelled s c.args.name None) in
     let next : List ℕ → List ℕ → List Element → Option ℕ = λ letters name elements. tag_of (plain_triple c.args.slot.id c.args.slot.attr (next_identifier letters name)) elements in
     let missing : tag_of t.triple c.args.self.now.agent.memory.elements ≡ None =
-    ap (next c.args.self.now.agent.letters c.args.name) (sym (ap (λ m. m.elements) c.lookup.ensures.memory))
+    ap (next c.args.self.now.agent.letters c.args.name) (sym c.lookup.ensures.elements)
     ∙ (ap (λ letters. next letters c.args.name c.lookup.result.memory.now.elements) (sym c.lookup.ensures.letters)
     ∙ (ap (λ name. next c.lookup.result.letters.now name c.lookup.result.memory.now.elements) (sym c.as_str.ensures)
     ∙ (sym c.in_ok-tag.ensures ∙ c.in-None.is))) in

@@ -1,4 +1,4 @@
-use Rattle.std.proofs.Common.{◌≡◌, ◌∙◌, Option, Some, None, map, sym, subst}
+use Rattle.std.proofs.Common.{◌≡◌, Option, Some, None, map, sym, subst}
 use Rattle.soar_sym.specs.declared.symbol.Sym.{Sym}
 use Rattle.soar_sym.specs.declared.symbol.Triple.{Triple}
 use Rattle.defs_run.specs.Runs.{replied_by}
