@@ -16,7 +16,8 @@ use Rattle.defs_run.specs.Stages.{Reading}
 use Rattle.soar_settle.specs.declared.stop.Stop.{Stop}
 use Rattle.soar_settle.specs.declared.stop.Stop.TheVariants as stop
 use Rattle.soar_agent.specs.Carries.{Carries, with_table}
-use Rattle.soar_agent.specs.Commands.{CarriesOut, Commands, Cycled, IsSame, Outcomes, SaysStop}
+use Rattle.session_parts.specs.Stopping.{SaysStop}
+use Rattle.soar_agent.specs.Commands.{CarriesOut, Commands, Cycled, IsSame, Outcomes}
 use Rattle.soar_agent.specs.Courses.{Goes, Passed, Went, front_said}
 use Rattle.soar_agent.specs.States.{session_of}
 use Rattle.soar_agent.specs.Steps.{Obeys, Stops, written_of}

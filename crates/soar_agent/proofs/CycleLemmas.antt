@@ -1,6 +1,6 @@
 -- A cycle of the session, part by part, and cycles in a row.
-use Rattle.std.proofs.Common.{◌≡◌, ℕ, suc, ◌+◌, ◌-◌, ◌^◌, ◌<◌, ◌≤◌, ◌==◌, Bool, true, false, not, List, [], ◌∷◌, ◌++◌, length, Option, Some, None, Result, Ok, Err, refl, sym, ap, subst, ◌∙◌, arith, append-nil}
-use Rattle.std.specs.Prelude.{codes, slice_get}
+use Rattle.std.proofs.Common.{◌≡◌, ℕ, suc, ◌+◌, ◌-◌, ◌^◌, ◌<◌, ◌≤◌, Bool, true, false, List, [], ◌∷◌, ◌++◌, Option, Some, None, Result, Ok, Err, refl, sym, ap, subst, ◌∙◌, arith, append-nil}
+use Rattle.std.specs.Prelude.{codes}
 use Rattle.defs_soar.specs.declared.limit.Which.{Which}
 use Rattle.defs_soar.specs.declared.limit.Which.TheVariants as which
 use Rattle.defs_soar.specs.Agents.{Agent}
@@ -23,16 +23,6 @@ use Rattle.soar_agent.specs.declared.state.Session.{Session as SessionKept}
 use Rattle.soar_agent.proofs.CourseLemmas.{nothing, step_front, phase_front, went_then, went_stops, passed_more, passed_cycles}
 use Rattle.soar_agent.proofs.QuietLemmas.{phase_quiet}
 use Rattle.soar_agent.proofs.SessionLemmas.{not_passed, is_passed}
-
--- ---- the end of a text
-
--- the last byte decides
-pub mid_last : (mid : Bool) (bytes : List ℕ) (b : ℕ) → slice_get bytes (length bytes - 1) ≡ Some b → is_mid_after mid bytes ≡ not (b == 10)
-mid_last mid [] b e = absurd (cc)
-mid_last mid (x ∷ []) b e = let same : x ≡ b = cc in ap (λ y. not (y == 10)) same
-mid_last mid (x ∷ y ∷ bytes) b e =
-    let before : length (x ∷ y ∷ bytes) - 1 ≡ suc (length (y ∷ bytes) - 1) = omega arith in
-    mid_last (not (x == 10)) (y ∷ bytes) b (subst (λ n. slice_get (x ∷ y ∷ bytes) n ≡ Some b) before e)
 
 -- ---- a phase
 

@@ -27,8 +27,9 @@ use Rattle.soar_settle.specs.declared.stop.Stop.{Stop}
 use Rattle.soar_agent.specs.Adding.{adds_to, spelled_by, unless_twice}
 use Rattle.soar_cmd.specs.Asked.{operand_seen}
 use Rattle.soar_cmd.specs.Known.{IsAttributeKnown}
-use Rattle.soar_agent.specs.Labels.{symbol_in}
-use Rattle.soar_agent.specs.States.{label_seen, session_of}
+use Rattle.session_parts.specs.Labels.{symbol_in}
+use Rattle.session_parts.specs.Labels.{label_seen}
+use Rattle.soar_agent.specs.States.{session_of}
 use Rattle.soar_agent.specs.Steps.{Obeys}
 use Rattle.soar_agent.specs.declared.state.Session.{Session as SessionKept}
 

@@ -13,7 +13,7 @@ use Rattle.soar_settle.specs.declared.stop.Stop.TheVariants as stop
 use Rattle.soar_agent.specs.Labels.{Makes, OnlyNames, with_names}
 use Rattle.soar_agent.specs.States.{session_of}
 use Rattle.soar_agent.specs.Steps.{Obeys}
-use Rattle.soar_agent.specs.declared.state.Label.{Label}
+use Rattle.session_parts.specs.declared.label.Label.{Label}
 use Rattle.soar_agent.specs.declared.state.Session.{Session as SessionKept}
 use Rattle.soar_agent.proofs.SessionLemmas.{obeys_same, drawn_same, drawn_stops}
 

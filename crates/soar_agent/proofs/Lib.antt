@@ -6,7 +6,5 @@ pub mod GivenLemmas
 pub mod LabelLemmas
 pub mod QuietLemmas
 pub mod ReplyLemmas
-pub mod SaidLemmas
 pub mod SessionLemmas
 pub mod SoundLemmas
-pub mod TagLemmas

@@ -25,13 +25,14 @@ use Rattle.soar_cycle.specs.declared.agent.Agent.{Agent as AgentKept}
 use Rattle.soar_cycle.proofs.StandsLemmas.{state_is}
 use Rattle.soar_settle.specs.declared.stop.Stop.{Stop}
 use Rattle.soar_settle.specs.declared.stop.Stop.TheVariants as stop
-use Rattle.soar_agent.specs.Carries.{rules_with}
+use Rattle.session_parts.specs.Rules.{rules_with}
 use Rattle.soar_agent.specs.Courses.{told_in, front_said, Went, Goes}
-use Rattle.soar_agent.specs.Saying.{Says}
-use Rattle.soar_agent.specs.States.{label_seen, session_of}
+use Rattle.session_parts.specs.Saying.{Says}
+use Rattle.session_parts.specs.Labels.{label_seen}
+use Rattle.soar_agent.specs.States.{session_of}
 use Rattle.soar_agent.specs.Steps.{Obeys, watch}
 use Rattle.soar_agent.specs.Telling.{front_told}
-use Rattle.soar_agent.specs.declared.state.Label.{Label}
+use Rattle.session_parts.specs.declared.label.Label.{Label}
 use Rattle.soar_agent.specs.declared.state.Session.{Session as SessionKept}
 use Rattle.soar_agent.proofs.CourseLemmas.{nothing, front_words, limit_words, run_plain}
 use Rattle.soar_agent.proofs.QuietLemmas.{quiet_written, settling_quiet, settling_silent}

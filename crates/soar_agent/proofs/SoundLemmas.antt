@@ -15,7 +15,8 @@ use Rattle.defs_run.specs.Carrying.{is_named}
 use Rattle.soar_cycle.specs.Firables.{IsBelowRules, AreNumbered}
 use Rattle.soar_settle.specs.Known.{AreElementsKnown, AreRulesKnown, AreRowsKnown, AreTriplesKnown}
 use Rattle.soar_cycle.specs.Seen.{AreNoJustifications, AreUpTo, IsSound}
-use Rattle.soar_agent.specs.Carries.{rules_with, with_table}
+use Rattle.session_parts.specs.Rules.{rules_with}
+use Rattle.soar_agent.specs.Carries.{with_table}
 use Rattle.soar_agent.specs.declared.state.Session.{Session as SessionKept}
 use Rattle.soar_cmd.proofs.WordLemmas.{symbol_stays}
 
@@ -151,15 +152,7 @@ sound_loaded s rules production sound known user are =
       inputs_known = sound.inputs_known;
     }
 
--- ---- elements and inputs
-
-pub elements_filter : (p : Element → Bool) (words : Texts) (elements : List Element) → AreElementsKnown words elements → AreElementsKnown words (filter p elements)
-elements_filter p words [] known = tt
-elements_filter p words (e ∷ elements) known = by (p e) (elements_filter p words elements known.1)
-  where
-    by : (b : Bool) → AreElementsKnown words (filter p elements) → AreElementsKnown words (cond b (e ∷ filter p elements) (filter p elements))
-    by true later = (known.0, later)
-    by false later = later
+-- ---- inputs
 
 pub triples_filter : (p : Triple → Bool) (words : Texts) (triples : List Triple) → AreTriplesKnown words triples → AreTriplesKnown words (filter p triples)
 triples_filter p words [] known = tt

@@ -66,10 +66,3 @@ Cycled mid c new before after (Ok done) = Went mid c new before after
 Cycled mid c new before after (Err (stop.Limit limit)) =
     (limit_in c.steps ≡ Some limit) × (after ≡ before ++ ((front_said mid c.steps).text ++ line_text (front_said mid c.steps).mid_line (limit_text limit)))
 Cycled mid c new before after (Err stop.NoMemory) = after ≡ before
-
--- ---- stops
-
--- what was said before a limit and its line were appended, or nothing
-abbrev pub SaysStop : Stop → Bool → List ℕ → List ℕ → List ℕ → Stop → Type 0
-SaysStop why mid said before after (stop.Limit limit) = (why ≡ stop.Limit limit) × (after ≡ before ++ (said ++ line_text mid (limit_text limit)))
-SaysStop why mid said before after stop.NoMemory = after ≡ before

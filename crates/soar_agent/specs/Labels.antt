@@ -1,27 +1,14 @@
--- What operands stand for, and the labels that come of that.
-use Rattle.std.specs.Prelude.{◌≡◌, ℕ, ◌+◌, List, Option, Some, None, Result, Ok, Err}
-use Rattle.soar_sym.specs.Letters.{last_of}
+-- What making a label does to the session.
+use Rattle.std.specs.Prelude.{◌≡◌, ℕ, List, Some, None, Result, Ok, Err}
 use Rattle.soar_sym.specs.declared.symbol.Sym.{Sym}
-use Rattle.soar_sym.specs.declared.symbol.Sym.TheVariants.{Ident}
 use Rattle.defs_soar.specs.History.{RecordedFiring}
 use Rattle.defs_soar.specs.Limits.{first_passed}
-use Rattle.defs_soar.specs.Naming.{letter_from}
-use Rattle.defs_run.specs.Orders.{Operand, is_symbol, is_label}
-use Rattle.defs_run.specs.Sessions.{Label, Resolved, label_in}
+use Rattle.defs_run.specs.Sessions.{Resolved}
 use Rattle.soar_settle.specs.declared.stop.Stop.{Stop}
 use Rattle.soar_settle.specs.declared.stop.Stop.TheVariants as stop
 use Rattle.soar_agent.specs.States.{session_of}
-use Rattle.soar_agent.specs.declared.state.Label.{Label as LabelKept}
+use Rattle.session_parts.specs.declared.label.Label.{Label as LabelKept}
 use Rattle.soar_agent.specs.declared.state.Session.{Session as SessionKept}
-
--- the symbol that an operand stands for already
-abbrev pub symbol_in : List Label → Operand → Option Sym
-symbol_in labels (is_symbol symbol) = Some symbol
-symbol_in labels (is_label name) = label_in labels name
-
--- the identifier that a label becomes
-abbrev pub next_identifier : List ℕ → List ℕ → Sym
-next_identifier letters name = Ident (letter_from name) (last_of letters (letter_from name) + 1)
 
 -- the session is the one in which the operand stands for the symbol; or the identifiers of a letter are spent
 abbrev pub Makes : SessionKept → Resolved → List RecordedFiring → Result Sym Stop → Type 0

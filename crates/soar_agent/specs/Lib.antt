@@ -3,8 +3,6 @@ pub mod Carries
 pub mod Commands
 pub mod Courses
 pub mod Labels
-pub mod Lettered
-pub mod Saying
 pub mod States
 pub mod Steps
 pub mod Telling

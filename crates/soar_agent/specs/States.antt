@@ -1,13 +1,10 @@
 -- The session of the definitions that the code's session stands for.
 use Rattle.std.specs.Prelude.{List, map}
 use Rattle.defs_soar.specs.History.{RecordedFiring}
-use Rattle.defs_run.specs.Sessions.{Label, Session}
+use Rattle.defs_run.specs.Sessions.{Session}
 use Rattle.soar_cycle.specs.Seen.{agent_of}
-use Rattle.soar_agent.specs.declared.state.Label.{Label as LabelKept}
+use Rattle.session_parts.specs.Labels.{label_seen}
 use Rattle.soar_agent.specs.declared.state.Session.{Session as SessionKept}
-
-abbrev pub label_seen : LabelKept → Label
-label_seen l = record { name = l.name; symbol = l.symbol }
 
 -- with this history of firings
 abbrev pub session_of : SessionKept → List RecordedFiring → Session

@@ -1,18 +1,19 @@
-// Labels of commands, and the identifiers that they stand for.
-ghost use Rattle.std.specs.Prelude.{◌≡◌, ◌≤◌, List as ListOf, Some, None, Ok, IfOk, IfSome, map};
-ghost use Rattle.soar_sym.specs.Words.{IsKnown, Texts};
+// The identifiers that labels stand for.
+ghost use Rattle.std.specs.Prelude.{◌≡◌, List as ListOf, Some, None, Ok, IfOk, map};
+ghost use Rattle.soar_sym.specs.Words.{IsKnown};
 ghost use Rattle.soar_sym.specs.declared.symbol.Sym.{Sym as SymOf};
-ghost use Rattle.defs_run.specs.Sessions.{label_in, labelled, resolved};
+ghost use Rattle.defs_run.specs.Sessions.{labelled, resolved};
 ghost use Rattle.defs_soar.specs.History.{RecordedFiring};
-ghost use Rattle.defs_soar.specs.Naming.{letter_from};
 ghost use Rattle.soar_cmd.specs.Asked.{operand_seen};
 ghost use Rattle.soar_cmd.specs.Known.{IsOperandKnown};
-ghost use Rattle.soar_agent.specs.Labels.{Makes, OnlyNames, symbol_in};
-ghost use Rattle.soar_agent.specs.States.{label_seen, session_of};
+ghost use Rattle.session_parts.specs.Labels.{label_seen, symbol_in};
+ghost use Rattle.soar_agent.specs.Labels.{Makes, OnlyNames};
+ghost use Rattle.soar_agent.specs.States.{session_of};
 
-use crate::state::{Label, Session};
+use crate::state::Session;
 use defs_run::Operand;
 use defs_soar::Which;
+use session_parts::{Label, label_in, letter_from};
 use soar_cycle::Stop;
 use soar_sym::{Sym, Text};
 
@@ -48,30 +49,5 @@ impl Session {
             }
             Err(_) => Err(Stop::Limit(Which::Identifiers)),
         }
-    }
-}
-
-/// The identifier of the label of a name.
-pub fn label_in(labels: &[Label], name: &str) -> Option<Sym>
-    ensures symbol { result ≡ label_in (map label_seen labels.now) name.now }
-    ensures known { (words : Texts) → IfSome result (λ symbol. IsKnown words symbol) }
-{
-    'labels: for label in labels {
-        if label.name.as_str() == name {
-            return Some(label.symbol);
-        }
-    }
-    None
-}
-
-/// The letter of the identifier of a label: the first of its name as a capital, or I.
-pub fn letter_from(name: &[u8]) -> u8
-    ensures letter { result ≡ letter_from name.now }
-    ensures low { 65 ≤ result }
-    ensures high { result ≤ 90 }
-{
-    match name.first() {
-        Some(first) if first.is_ascii_alphabetic() => first.to_ascii_uppercase(),
-        _ => b'I',
     }
 }

@@ -1,22 +1,20 @@
-//! The session: an agent with the labels of its commands, and what a command or a cycle says.
+//! The session: an agent with the labels of its commands, and what a command or a cycle does and says.
 #![tactic(auto)]
 
 mod adding;
-mod elements;
 mod inputs;
 mod labels;
 mod listing;
 mod loading;
+mod lookup;
 mod outcome;
 mod refusing;
 mod removing;
 mod running;
-mod said;
 mod session;
 mod state;
-mod stopping;
-mod unknown;
 
 pub use outcome::Outcome;
+pub use session_parts::Label;
 pub use soar_cycle::Stop;
-pub use state::{Label, Session};
+pub use state::Session;

@@ -5,7 +5,6 @@ ghost use Rattle.defs_soar.specs.Events.{proposal_phase};
 ghost use Rattle.defs_soar.specs.History.{RecordedFiring};
 ghost use Rattle.defs_soar.specs.Learning.{without_learning};
 ghost use Rattle.defs_soar.specs.Phases.{Course, phase};
-ghost use Rattle.defs_soar.specs.Trace.{is_mid_after};
 ghost use Rattle.defs_run.specs.Carrying.{carried_out};
 ghost use Rattle.defs_run.specs.Orders.{run_cycles};
 ghost use Rattle.defs_run.specs.Present.{cycle, run_present};
@@ -14,29 +13,25 @@ ghost use Rattle.soar_agent.specs.Commands.{CarriesOut, Cycled};
 ghost use Rattle.soar_agent.specs.Courses.{Goes, GoesPhase, Went};
 
 use crate::outcome::{Outcome, outcome_of};
-use crate::said::say_line;
 use crate::state::Session;
-use crate::stopping::say_stop;
 use defs_soar::Which;
+use session_parts::{Origin, Reason, is_mid_after, say_line, say_stop};
 use soar_cycle::Stop;
 use soar_sym::Text;
-use std::alloc::Global;
 
 impl Session {
     /// Asks for so many cycles, unless the agent is halted.
     pub fn ask_to_run(
         &mut self,
-        alloc: Global,
-        source: &str,
-        line: u64,
+        origin: Origin<'_>,
         count: u32,
         out: &mut Text,
     ) -> Result<Outcome, Stop>
         requires { IsSound self.old.agent }
-        ensures { CarriesOut self.old self.new source.now line (carried_out run_present (run_cycles count)) out.old out.new result }
+        ensures { CarriesOut self.old self.new origin.source.now origin.line (carried_out run_present (run_cycles count)) out.old out.new result }
     {
         if self.agent.halted {
-            return outcome_of(self.refuse(alloc, source, line, 37, "halted", out));
+            return outcome_of(self.refuse(origin, Reason::Halted, out));
         }
         Ok(Outcome::Run(count))
     }
@@ -50,7 +45,7 @@ impl Session {
         ensures sound { IfOk result (λ _. IsSound self.new.agent) }
     {
         let mut said = Text::new(text.allocator());
-        match self.run_cycle(text.allocator(), &mut said) {
+        match self.run_cycle(&mut said) {
             Ok(()) => {
                 text.push_str(said.as_str())?;
                 Ok(())
@@ -60,7 +55,7 @@ impl Session {
     }
 
     /// Runs a cycle: the proposal phase, which is counted.
-    fn run_cycle(&mut self, alloc: Global, out: &mut Text) -> Result<(), Stop>
+    fn run_cycle(&mut self, out: &mut Text) -> Result<(), Stop>
         requires { IsSound self.old.agent }
         ensures course { (history : ListOf RecordedFiring) → Goes self.old.mid_line (cycle (agent_of self.old.agent history)) self.new out.old out.new result }
         ensures labels { self.new.labels ≡ self.old.labels }
@@ -70,7 +65,7 @@ impl Session {
             return Err(Stop::Limit(Which::Counts));
         }
         self.agent.cycles += 1;
-        match self.propose(alloc, out) {
+        match self.propose(out) {
             Ok(cut) => self.say_cut(cut, out),
             Err(stop) => Err(stop),
         }
@@ -92,26 +87,16 @@ impl Session {
     }
 
     /// Runs the proposal phase, and tells whether it was cut.
-    fn propose(&mut self, alloc: Global, out: &mut Text) -> Result<bool, Stop>
+    fn propose(&mut self, out: &mut Text) -> Result<bool, Stop>
         requires { IsSound self.old.agent }
         ensures phase { (history : ListOf RecordedFiring) → GoesPhase self.old.mid_line (phase without_learning true (agent_of self.old.agent history)) self.new out.old out.new result }
         ensures labels { self.new.labels ≡ self.old.labels }
         ensures sound { IfOk result (λ _. IsSound self.new.agent) }
     {
-        let mut text = Text::new(alloc);
-        let cut = self.agent.propose(alloc, &mut text);
+        let mut text = Text::new(out.allocator());
+        let cut = self.agent.propose(out.allocator(), &mut text);
         out.push_str(text.as_str())?;
         self.mid_line = is_mid_after(self.mid_line, text.as_str().as_bytes());
         cut
-    }
-}
-
-/// Whether text ends in the middle of a line behind more bytes.
-fn is_mid_after(mid_line: bool, bytes: &[u8]) -> bool
-    ensures { result ≡ is_mid_after mid_line bytes.now }
-{
-    match bytes.last() {
-        Some(byte) => *byte != b'\n',
-        None => mid_line,
     }
 }

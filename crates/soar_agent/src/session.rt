@@ -12,9 +12,9 @@ ghost use Rattle.soar_agent.specs.States.{session_of};
 
 use crate::outcome::{Outcome, outcome_of};
 use crate::state::Session;
-use crate::stopping::say_stop;
 use defs_run::Order;
 use defs_soar::Which;
+use session_parts::{Origin, Reason, say_stop};
 use soar_cmd::{CmdFault, read_command};
 use soar_cycle::{Agent, Stop};
 use soar_edge::Command;
@@ -43,7 +43,7 @@ impl Session {
             Commands s (obeyed present_stage source.now c.now.line c.now.text s) self.new text.old text.new result }
     {
         let mut said = Text::new(text.allocator());
-        match self.obey(text.allocator(), c, source, &mut said) {
+        match self.obey(c, source, &mut said) {
             Ok(outcome) => {
                 text.push_str(said.as_str())?;
                 Ok(outcome)
@@ -53,26 +53,24 @@ impl Session {
     }
 
     /// Carries a command out.
-    fn obey(
-        &mut self,
-        alloc: Global,
-        c: &Command,
-        source: &str,
-        out: &mut Text,
-    ) -> Result<Outcome, Stop>
+    fn obey(&mut self, c: &Command, source: &str, out: &mut Text) -> Result<Outcome, Stop>
         requires short { length c.now.text ≤ 2 ^ 26 }
         requires sound { IsSound self.old.agent }
         ensures { (history : ListOf RecordedFiring) → let s = session_of self.old history in
             Outcomes self.old.mid_line (obeyed present_stage source.now c.now.line c.now.text s) self.new out.old out.new result }
     {
-        match read_command(alloc, &mut self.agent.table, c) {
+        let origin = Origin {
+            source,
+            line: c.line,
+        };
+        match read_command(out.allocator(), &mut self.agent.table, c) {
             Ok(order) => {
                 let _within = self.agent.table.word_count();
-                self.carry_out(alloc, source, c.line, order, out)
+                self.carry_out(origin, order, out)
             }
             Err(CmdFault::Refused { number, shown }) => {
                 let _within = self.agent.table.word_count();
-                outcome_of(self.refuse_shown(alloc, source, c.line, number, shown, out))
+                outcome_of(self.refuse(origin, Reason::Read(number, shown), out))
             }
             Err(CmdFault::WordsSpent) => Err(Stop::Limit(Which::Words)),
             Err(CmdFault::NoMemory) => Err(Stop::NoMemory),
@@ -82,24 +80,22 @@ impl Session {
     /// Carries an order out.
     fn carry_out(
         &mut self,
-        alloc: Global,
-        source: &str,
-        line: u64,
+        origin: Origin<'_>,
         order: Order,
         out: &mut Text,
     ) -> Result<Outcome, Stop>
         requires sound { IsSound self.old.agent }
         requires known { IsOrderKnown self.old.agent.table order }
-        ensures { CarriesOut self.old self.new source.now line (carried_out run_present (order_seen order)) out.old out.new result }
+        ensures { CarriesOut self.old self.new origin.source.now origin.line (carried_out run_present (order_seen order)) out.old out.new result }
     {
         match order {
             Order::Load(production) => outcome_of(self.load(production, out)),
-            Order::Add(addition) => outcome_of(self.add(alloc, source, line, addition, out)),
-            Order::Remove(tag) => outcome_of(self.remove(alloc, source, line, tag, out)),
-            Order::Run(count) => self.ask_to_run(alloc, source, line, count, out),
-            Order::Matches => outcome_of(self.list_matches(alloc, out)),
-            Order::Print(id) => outcome_of(self.list_elements(alloc, source, line, id, out)),
-            Order::Show(name) => outcome_of(self.show_rule(alloc, source, line, name, out)),
+            Order::Add(addition) => outcome_of(self.add(origin, addition, out)),
+            Order::Remove(tag) => outcome_of(self.remove(origin, tag, out)),
+            Order::Run(count) => self.ask_to_run(origin, count, out),
+            Order::Matches => outcome_of(self.list_matches(out)),
+            Order::Print(id) => outcome_of(self.list_elements(origin, id, out)),
+            Order::Show(name) => outcome_of(self.show_rule(origin, name, out)),
         }
     }
 }

@@ -1,10 +1,11 @@
-use Rattle.std.proofs.Common.{◌≡◌, ◌∙◌, Some, None, sym, ap}
+use Rattle.std.proofs.Common.{◌≡◌, ◌∙◌, List, ℕ, Option, Some, None, sym, ap}
 use Rattle.soar_wm.specs.WorkingMemory.{tag_of}
+use Rattle.soar_wm.specs.declared.element.Element.{Element}
 use Rattle.defs_soar.specs.Goals.{plain_triple}
 use Rattle.defs_run.specs.Inputs.{Spelled}
 use Rattle.defs_run.specs.Sessions.{Session, labelled}
+use Rattle.session_parts.specs.Labels.{next_identifier}
 use Rattle.soar_agent.specs.Adding.{spelled_by}
-use Rattle.soar_agent.specs.Labels.{next_identifier}
 use Rattle.soar_agent.specs.States.{session_of}
 use Rattle.soar_agent.proofs.AddingLemmas.{there_refused, missing_put}
 use Rattle.soar_agent.proofs.state.Session.add_labelled.Goals as goal
@@ -12,19 +13,25 @@ use Rattle.soar_agent.proofs.state.Session.add_labelled.Goals as goal
 pub returns-in-Some : goal.returns-in-Some
 returns-in-Some c = λ history.
     let s : Session = session_of c.args.self.now history in
-    let t : Spelled = spelled_by c.args.id c.args.attr (labelled s c.args.name None) in
+    let t : Spelled = spelled_by c.args.slot.id c.args.slot.attr (labelled s c.args.name None) in
+    let next : List ℕ → List ℕ → List Element → Option ℕ = λ letters name elements. tag_of (plain_triple c.args.slot.id c.args.slot.attr (next_identifier letters name)) elements in
     let there : tag_of t.triple c.args.self.now.agent.memory.elements ≡ Some c.in-Some.tag =
-    ap (λ name. tag_of (plain_triple c.args.id c.args.attr (next_identifier c.args.self.now.agent.letters name)) c.args.self.now.agent.memory.elements) (sym c.as_str.ensures)
-    ∙ (sym c.in_ok-tag.ensures ∙ c.in-Some.is) in
-    there_refused c.args.self.now c.refuse_twice.new.self c.args.source.now c.args.line t s (tag_of t.triple c.args.self.now.agent.memory.elements) c.in-Some.tag
-    c.args.out.now c.refuse_twice.new.out c.refuse_twice.result there (c.refuse_twice.ensures history)
+    ap (next c.args.self.now.agent.letters c.args.name) (sym c.lookup.ensures.elements)
+    ∙ (ap (λ letters. next letters c.args.name c.lookup.result.memory.now.elements) (sym c.lookup.ensures.letters)
+    ∙ (ap (λ name. next c.lookup.result.letters.now name c.lookup.result.memory.now.elements) (sym c.as_str.ensures)
+    ∙ (sym c.in_ok-tag.ensures ∙ c.in-Some.is))) in
+    there_refused c.args.self.now c.refuse.new.self c.args.origin.source.now c.args.origin.line t s (tag_of t.triple c.args.self.now.agent.memory.elements) c.in-Some.tag
+    c.args.out.now c.refuse.new.out c.refuse.result there (c.refuse.ensures history)
 
 pub returns-in-None : goal.returns-in-None
 returns-in-None c = λ history.
     let s : Session = session_of c.args.self.now history in
-    let t : Spelled = spelled_by c.args.id c.args.attr (labelled s c.args.name None) in
+    let t : Spelled = spelled_by c.args.slot.id c.args.slot.attr (labelled s c.args.name None) in
+    let next : List ℕ → List ℕ → List Element → Option ℕ = λ letters name elements. tag_of (plain_triple c.args.slot.id c.args.slot.attr (next_identifier letters name)) elements in
     let missing : tag_of t.triple c.args.self.now.agent.memory.elements ≡ None =
-    ap (λ name. tag_of (plain_triple c.args.id c.args.attr (next_identifier c.args.self.now.agent.letters name)) c.args.self.now.agent.memory.elements) (sym c.as_str.ensures)
-    ∙ (sym c.in_ok-tag.ensures ∙ c.in-None.is) in
-    missing_put c.args.self.now c.add_made.new.self c.args.source.now c.args.line t s (tag_of t.triple c.args.self.now.agent.memory.elements)
-    c.args.out.now c.args.out.now c.add_made.result missing (c.add_made.ensures history)
+    ap (next c.args.self.now.agent.letters c.args.name) (sym c.lookup.ensures.elements)
+    ∙ (ap (λ letters. next letters c.args.name c.lookup.result.memory.now.elements) (sym c.lookup.ensures.letters)
+    ∙ (ap (λ name. next c.lookup.result.letters.now name c.lookup.result.memory.now.elements) (sym c.as_str.ensures)
+    ∙ (sym c.in_ok-tag.ensures ∙ c.in-None.is))) in
+    missing_put c.args.self.now c.put_labelled.new.self c.args.origin.source.now c.args.origin.line t s (tag_of t.triple c.args.self.now.agent.memory.elements)
+    c.args.out.now c.args.out.now c.put_labelled.result missing (c.put_labelled.ensures history)

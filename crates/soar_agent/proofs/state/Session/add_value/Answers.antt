@@ -1,31 +1,49 @@
-use Rattle.std.proofs.Common.{◌≡◌, ◌∙◌, ◌++◌, ◌∷◌, Some, None, [], ap, sym, subst}
+use Rattle.std.proofs.Common.{◌≡◌, Option, Some, None, map, sym, subst}
+use Rattle.soar_sym.specs.declared.symbol.Sym.{Sym}
 use Rattle.soar_sym.specs.declared.symbol.Triple.{Triple}
-use Rattle.soar_wm.specs.WorkingMemory.{tag_of}
-use Rattle.defs_soar.specs.Goals.{plain_triple}
-use Rattle.defs_run.specs.Inputs.{with_inputs}
-use Rattle.defs_run.specs.Sessions.{Session}
+use Rattle.defs_run.specs.Runs.{replied_by}
+use Rattle.defs_run.specs.Sessions.{Session, label_in, labelled}
+use Rattle.defs_run.specs.declared.form.Operand.{Operand}
+use Rattle.soar_cmd.specs.Asked.{operand_seen}
+use Rattle.session_parts.specs.Labels.{label_seen}
+use Rattle.soar_agent.specs.Adding.{adds_by, adds_triple, spelled_by, unless_twice}
+use Rattle.soar_agent.specs.Carries.{Carries}
 use Rattle.soar_agent.specs.States.{session_of}
 use Rattle.soar_agent.specs.Steps.{Obeys}
-use Rattle.soar_agent.proofs.AddingLemmas.{there_refused, missing_put, puts_triple}
+use Rattle.soar_agent.specs.Triples.{IsTripleKnown}
 use Rattle.soar_agent.proofs.state.Session.add_value.Goals as goal
+
+pub add_triple-requires-in-Some-clause-known : goal.add_triple-requires-in-Some-clause-known
+add_triple-requires-in-Some-clause-known c =
+    subst (IsTripleKnown c.args.self.now.agent.table) (sym c.with-in-Some.ensures) (c.requires.id, c.requires.attr, c.in-Some.ensures.known c.args.self.now.agent.table)
+
+pub returns-in-Symbol : goal.returns-in-Symbol
+returns-in-Symbol c =
+    subst (λ (o : Operand). Carries c.args.self.now c.add_triple.new.self c.args.origin.source.now c.args.origin.line (adds_by c.args.slot.id c.args.slot.attr (operand_seen o)) c.args.out.now c.add_triple.new.out c.add_triple.result)
+    (sym c.in-Symbol.is)
+    (subst (λ (t : Triple). Carries c.args.self.now c.add_triple.new.self c.args.origin.source.now c.args.origin.line (adds_triple t) c.args.out.now c.add_triple.new.out c.add_triple.result)
+    c.with.ensures c.add_triple.ensures)
 
 pub returns-in-Some : goal.returns-in-Some
 returns-in-Some c = λ history.
     let s : Session = session_of c.args.self.now history in
-    let t : Triple = plain_triple c.args.id c.args.attr c.args.value in
-    let there : tag_of t c.args.self.now.agent.memory.elements ≡ Some c.in-Some.tag =
-    ap (λ u. tag_of u c.args.self.now.agent.memory.elements) (sym c.plain_triple-triple.ensures) ∙ sym c.in-Some.ensures in
-    there_refused c.args.self.now c.refuse_twice.new.self c.args.source.now c.args.line (record { session = s; triple = t; totals = [] }) s (tag_of t c.args.self.now.agent.memory.elements) c.in-Some.tag
-    c.args.out.now c.refuse_twice.new.out c.refuse_twice.result there (c.refuse_twice.ensures history)
+    let some : Some c.in-Some.value ≡ label_in (map label_seen c.args.self.now.labels) c.in-Label.name = cc (c.in-Some.ensures.symbol, c.as_slice.ensures, c.as_str.ensures) in
+    subst (λ (o : Operand). Obeys c.args.self.now.mid_line (replied_by c.args.origin.source.now c.args.origin.line s (adds_by c.args.slot.id c.args.slot.attr (operand_seen o) s))
+    c.add_triple-in-Some.new.self c.args.out.now c.add_triple-in-Some.new.out c.add_triple-in-Some.result)
+    (sym c.in-Label.is)
+    (subst (λ (o : Option Sym). Obeys c.args.self.now.mid_line (replied_by c.args.origin.source.now c.args.origin.line s (unless_twice (spelled_by c.args.slot.id c.args.slot.attr (labelled s c.in-Label.name o))))
+    c.add_triple-in-Some.new.self c.args.out.now c.add_triple-in-Some.new.out c.add_triple-in-Some.result)
+    some
+    (subst (λ (t : Triple). Obeys c.args.self.now.mid_line (replied_by c.args.origin.source.now c.args.origin.line s (adds_triple t s)) c.add_triple-in-Some.new.self c.args.out.now c.add_triple-in-Some.new.out c.add_triple-in-Some.result)
+    c.with-in-Some.ensures (c.add_triple-in-Some.ensures history)))
 
 pub returns-in-None : goal.returns-in-None
 returns-in-None c = λ history.
     let s : Session = session_of c.args.self.now history in
-    let t : Triple = plain_triple c.args.id c.args.attr c.args.value in
-    let missing : tag_of t c.args.self.now.agent.memory.elements ≡ None =
-    ap (λ u. tag_of u c.args.self.now.agent.memory.elements) (sym c.plain_triple-triple.ensures) ∙ sym c.in-None.ensures in
-    missing_put c.args.self.now c.add_new.new.self c.args.source.now c.args.line (record { session = s; triple = t; totals = [] }) s (tag_of t c.args.self.now.agent.memory.elements)
-    c.args.out.now c.args.out.now c.add_new.result missing
-    (puts_triple c.args.self.now c.add_new.new.self t history c.args.out.now c.args.out.now c.add_new.result
-    (subst (λ (u : Triple). Obeys c.args.self.now.mid_line (with_inputs (c.args.self.now.agent.inputs ++ u ∷ []) s) c.add_new.new.self c.args.out.now c.args.out.now c.add_new.result)
-    c.plain_triple-triple.ensures (c.add_new.ensures history)))
+    let none : None ≡ label_in (map label_seen c.args.self.now.labels) c.in-Label.name = cc (c.in-None.ensures.symbol, c.as_slice.ensures, c.as_str.ensures) in
+    subst (λ (o : Operand). Obeys c.args.self.now.mid_line (replied_by c.args.origin.source.now c.args.origin.line s (adds_by c.args.slot.id c.args.slot.attr (operand_seen o) s))
+    c.add_labelled.new.self c.args.out.now c.add_labelled.new.out c.add_labelled.result)
+    (sym c.in-Label.is)
+    (subst (λ (o : Option Sym). Obeys c.args.self.now.mid_line (replied_by c.args.origin.source.now c.args.origin.line s (unless_twice (spelled_by c.args.slot.id c.args.slot.attr (labelled s c.in-Label.name o))))
+    c.add_labelled.new.self c.args.out.now c.add_labelled.new.out c.add_labelled.result)
+    none (c.add_labelled.ensures history))

@@ -22,11 +22,11 @@ returns-in-Ok c = λ history.
     reads_as c.args.self.now c.carry_out.new.self c.args.source.now c.args.c.now.line (read_present c.args.self.now.agent.table c.args.c.now.text) words (Ok (order_seen c.in-Ok.order)) history
     c.args.out.now c.carry_out.new.out c.carry_out.result c.in-Ok.ensures.reading.0 c.in-Ok.ensures.reading.1 small (c.carry_out.ensures history)
 
-pub refuse_shown-requires-clause-sound : goal.refuse_shown-requires-clause-sound
-refuse_shown-requires-clause-sound c = sound_read c.args.self.now c.read_command.new.table c.in-Err-Refused.ensures.grown c.requires.sound
+pub refuse-requires-clause-sound : goal.refuse-requires-clause-sound
+refuse-requires-clause-sound c = sound_read c.args.self.now c.read_command.new.table c.in-Err-Refused.ensures.grown c.requires.sound
 
-pub refuse_shown-requires-clause-known : goal.refuse_shown-requires-clause-known
-refuse_shown-requires-clause-known c = let read = rw c.in-Err-Refused.field-0-is at c.in-Err-Refused.ensures.reading in read.2
+pub refuse-requires-clause-known : goal.refuse-requires-clause-known
+refuse-requires-clause-known c = let read = rw c.in-Err-Refused.field-0-is at c.in-Err-Refused.ensures.reading in read.2
 
 pub returns-in-Err-Refused : goal.returns-in-Err-Refused
 unfolding obeyed
@@ -34,11 +34,11 @@ returns-in-Err-Refused c = λ history.
     let words : Texts = c.read_command.new.table in
     let small : length words < 2 ^ 32 = omega (arith, c.word_count-within-in-Err-Refused.ensures) in
     let read = rw c.in-Err-Refused.field-0-is at c.in-Err-Refused.ensures.reading in
-    reads_as c.args.self.now c.refuse_shown.new.self c.args.source.now c.args.c.now.line (read_present c.args.self.now.agent.table c.args.c.now.text) words
-    (Err (refusal_of words c.in-Err-Refused.number c.in-Err-Refused.shown)) history c.args.out.now c.refuse_shown.new.out c.outcome_of.result read.0 read.1 small
+    reads_as c.args.self.now c.refuse.new.self c.args.source.now c.args.c.now.line (read_present c.args.self.now.agent.table c.args.c.now.text) words
+    (Err (refusal_of words c.in-Err-Refused.number c.in-Err-Refused.shown)) history c.args.out.now c.refuse.new.out c.outcome_of.result read.0 read.1 small
     (c.outcome_of.ensures c.args.self.now.mid_line
     (refused_by (refusal_of words c.in-Err-Refused.number c.in-Err-Refused.shown) c.args.source.now c.args.c.now.line (session_of (with_table words c.args.self.now) history))
-    c.refuse_shown.new.self c.args.out.now c.refuse_shown.new.out (c.refuse_shown.ensures history))
+    c.refuse.new.self c.args.out.now c.refuse.new.out (c.refuse.ensures history))
 
 pub returns-in-Err-WordsSpent : goal.returns-in-Err-WordsSpent
 unfolding obeyed

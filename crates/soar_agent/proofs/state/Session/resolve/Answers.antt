@@ -4,7 +4,8 @@ use Rattle.defs_run.specs.Sessions.{label_in, labelled, resolved}
 use Rattle.defs_run.specs.declared.form.Operand.{Operand}
 use Rattle.soar_cmd.specs.Asked.{operand_seen}
 use Rattle.soar_agent.specs.Labels.{Makes}
-use Rattle.soar_agent.specs.States.{label_seen, session_of}
+use Rattle.session_parts.specs.Labels.{label_seen}
+use Rattle.soar_agent.specs.States.{session_of}
 use Rattle.soar_agent.proofs.state.Session.resolve.Goals as goal
 
 pub returns-in-Some-clause-known : goal.returns-in-Some-clause-known

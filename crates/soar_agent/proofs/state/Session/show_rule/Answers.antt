@@ -10,7 +10,7 @@ use Rattle.defs_run.specs.Sessions.{Session, says}
 use Rattle.soar_agent.specs.States.{session_of}
 use Rattle.soar_agent.specs.Steps.{Obeys}
 use Rattle.soar_agent.proofs.ReplyLemmas.{says_lines}
-use Rattle.soar_agent.proofs.SaidLemmas.{named_known}
+use Rattle.session_parts.proofs.RuleLemmas.{named_known}
 use Rattle.soar_agent.proofs.state.Session.show_rule.Goals as goal
 
 pub say_production-requires : goal.say_production-requires
@@ -27,7 +27,7 @@ returns-in_ok-say_production-in-Some c = λ history.
     let found : Some rule ≡ rule_named (map rule_seen c.args.self.now.agent.rules) c.args.name =
     c.in-Some.ensures ∙ ap (λ (rs : List Rule). rule_named (map rule_seen rs) c.args.name) c.as_slice.ensures in
     subst (λ (o : Option RuleOf). Obeys c.args.self.now.mid_line
-    (replied_by c.args.source.now c.args.line s (elim o as (λ _. Carried) [ None ↦ refuses (no_production s.agent.names.words c.args.name) | Some r ↦ does (says s (production_lines s.agent r)) ]))
+    (replied_by c.args.origin.source.now c.args.origin.line s (elim o as (λ _. Carried) [ None ↦ refuses (no_production s.agent.names.words c.args.name) | Some r ↦ does (says s (production_lines s.agent r)) ]))
     (record c.args.self.now { mid_line = c.say_production.new.mid_line }) c.args.out.now c.say_production.new.out (Ok false))
     found
     (says_lines c.args.self.now (production_lines s.agent rule) c.say_production.new.mid_line history c.args.out.now c.say_production.new.out c.requires.sound c.in_ok-say_production-in-Some.ensures)
@@ -38,6 +38,6 @@ returns-in-None c = λ history.
     let missing : None ≡ rule_named (map rule_seen c.args.self.now.agent.rules) c.args.name =
     c.in-None.ensures ∙ ap (λ (rs : List Rule). rule_named (map rule_seen rs) c.args.name) c.as_slice.ensures in
     subst (λ (o : Option RuleOf). Obeys c.args.self.now.mid_line
-    (replied_by c.args.source.now c.args.line s (elim o as (λ _. Carried) [ None ↦ refuses (no_production s.agent.names.words c.args.name) | Some r ↦ does (says s (production_lines s.agent r)) ]))
-    c.refuse_production.new.self c.args.out.now c.refuse_production.new.out c.refuse_production.result)
-    missing (c.refuse_production.ensures history)
+    (replied_by c.args.origin.source.now c.args.origin.line s (elim o as (λ _. Carried) [ None ↦ refuses (no_production s.agent.names.words c.args.name) | Some r ↦ does (says s (production_lines s.agent r)) ]))
+    c.refuse.new.self c.args.out.now c.refuse.new.out c.refuse.result)
+    missing (c.refuse.ensures history)

@@ -1,0 +1,8 @@
+pub mod Given
+pub mod Labels
+pub mod Lettered
+pub mod Lookups
+pub mod Reasons
+pub mod Rules
+pub mod Saying
+pub mod Stopping

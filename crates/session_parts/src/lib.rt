@@ -1,0 +1,28 @@
+//! What a session is made of: labels, identifiers as commands name them, reasons of refusals, and lines of text.
+#![tactic(auto)]
+
+mod elements;
+mod label;
+mod labels;
+mod lookup;
+mod origin;
+mod reasons;
+mod refusing;
+mod rules;
+mod said;
+mod stopping;
+mod texts;
+mod triples;
+mod unknown;
+
+pub use elements::{element_of, triple_of};
+pub use label::Label;
+pub use labels::{label_in, letter_from};
+pub use lookup::Lookup;
+pub use origin::Origin;
+pub use reasons::Reason;
+pub use refusing::say_refusal;
+pub use rules::{put_rule, rule_named};
+pub use said::{is_mid_after, say_elements_of, say_line, say_matches, say_production};
+pub use stopping::say_stop;
+pub use triples::{Slot, has_triple, with_triple, without_triple};

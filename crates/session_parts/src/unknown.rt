@@ -1,0 +1,140 @@
+// Identifiers of commands that there are not, or that no goal reaches.
+ghost use Rattle.std.specs.Prelude.{◌≡◌, true, Some, None, IfOk, map, if◌then◌else◌};
+ghost use Rattle.soar_sym.specs.Words.{IsKnown};
+ghost use Rattle.soar_wm.specs.WorkingMemory.{tag_of, triple_of};
+ghost use Rattle.defs_text.specs.Symbols.{symbol_text};
+ghost use Rattle.defs_soar.specs.Goals.{plain_triple};
+ghost use Rattle.defs_run.specs.Inputs.{first_unknown, unreached_in, unreached_symbol};
+ghost use Rattle.defs_run.specs.Sessions.{Session, bracketed, unknown_in};
+ghost use Rattle.soar_levels.specs.Told.{TellsLevels};
+ghost use Rattle.soar_cmd.specs.Asked.{operand_seen};
+ghost use Rattle.soar_cmd.specs.Known.{IsAdditionKnown, IsOperandKnown};
+ghost use Rattle.session_parts.specs.Given.{HasLetter, is_given_by};
+ghost use Rattle.session_parts.specs.Labels.{next_identifier};
+ghost use Rattle.session_parts.specs.Lookups.{session_with};
+
+use crate::elements::{tag_of_numbered, triples_of};
+use crate::labels::{label_in, letter_from};
+use crate::lookup::Lookup;
+use crate::texts::symbol_text;
+use crate::triples::Slot;
+use defs_run::{Addition, Operand};
+use soar_levels::Levels;
+use soar_sym::{Letters, NoMemory, Sym, SymTable, Text};
+use std::alloc::Global;
+
+impl Lookup<'_> {
+    /// The text of the first identifier of an addition that there is not; the first has to be reached by a goal, too.
+    pub fn first_unknown(self, addition: &Addition) -> Result<Option<Text>, NoMemory>
+        requires { IsAdditionKnown self.table.now addition.now }
+        ensures { (s : Session) →
+            IfOk result (λ text. text ≡ first_unknown true (session_with self s) (operand_seen addition.now.id) (operand_seen addition.now.attr) (operand_seen addition.now.value)) }
+    {
+        if let Some(text) = self.unknown_in(&addition.id)? {
+            return Ok(Some(text));
+        }
+        if let Some(text) = self.unreached_in(&addition.id)? {
+            return Ok(Some(text));
+        }
+        if let Some(text) = self.unknown_in(&addition.attr)? {
+            return Ok(Some(text));
+        }
+        self.unknown_in(&addition.value)
+    }
+
+    /// The text of an operand that is an identifier that was never given.
+    pub fn unknown_in(self, operand: &Operand) -> Result<Option<Text>, NoMemory>
+        requires { IsOperandKnown self.table.now operand.now }
+        ensures { (s : Session) → IfOk result (λ text. text ≡ unknown_in (session_with self s) (operand_seen operand.now)) }
+    {
+        match operand {
+            Operand::Symbol(symbol) => {
+                unless_given(self.alloc, self.table, self.letters, *symbol)
+            }
+            Operand::Label(_) => Ok(None),
+        }
+    }
+
+    /// The text of an operand that no goal reaches; a label that stands for nothing yet is told with its brackets.
+    fn unreached_in(self, operand: &Operand) -> Result<Option<Text>, NoMemory>
+        requires { IsOperandKnown self.table.now operand.now }
+        ensures { (s : Session) → IfOk result (λ text. text ≡ unreached_in (session_with self s) (operand_seen operand.now)) }
+    {
+        match operand {
+            Operand::Symbol(symbol) => self.unreached_symbol(*symbol),
+            Operand::Label(name) => match label_in(self.labels.as_slice(), name.as_str()) {
+                Some(symbol) => self.unreached_symbol(symbol),
+                None => Ok(Some(bracketed(self.alloc, name.as_str())?)),
+            },
+        }
+    }
+
+    /// The text of a symbol that no goal reaches.
+    fn unreached_symbol(self, symbol: Sym) -> Result<Option<Text>, NoMemory>
+        requires { IsKnown self.table.now symbol }
+        ensures { (s : Session) → IfOk result (λ text. text ≡ unreached_symbol (session_with self s) symbol) }
+    {
+        let levels = self.levels()?;
+        if levels.level_of(symbol).is_some() {
+            Ok(None)
+        } else {
+            Ok(Some(symbol_text(self.alloc, self.table, symbol)?))
+        }
+    }
+
+    /// The levels of what the goals reach.
+    fn levels(self) -> Result<Levels, NoMemory>
+        ensures { IfOk result (λ levels. TellsLevels levels self.goals.now (map triple_of self.memory.now.elements)) }
+    {
+        let elements = self.memory.all(self.alloc)?;
+        let triples = triples_of(self.alloc, elements.as_slice())?;
+        let mut levels = Levels::new(self.alloc)?;
+        levels.refresh(&triples, self.goals)?;
+        Ok(levels)
+    }
+
+    /// The tag of the element whose value is the identifier that a label of this name would be.
+    pub fn tag_of_next(self, slot: Slot, name: &str) -> Result<Option<u32>, NoMemory>
+        ensures { IfOk result (λ tag. tag ≡ tag_of (plain_triple slot.id slot.attr (next_identifier self.letters.now name.now)) self.memory.now.elements) }
+    {
+        let letter = letter_from(name.as_bytes());
+        let number = u64::from(self.letters.last(letter)) + 1;
+        let elements = self.memory.all(self.alloc)?;
+        Ok(tag_of_numbered(elements.as_slice(), slot, letter, number))
+    }
+}
+
+/// The text of a symbol, unless it was given.
+fn unless_given(
+    alloc: Global,
+    table: &SymTable,
+    letters: &Letters,
+    symbol: Sym,
+) -> Result<Option<Text>, NoMemory>
+    requires { IsKnown table.now symbol }
+    ensures { IfOk result (λ text. text ≡ (if is_given_by letters.now symbol then None else Some (symbol_text table.now symbol))) }
+{
+    if is_given(letters, symbol) {
+        Ok(None)
+    } else {
+        Ok(Some(symbol_text(alloc, table, symbol)?))
+    }
+}
+
+/// Whether an identifier was given. Words and integers always are.
+fn is_given(letters: &Letters, symbol: Sym) -> bool
+    requires { HasLetter symbol }
+    ensures { result ≡ is_given_by letters.now symbol }
+{
+    match symbol {
+        Sym::Ident { letter, number } => number <= letters.last(letter),
+        _ => true,
+    }
+}
+
+/// The name of a label in its brackets.
+fn bracketed(alloc: Global, name: &str) -> Result<Text, NoMemory>
+    ensures { IfOk result (λ text. text ≡ bracketed name.now) }
+{
+    Ok(Text::from_string(format!(in alloc; "<{name}>")?))
+}

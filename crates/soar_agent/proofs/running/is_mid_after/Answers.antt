@@ -1,6 +1,0 @@
-use Rattle.std.proofs.Common.{sym}
-use Rattle.soar_agent.proofs.CycleLemmas.{mid_last}
-use Rattle.soar_agent.proofs.running.is_mid_after.Goals as goal
-
-pub returns-in-Some : goal.returns-in-Some
-returns-in-Some c = sym (mid_last c.args.mid_line c.args.bytes.now c.in-Some.byte.now (sym c.in-Some.ensures.value))

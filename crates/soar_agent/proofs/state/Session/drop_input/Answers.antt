@@ -1,0 +1,18 @@
+use Rattle.std.proofs.Common.{◌≡◌, filter, not, sym, subst}
+use Rattle.defs_run.specs.Inputs.{with_inputs}
+use Rattle.defs_soar.specs.Values.{triple_eq}
+use Rattle.soar_settle.specs.Known.{AreTriplesKnown}
+use Rattle.soar_agent.specs.Carries.{Replies}
+use Rattle.soar_agent.proofs.SoundLemmas.{triples_filter}
+use Rattle.soar_agent.proofs.state.Session.drop_input.Goals as goal
+
+pub change_inputs-requires-clause-known : goal.change_inputs-requires-clause-known
+change_inputs-requires-clause-known c =
+    let are : c.in_ok-inputs.inputs ≡ filter (λ t. not (triple_eq t c.args.triple)) c.args.self.now.agent.inputs = cc (c.in_ok-inputs.ensures, c.as_slice.ensures) in
+    subst (AreTriplesKnown c.args.self.now.agent.table) (sym are)
+    (triples_filter (λ t. not (triple_eq t c.args.triple)) c.args.self.now.agent.table c.args.self.now.agent.inputs c.requires.inputs_known)
+
+pub returns : goal.returns
+returns c =
+    let are : c.in_ok-inputs.inputs ≡ filter (λ t. not (triple_eq t c.args.triple)) c.args.self.now.agent.inputs = cc (c.in_ok-inputs.ensures, c.as_slice.ensures) in
+    subst (λ inputs. Replies c.args.self.now c.change_inputs.new.self (with_inputs inputs) c.args.out.now c.args.out.now c.change_inputs.result) are c.change_inputs.ensures
