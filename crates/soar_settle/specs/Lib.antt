@@ -1,4 +1,5 @@
 pub mod Known
+pub mod Marks
 pub mod Passes
 pub mod Plans
 pub mod Reached
