@@ -3,6 +3,7 @@ pub mod Marks
 pub mod Passes
 pub mod Plans
 pub mod Reached
+pub mod Recent
 pub mod Rejecting
 pub mod Renewal
 pub mod Settles
