@@ -1,14 +1,12 @@
 -- The order of a set's keys.
-use Rattle.std.proofs.Common.{◌≡◌, Bool, true, false, cond, ◌&&◌, ◌||◌, List, ◌∷◌, ap, ap₂, refl, sym, ◌∙◌}
+use Rattle.std.proofs.Common.{◌≡◌, Bool, true, false, cond, ◌&&◌, ◌||◌, List, ap, ap₂, refl, sym, ◌∙◌}
 use Rattle.std.specs.declared.cmp.Ordering.{Ordering}
 use Rattle.std.specs.declared.cmp.Ordering.TheVariants.{Less, Equal, Greater}
 use Rattle.std.specs.List.{list_any}
 use Rattle.std.specs.Ordering.{is_eq, bool_cmp, ordering_then}
 use Rattle.soar_sym.specs.Equality.{mark_eq}
 use Rattle.soar_sym.specs.declared.symbol.Triple.{Triple}
-use Rattle.soar_sym.specs.declared.symbol.Sym.TheVariants.{Ident}
 use Rattle.soar_sym.specs.contracts.symbol.TripleOrd.TheImpl.{ghosts}
-use Rattle.soar_wm.specs.declared.element.Element.{Element}
 use Rattle.defs_soar.specs.Values.{has_triple_among, triple_eq}
 use Rattle.level_laws.proofs.SymbolLemmas.{symbol_turned}
 use Rattle.level_graph.proofs.KeyLemmas.{sym_cmp, cmp_same}
@@ -42,7 +40,7 @@ mark_turned true false = refl
 mark_turned false true = refl
 mark_turned false false = refl
 
-triple_turned : (t u : Triple) → triple_eq t u ≡ triple_eq u t
+pub triple_turned : (t u : Triple) → triple_eq t u ≡ triple_eq u t
 triple_turned t u = λ k. symbol_turned t.id u.id k && (symbol_turned t.attr u.attr k && (symbol_turned t.value u.value k && mark_turned t.accept u.accept k))
 
 -- whether the set's order finds a key
@@ -62,19 +60,3 @@ added_same old new triple up t =
     by : (a b : Bool) → cond a true b ≡ (a || b)
     by true b = refl
     by false b = refl
-
--- what is left to be added, where one triple more was
-pub put_next : (old new : List Triple) (u : Triple) (rest all : List Triple) (t : Triple) → has_triple_among new t ≡ (triple_eq t u || has_triple_among old t)
-    → (has_triple_among old t || has_triple_among (u ∷ rest) t) ≡ has_triple_among all t → (has_triple_among new t || has_triple_among rest t) ≡ has_triple_among all t
-put_next old new u rest all t up h =
-    ap (λ b. b || has_triple_among rest t) up ∙ by (triple_eq t u) (has_triple_among old t) (has_triple_among rest t) ∙ h
-  where
-    by : (a b c : Bool) → ((a || b) || c) ≡ (b || (a || c))
-    by true true c = refl
-    by true false c = refl
-    by false true c = refl
-    by false false c = refl
-
--- what stands past the end
-abbrev pub no_element : Element
-no_element = record { tag = 0; id = Ident 0 0; attr = Ident 0 0; value = Ident 0 0; accept = false; of_state = false }

@@ -2,6 +2,8 @@ pub mod AddingLemmas
 pub mod DroppingLemmas
 pub mod FilterLemmas
 pub mod KeyLemmas
+pub mod MarkingLemmas
+pub mod PlacingLemmas
 pub mod PlanLemmas
 pub mod RejectingLemmas
 pub mod RemovingLemmas

@@ -1,8 +1,8 @@
 -- The elements after tagging are those that stay and those that come.
-use Rattle.std.proofs.Common.{◌≡◌, ℕ, ◌+◌, ◌<◌, ◌≤◌, Bool, true, false, cond, not, ◌&&◌, List, [], ◌∷◌, length, get_or, drop, filter, map, sym, subst, ◌∙◌, ap, ap₂, arith, zero, suc, length-append}
+use Rattle.std.proofs.Common.{◌≡◌, ℕ, ◌+◌, ◌-◌, ◌<◌, ◌≤◌, Bool, true, false, cond, not, ◌&&◌, List, [], ◌∷◌, length, get_or, drop, filter, map, refl, sym, subst, ◌∙◌, ap, ap₂, arith, zero, suc, length-append}
 use Rattle.std.proofs.lemmas.List.{drop_more}
 use Rattle.std.proofs.lemmas.List.Elements.{filter_agree}
-use Rattle.std.proofs.lemmas.List.Sums.{length-filter, count_by-le-length}
+use Rattle.std.proofs.lemmas.List.Filters.{length-filter_both}
 use Rattle.soar_sym.specs.Equality.{mark_eq}
 use Rattle.soar_sym.specs.Words.{Texts}
 use Rattle.soar_sym.specs.declared.symbol.Triple.{Triple}
@@ -16,7 +16,7 @@ use Rattle.defs_soar.specs.Settling.{new_triples, stays, tagged}
 use Rattle.defs_soar.specs.Sorted.{in_order}
 use Rattle.defs_soar.specs.Values.{has_triple_among}
 use Rattle.soar_settle.specs.Known.{AreTriplesKnown}
-use Rattle.soar_settle.specs.Plans.{absent, staying, coming}
+use Rattle.soar_settle.specs.Plans.{coming, staying}
 use Rattle.soar_settle.specs.Settles.{after_of, last_of, passed_by}
 use Rattle.soar_settle.specs.Tagging.{IsTripleKnown, without_each}
 use Rattle.soar_settle.proofs.RemovingLemmas.{gone_elements, new_elements, length-tagged, without_each-filter}
@@ -33,50 +33,25 @@ pub known_at : (words : Texts) (kept : List Triple) (at : ℕ) → at < length k
 known_at words kept at less known =
     let P : List Triple → Type 0 = AreTriplesKnown words in (subst P (drop_more kept at no_triple less) (known_after words at kept known)).0
 
-known_absent : (words : Texts) (others kept : List Triple) → AreTriplesKnown words kept → AreTriplesKnown words (absent others kept)
-known_absent words others [] known = tt
-known_absent words others (t ∷ kept) known = by (has_triple_among others t) (known_absent words others kept known.1)
+pub known_new : (words : Texts) (elements : List Element) (kept : List Triple) → AreTriplesKnown words kept → AreTriplesKnown words (new_triples elements kept)
+known_new words elements [] known = tt
+known_new words elements (t ∷ kept) known = by (has_triple_among (map triple_of elements) t) (known_new words elements kept known.1)
   where
-    by : (b : Bool) → AreTriplesKnown words (absent others kept) → AreTriplesKnown words (cond (not b) (t ∷ absent others kept) (absent others kept))
+    by : (b : Bool) → AreTriplesKnown words (new_triples elements kept) → AreTriplesKnown words (cond (not b) (t ∷ new_triples elements kept) (new_triples elements kept))
     by true later = later
     by false later = (known.0, later)
 
-pub known_in_order_after : (words : Texts) (others : List Triple) (at : ℕ) (kept : List Triple) → AreTriplesKnown words kept
-    → AreTriplesKnown words (in_order words (absent others (drop at kept)))
-known_in_order_after words others at kept known =
-    known_in_order words (absent others (drop at kept)) (known_absent words others (drop at kept) (known_after words at kept known))
-
--- ---- triples in sets
-
-abbrev pub AreAmong : List Triple → List Triple → Type 0
-AreAmong a b = (t : Triple) → has_triple_among a t ≡ has_triple_among b t
-
-pub stays_among : (goals : List Goal) (a b : List Triple) → AreAmong a b → (e : Element) → stays goals a e ≡ stays goals b e
-stays_among goals a b same e = ap (λ x. x && mark_eq e.of_state (is_goal goals e.id)) (same (triple_of e))
-
-pub absent_among : (a b : List Triple) → AreAmong a b → (kept : List Triple) → absent a kept ≡ absent b kept
-absent_among a b same kept = filter_agree (λ t. not (has_triple_among a t)) (λ t. not (has_triple_among b t)) (λ t. ap not (same t)) kept
-
-pub staying_is : (goals : List Goal) (set kept : List Triple) (elements staying seen : List Element) → AreAmong set kept → seen ≡ elements
-    → staying ≡ filter (stays goals set) seen → staying ≡ filter (stays goals kept) elements
-staying_is goals set kept elements staying seen same is h =
-    h ∙ ap (filter (stays goals set)) is ∙ filter_agree (stays goals set) (stays goals kept) (stays_among goals set kept same) elements
-
-pub going_is : (goals : List Goal) (set kept : List Triple) (elements going seen : List Element) → AreAmong set kept → seen ≡ elements
-    → going ≡ filter (λ e. not (stays goals set e)) seen → going ≡ filter (λ e. not (stays goals kept e)) elements
-going_is goals set kept elements going seen same is h =
-    h ∙ ap (filter (λ e. not (stays goals set e))) is
-    ∙ filter_agree (λ e. not (stays goals set e)) (λ e. not (stays goals kept e)) (λ e. ap not (stays_among goals set kept same e)) elements
-
-pub coming_is : (words : Texts) (set kept triples : List Triple) (staying seen : List Element) → AreAmong set (map triple_of seen) → seen ≡ staying
-    → triples ≡ in_order words (absent set kept) → triples ≡ in_order words (new_triples staying kept)
-coming_is words set kept triples staying seen same is h =
-    h ∙ ap (in_order words) (absent_among set (map triple_of seen) same kept) ∙ ap (λ elements. in_order words (new_triples elements kept)) is
+pub known_in_order_after : (words : Texts) (at : ℕ) (triples : List Triple) → AreTriplesKnown words triples → AreTriplesKnown words (in_order words (drop at triples))
+known_in_order_after words at triples known = known_in_order words (drop at triples) (known_after words at triples known)
 
 -- ---- what the steps leave
 
-pub filter_fewer : (p : Element → Bool) (elements : List Element) → length (filter p elements) ≤ length elements
-filter_fewer p elements = omega (arith, length-filter p elements, count_by-le-length p elements)
+-- how many stay, where it is known how many go
+pub count_staying : (p : Element → Bool) (elements going : List Element) (all gone : ℕ) → going ≡ filter (λ e. not (p e)) elements → all ≡ length elements → gone ≡ length going
+    → (gone ≤ all) × (all - gone ≡ length (filter p elements))
+count_staying p elements going all gone going_are all_is gone_is =
+    let both = length-filter_both p (λ e. not (p e)) (λ e. refl) elements in
+    (omega (arith, both, ap length going_are, all_is, gone_is), omega (arith, both, ap length going_are, all_is, gone_is))
 
 module _ (words : Texts) (goals : List Goal) (kept : List Triple) (m : WorkingMemory) (lawful : IsLawful m) where
   pub gone_are : without_elements (after_of words goals kept m) m.elements ≡ filter (λ e. not (stays goals kept e)) m.elements

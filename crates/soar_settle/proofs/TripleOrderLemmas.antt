@@ -30,7 +30,7 @@ mark_same true false h = cc
 mark_same false true h = cc
 mark_same false false h = refl
 
-triple_same : (t u : Triple) → triple_eq t u ≡ true → t ≡ u
+pub triple_same : (t u : Triple) → triple_eq t u ≡ true → t ≡ u
 triple_same t u h =
     let first = both (symbol_eq t.id u.id) (symbol_eq t.attr u.attr && (symbol_eq t.value u.value && mark_eq t.accept u.accept)) h in
     let second = both (symbol_eq t.attr u.attr) (symbol_eq t.value u.value && mark_eq t.accept u.accept) first.1 in

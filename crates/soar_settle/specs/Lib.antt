@@ -1,7 +1,9 @@
 pub mod Known
+pub mod Marks
 pub mod Passes
 pub mod Plans
 pub mod Reached
+pub mod Recent
 pub mod Rejecting
 pub mod Renewal
 pub mod Settles

@@ -13,10 +13,6 @@ use Rattle.soar_settle.specs.declared.tagging.planning.Plan.{Plan}
 use Rattle.soar_settle.specs.declared.stop.Stop.{Stop}
 use Rattle.soar_settle.specs.declared.stop.Stop.TheVariants as stop
 
--- those of these triples that are not among others
-abbrev pub absent : List Triple → List Triple → List Triple
-absent others triples = filter (λ t. not (has_triple_among others t)) triples
-
 -- the elements that keep their tags
 abbrev pub staying : List Goal → List Triple → WorkingMemory → List Element
 staying goals kept m = filter (stays goals kept) m.elements

@@ -5,6 +5,7 @@ mod changes;
 mod goal_elements;
 mod held;
 mod reached;
+mod recent;
 mod renewal;
 mod settling;
 mod stop;

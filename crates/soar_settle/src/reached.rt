@@ -4,6 +4,7 @@ ghost use Rattle.soar_settle.specs.Passes.{TellsReach};
 ghost use Rattle.soar_settle.specs.Reached as reached;
 
 use crate::held::held;
+use crate::recent::Recent;
 use defs_soar::{Goal, Preference};
 use soar_levels::Levels;
 use soar_prefs::Prefs;
@@ -41,8 +42,9 @@ pub fn unreached_ids(
     ensures { IfOk result (λ ids. ids ≡ reached.unreached_ids levels.now rows.now) }
 {
     let mut ids = List::new(alloc);
+    let mut last = Recent::new(levels);
     'rows: for row in rows {
-        if !is_reached(levels, row.wish.id) {
+        if !last.is_reached(levels, row.wish.id) {
             ids.push(row.wish.id)?;
         }
     }
@@ -67,8 +69,9 @@ pub fn top_inputs(
     ensures { IfOk result (λ top. top ≡ reached.top_inputs levels.now inputs.now) }
 {
     let mut top = List::new(alloc);
+    let mut last = Recent::new(levels);
     'inputs: for input in inputs {
-        if is_top(levels, input.id) {
+        if last.is_top(levels, input.id) {
             top.push(*input)?;
         }
     }
@@ -84,26 +87,11 @@ pub fn reached_triples(
     ensures { IfOk result (λ out. out ≡ reached.reached_triples levels.now triples.now) }
 {
     let mut out = List::new(alloc);
+    let mut last = Recent::new(levels);
     'triples: for triple in triples {
-        if is_reached(levels, triple.id) {
+        if last.is_reached(levels, triple.id) {
             out.push(*triple)?;
         }
     }
     Ok(out)
-}
-
-fn is_reached(levels: &Levels, id: Sym) -> bool
-    ensures { result ≡ reached.is_reached levels.now id }
-{
-    levels.level_of(id).is_some()
-}
-
-/// Whether an identifier is of the top level.
-fn is_top(levels: &Levels, id: Sym) -> bool
-    ensures { result ≡ reached.is_top levels.now id }
-{
-    match levels.level_of(id) {
-        Some(level) => level == 1,
-        None => false,
-    }
 }

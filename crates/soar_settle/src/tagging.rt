@@ -3,7 +3,9 @@ ghost use Rattle.soar_settle.specs.Known.{AreTriplesKnown};
 ghost use Rattle.soar_settle.specs.Settles.{Retags};
 
 mod comparing;
+mod marking;
 mod parting;
+mod placing;
 mod planning;
 mod replacing;
 

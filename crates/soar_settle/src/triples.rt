@@ -1,11 +1,9 @@
 // Triples in a set.
-ghost use Rattle.std.specs.Prelude.{◌≡◌, ◌||◌, [], map, IfOk, OnOk};
+ghost use Rattle.std.specs.Prelude.{◌≡◌, ◌||◌, [], OnOk};
 ghost use Rattle.soar_sym.specs.declared.symbol.Triple.{Triple as TripleOf};
-ghost use Rattle.soar_wm.specs.WorkingMemory.{triple_of};
 ghost use Rattle.defs_soar.specs.Values.{has_triple_among, triple_eq};
 
 use soar_sym::{NoMemory, Triple};
-use soar_wm::Element;
 use std::alloc::Global;
 use std::collections::BTreeSet;
 use std::marker::Model;
@@ -48,39 +46,5 @@ impl TripleSet {
     {
         self.tree.insert(triple)?;
         Ok(())
-    }
-
-    /// These triples.
-    pub fn of(alloc: Global, triples: &[Triple]) -> Result<TripleSet, NoMemory>
-        ensures { IfOk result (λ set. (t : TripleOf) → has_triple_among set t ≡ has_triple_among triples.now t) }
-    {
-        let mut set = TripleSet::new(alloc);
-        'triples: for triple in triples {
-            set.add(*triple)?;
-        }
-        Ok(set)
-    }
-
-    /// The triples of these elements.
-    pub fn of_elements(alloc: Global, elements: &[Element]) -> Result<TripleSet, NoMemory>
-        ensures { IfOk result (λ set. (t : TripleOf) → has_triple_among set t ≡ has_triple_among (map triple_of elements.now) t) }
-    {
-        let mut set = TripleSet::new(alloc);
-        'elements: for element in elements {
-            set.add(triple_of(*element))?;
-        }
-        Ok(set)
-    }
-}
-
-/// The triple of an element.
-pub fn triple_of(element: Element) -> Triple
-    ensures { result ≡ triple_of element }
-{
-    Triple {
-        id: element.id,
-        attr: element.attr,
-        value: element.value,
-        accept: element.accept,
     }
 }

@@ -5,8 +5,8 @@ ghost use Rattle.soar_settle.specs.Known.{AreTriplesKnown};
 ghost use Rattle.soar_settle.specs.Plans.{Plans};
 
 use crate::stop::Stop;
-use crate::tagging::parting::{new_in_order, part};
-use crate::triples::TripleSet;
+use crate::tagging::marking::mark;
+use crate::tagging::parting::{going, in_order};
 use defs_soar::{Goal, Which};
 use soar_sym::{List, SymTable, Triple};
 use soar_wm::{Element, Memory};
@@ -32,16 +32,13 @@ pub fn planned(
     ensures { Plans table.now goals.now kept.now memory.now result }
 {
     let elements = memory.all(alloc)?;
-    let keeping = TripleSet::of(alloc, kept)?;
-    let parted = part(alloc, goals, &keeping, elements.as_slice())?;
-    let staying = TripleSet::of_elements(alloc, parted.staying.as_slice())?;
-    let triples = new_in_order(alloc, table, &staying, kept)?;
-    match limit_passed(parted.staying.len(), triples.len(), memory.last_tag()) {
+    let marked = mark(alloc, goals, kept, memory, elements.as_slice())?;
+    let going = going(alloc, marked.stay.as_slice(), elements.as_slice())?;
+    let triples = in_order(alloc, table, marked.absent.as_slice())?;
+    let staying = elements.len() - going.len();
+    match limit_passed(staying, triples.len(), memory.last_tag()) {
         Some(which) => Err(Stop::Limit(which)),
-        None => Ok(Plan {
-            going: parted.going,
-            triples,
-        }),
+        None => Ok(Plan { going, triples }),
     }
 }
 

@@ -1,6 +1,5 @@
 use Rattle.std.proofs.Common.{◌≡◌, ◌∙◌, length, sym, ap, subst, rules}
 use Rattle.soar_settle.specs.Passes.{TellsReach}
-use Rattle.soar_settle.specs.Reached.{top_inputs}
 use Rattle.soar_settle.proofs.SettlingLemmas.{all_top}
 use Rattle.soar_settle.proofs.settling.with_top.Goals as goal
 
