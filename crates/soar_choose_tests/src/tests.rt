@@ -1,9 +1,11 @@
 mod choices;
+mod decisions;
 mod draws;
 mod slot;
 mod symbols;
 
 use choices::gives;
+use decisions::decides;
 use draws::draws;
 use std::test::Fail;
 
@@ -101,6 +103,28 @@ const DRAWS: &[&str] = &[
 fn words_of_the_random_queue_draw_these_places(rt: HostRuntime) -> Result<(), Fail> {
     for row in DRAWS {
         assert!(rt; draws(rt.alloc(), row)?, "{row}");
+    }
+    Ok(())
+}
+
+/// A selected operator, a mode and a random word, the preferences for operators, and what the goal comes to.
+const DECISIONS: &[&str] = &[
+    "- softmax 0: A+ => takes A, the first",
+    "A softmax 1: A+ B+ A= B= => stays",
+    "A softmax 1: A+ B+ A- => takes B, the second",
+    "- softmax 1: A+ B+ A= B= => draws B, the second",
+    "- last 0: A+ B+ A= B= => takes B, the second",
+    "- first 1: B! => takes B, the first",
+    "A first 0: A+ B+ A= => tie A B",
+    "A first 0: A+ A- => no change",
+    "- first 0: A+ B+ A>B B>A => conflict A B",
+    "- first 0: A! A~ => constraint A",
+];
+
+#[test]
+fn goals_come_to_these_outcomes(rt: HostRuntime) -> Result<(), Fail> {
+    for row in DECISIONS {
+        assert!(rt; decides(rt.alloc(), row)?, "{row}");
     }
     Ok(())
 }

@@ -40,7 +40,7 @@ fn drawn_by(drawer: &str, left: &List<Scored>) -> Option<usize> {
     }
 }
 
-fn mode_of(text: &str) -> Option<Mode> {
+pub fn mode_of(text: &str) -> Option<Mode> {
     match text {
         "first" => Some(Mode::First),
         "last" => Some(Mode::Last),
@@ -70,7 +70,7 @@ fn candidates(alloc: Global, sums: &str) -> Result<List<Scored>, AllocError> {
     Ok(left)
 }
 
-fn is_fraction(mode: Mode) -> bool
+pub fn is_fraction(mode: Mode) -> bool
     ensures { IsTrue result → IsFraction mode }
 {
     match mode {
