@@ -16,4 +16,5 @@ pub use changes::Changes;
 pub use renewal::renew;
 pub use settling::settle;
 pub use stop::Stop;
-pub use tagging::retag;
+pub use tagging::{in_order, retag};
+pub use triples::TripleSet;

@@ -11,6 +11,7 @@ mod replacing;
 
 use crate::changes::Changes;
 use crate::stop::Stop;
+pub use crate::tagging::parting::in_order;
 use crate::tagging::planning::planned;
 use crate::tagging::replacing::replace;
 use defs_soar::Goal;
