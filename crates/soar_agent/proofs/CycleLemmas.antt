@@ -15,6 +15,7 @@ use Rattle.defs_run.specs.Present.{started, cycle, cycles, run_present}
 use Rattle.soar_cycle.specs.Phasing.{written_within, ProposesFrom, ProposesText}
 use Rattle.soar_cycle.specs.Seen.{agent_of}
 use Rattle.soar_cycle.specs.declared.agent.Agent.{Agent as AgentKept}
+use Rattle.soar_cycle.proofs.StandsLemmas.{state_is}
 use Rattle.soar_settle.specs.declared.stop.Stop.{Stop}
 use Rattle.soar_settle.specs.declared.stop.Stop.TheVariants as stop
 use Rattle.soar_agent.specs.Courses.{front_said, Went, Passed, Goes, GoesPhase, Reached}
@@ -36,15 +37,15 @@ mid_last mid (x ∷ y ∷ bytes) b e =
 -- ---- a phase
 
 pub phase_goes : (s : SessionKept) (a : AgentKept) (mid : Bool) (text : List ℕ) (history : List RecordedFiring) (before after : List ℕ) (result : Result Bool Stop)
-    → ProposesFrom s.agent a history result → ProposesText s.agent history [] text result → after ≡ before ++ text → mid ≡ is_mid_after s.mid_line text
+    → ProposesFrom a (agent_of s.agent history) result → ProposesText (agent_of s.agent history) [] text result → after ≡ before ++ text → mid ≡ is_mid_after s.mid_line text
     → GoesPhase s.mid_line (phase without_learning true (agent_of s.agent history)) (record s { agent = a; mid_line = mid }) before after result
 phase_goes s a mid text history before after (Ok cut) from wrote appended ends =
     let steps : List Said = (phase without_learning true (agent_of s.agent history)).course.steps in
     let front : front_said s.mid_line steps ≡ record { text = written_within steps; mid_line = is_mid_after s.mid_line (written_within steps) } =
     phase_front s.mid_line steps (phase_quiet true (agent_of s.agent history)) in (
       record {
-        history = from.0.history;
-        stands = from.0.stands;
+        history = (phase without_learning true (agent_of s.agent history)).course.agent.history;
+        stands = sym (state_is a (phase without_learning true (agent_of s.agent history)).course.agent from.0.stands);
         within = from.0.within;
         text = appended ∙ (ap (λ t. before ++ t) wrote ∙ ap (λ (w : Written). before ++ w.text) (sym front));
         mid_line = ends ∙ (ap (is_mid_after s.mid_line) wrote ∙ ap (λ (w : Written). w.mid_line) (sym front));

@@ -22,6 +22,7 @@ use Rattle.defs_run.specs.Sessions.{Session, quiet, with_agent, as_lines, says}
 use Rattle.soar_cycle.specs.Changing.{with_inputs as inputs_put, ChangesInputs}
 use Rattle.soar_cycle.specs.Seen.{IsSound, Stepped, agent_of}
 use Rattle.soar_cycle.specs.declared.agent.Agent.{Agent as AgentKept}
+use Rattle.soar_cycle.proofs.StandsLemmas.{state_is}
 use Rattle.soar_settle.specs.declared.stop.Stop.{Stop}
 use Rattle.soar_settle.specs.declared.stop.Stop.TheVariants as stop
 use Rattle.soar_agent.specs.Carries.{rules_with}
@@ -99,15 +100,15 @@ settling_front mid a held =
 abbrev with_kept : AgentKept → SessionKept → SessionKept
 with_kept a s = record s { agent = a }
 
-pub changes : (s : SessionKept) (a : AgentKept) (inputs : List Triple) (history : List RecordedFiring) (said : List ℕ) → IsSound a → Stepped a (inputs_put s.agent history inputs)
+pub changes : (s : SessionKept) (a : AgentKept) (inputs : List Triple) (history : List RecordedFiring) (said : List ℕ) → IsSound a → Stepped a (inputs_put (agent_of s.agent history) inputs)
     → Obeys s.mid_line (with_inputs inputs (session_of s history)) (with_kept a s) said said (Ok false)
 changes s a inputs history said sound stepped =
     let old : Agent = agent_of s.agent history in
     let step : AgentStep = resettled old (held_with old inputs) in
     let front : front_told watch s.mid_line (told_by old step ∷ []) ≡ nothing s.mid_line = settling_front s.mid_line old (held_with old inputs) in
     record {
-      history = stepped.history;
-      session = ap (λ (b : Agent). record (session_of s history) { agent = b }) (stepped.stands ∙ settling_goes_on old (held_with old inputs))
+      history = (halting step).history;
+      session = ap (λ (b : Agent). record (session_of s history) { agent = b }) (sym (state_is a (halting step) stepped.stands) ∙ settling_goes_on old (held_with old inputs))
           ∙ ap (λ (w : Written). record (session_of s history) { agent = step.agent; mid_line = w.mid_line }) (sym front);
       within = ap (λ o. or_limit o None) stepped.within;
       text = sym (append-nil said) ∙ ap (λ (w : Written). said ++ w.text) (sym front);
@@ -116,7 +117,7 @@ changes s a inputs history said sound stepped =
     }
 
 pub changes_none : (s new : SessionKept) (inputs : List Triple) (history : List RecordedFiring) (said : List ℕ) (why : Stop)
-    → ChangesInputs s.agent new.agent history inputs (Err why) → new.mid_line ≡ s.mid_line
+    → ChangesInputs new.agent (agent_of s.agent history) inputs (Err why) → new.mid_line ≡ s.mid_line
     → Obeys s.mid_line (with_inputs inputs (session_of s history)) new said said (Err why)
 changes_none s new inputs history said (stop.Limit limit) passed same =
     let old : Agent = agent_of s.agent history in

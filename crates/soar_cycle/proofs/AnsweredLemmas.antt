@@ -5,12 +5,11 @@ use Rattle.std.proofs.lemmas.List.{length-map}
 use Rattle.soar_wm.specs.declared.element.Element.{Element}
 use Rattle.defs_match.specs.Rules.{RuleOf}
 use Rattle.defs_match.specs.declared.instance.Instance.{Instance}
-use Rattle.defs_soar.specs.Agents.{LiveFiring}
-use Rattle.defs_soar.specs.History.{RecordedFiring}
+use Rattle.defs_soar.specs.Agents.{Agent, LiveFiring}
 use Rattle.defs_soar.specs.Pending.{Firable, Work as WorkOf, firable_of, is_none, pending}
 use Rattle.soar_cycle.specs.Carrying.{Carries, is_nothing, is_without, waved}
 use Rattle.soar_cycle.specs.Firables.{AreBound, IsPending, firables_for, rules_of}
-use Rattle.soar_cycle.specs.Seen.{WavesFrom, Writes, agent_of, wave_at}
+use Rattle.soar_cycle.specs.Seen.{WavesFrom, Writes, wave_at}
 use Rattle.soar_cycle.specs.declared.agent.Agent.{Agent as AgentKept}
 use Rattle.soar_settle.specs.declared.stop.Stop.{Stop}
 use Rattle.soar_settle.specs.declared.stop.Stop.TheVariants as stop
@@ -38,19 +37,19 @@ something rules elements work w pend bound nothing = by w.retracted w.fired pend
 
 -- ---- each answer
 
-pub waves_err : (old new : AgentKept) (history : List RecordedFiring) (before after : List ℕ) (why : Stop) → is_none (pending true (agent_of old history)) ≡ false
-    → Carries new before after (wave_at old history) (Err why) → WavesFrom old new history (Err why)
-waves_err old new history before after (stop.Limit which) some h = (some, h.passed)
-waves_err old new history before after stop.NoMemory some h = tt
+pub waves_err : (old new : AgentKept) (s : Agent) (before after : List ℕ) (why : Stop) → is_none (pending true s) ≡ false
+    → Carries new before after (wave_at s) (Err why) → WavesFrom old new s (Err why)
+waves_err old new s before after (stop.Limit which) some h = (some, h.passed)
+waves_err old new s before after stop.NoMemory some h = tt
 
-pub writes_err : (old new : AgentKept) (history : List RecordedFiring) (before after : List ℕ) (why : Stop) → Carries new before after (wave_at old history) (Err why) → Writes old history before after (Err why)
-writes_err old new history before after (stop.Limit which) h = h.text
-writes_err old new history before after stop.NoMemory h = tt
+pub writes_err : (new : AgentKept) (s : Agent) (before after : List ℕ) (why : Stop) → Carries new before after (wave_at s) (Err why) → Writes s before after (Err why)
+writes_err new s before after (stop.Limit which) h = h.text
+writes_err new s before after stop.NoMemory h = tt
 
-pub waves_ok : (old new : AgentKept) (history : List RecordedFiring) (before after : List ℕ) (halted : Bool) → is_none (pending true (agent_of old history)) ≡ false
-    → Carries new before after (wave_at old history) (Ok halted) → WavesFrom old new history (Ok (waved halted))
-waves_ok old new history before after true some h = (some, h.stepped, sym h.halted_is)
-waves_ok old new history before after false some h = (some, h.stepped, sym h.halted_is)
+pub waves_ok : (old new : AgentKept) (s : Agent) (before after : List ℕ) (halted : Bool) → is_none (pending true s) ≡ false
+    → Carries new before after (wave_at s) (Ok halted) → WavesFrom old new s (Ok (waved halted))
+waves_ok old new s before after true some h = (some, h.stepped, sym h.halted_is)
+waves_ok old new s before after false some h = (some, h.stepped, sym h.halted_is)
 
 -- ---- whether there is work
 

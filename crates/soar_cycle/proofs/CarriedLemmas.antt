@@ -9,6 +9,7 @@ use Rattle.defs_soar.specs.declared.goal.Goal.{Goal}
 use Rattle.defs_soar.specs.declared.goal.Impasse.TheVariants as impasse
 use Rattle.defs_soar.specs.declared.limit.Which.TheVariants as which
 use Rattle.defs_soar.specs.declared.preference.Preference.{Preference}
+use Rattle.defs_soar.specs.Agents.{Agent}
 use Rattle.defs_soar.specs.Decision.{new_goal}
 use Rattle.defs_soar.specs.History.{RecordedFiring}
 use Rattle.defs_soar.specs.Learning.{without_learning}
@@ -19,7 +20,7 @@ use Rattle.defs_soar.specs.Resettling.{AgentStep}
 use Rattle.defs_soar.specs.WaveFirings.{first_wave, before_wave, with_firings}
 use Rattle.defs_soar.specs.Waves.{wave_of}
 use Rattle.soar_prefs.specs.Memory.{PreferenceMemory}
-use Rattle.soar_cycle.specs.Carrying.{Carries}
+use Rattle.soar_cycle.specs.Carrying.{Carries, CarriesOut}
 use Rattle.soar_cycle.specs.Counting.{Counts}
 use Rattle.soar_cycle.specs.Firables.{IsPending}
 use Rattle.soar_cycle.specs.FiresAll.{Begins, FiresAll, HasFired}
@@ -33,6 +34,7 @@ use Rattle.soar_settle.specs.declared.stop.Stop.TheVariants as stop
 use Rattle.soar_cycle.specs.declared.work.Work.{Work}
 use Rattle.soar_cycle.proofs.CarryLemmas.{Counted, stops_at_waves, stops_at_retractions, stops_in_firing, stops_at_rows}
 use Rattle.soar_cycle.proofs.FiredWaveLemmas.{last_within}
+use Rattle.soar_cycle.proofs.StandsLemmas.{of_each_state}
 
 -- ---- an answer that is no result
 
@@ -47,6 +49,13 @@ carries_not new text s r why is stops = subst (Carries new text text s) (sym is)
     by : (why : Stop) → StopsAs s why → Carries new text text s (Err why)
     by (stop.Limit limit) h = record { passed = h; text = refl }
     by stop.NoMemory h = tt
+
+-- what carrying out does with each history it does in each state that the agent stands for
+pub of_each_wave : (old new : AgentKept) (work : Work) (before after : List ℕ) (r : Result Bool Stop)
+    → ((history : List RecordedFiring) (w : WorkOf) → IsPending (map rule_seen old.rules) old.memory.elements work w → Carries new before after (wave_of without_learning (agent_of old history) w) r)
+    → CarriesOut old new work before after r
+of_each_wave old new work before after r =
+    of_each_state (λ (s : Agent). (w : WorkOf) → IsPending (map rule_seen old.rules) old.memory.elements work w → Carries new before after (wave_of without_learning s w) r) old
 
 abbrev pub top : Goal
 top = new_goal (Ident 83 1) impasse.Top []

@@ -8,6 +8,7 @@ use Rattle.defs_soar.specs.History.{RecordedFiring}
 use Rattle.defs_soar.specs.Learning.{without_learning}
 use Rattle.defs_soar.specs.Limits.{first_passed}
 use Rattle.defs_soar.specs.Pending.{Work as WorkOf}
+use Rattle.defs_soar.specs.Phases.{halting}
 use Rattle.defs_soar.specs.Resettling.{removal_events, resettled, without_elements}
 use Rattle.defs_soar.specs.Settling.{elements_after, kept_triples}
 use Rattle.defs_soar.specs.Trimming.{RemovedGoal, supports_of, trimmed}
@@ -26,6 +27,7 @@ use Rattle.soar_settle.specs.declared.stop.Stop.TheVariants as stop
 use Rattle.soar_cycle.proofs.CarriedLemmas.{StopsAs, top}
 use Rattle.soar_cycle.proofs.CarryLemmas.{Counted, history_after, halted_is, past_rows, quiet_work, stands_after}
 use Rattle.soar_cycle.proofs.FiredWaveLemmas.{tells_texts, unwritten, written_append}
+use Rattle.soar_cycle.proofs.StandsLemmas.{stands_for, state_is}
 use Rattle.soar_cycle.proofs.UnsettledLemmas.{settles_same}
 
 -- ---- what is written
@@ -60,7 +62,7 @@ wave_written a work goal one =
 pub settling_stop : (old mid new : AgentKept) (history : List RecordedFiring) (w : WorkOf) (why : Stop) → IsSound old → Counted (agent_of old history) w
     → first_passed (fired_in (agent_of old history) w).totals ≡ None → rows_in_all (agent_of old history) w.retracted (fired_in (agent_of old history) w) ≤ 1000000
     → agent_of mid history ≡ unsettled (agent_of old history) w.retracted (fired_in (agent_of old history) w)
-    → Resettles mid new history (Err why) → StopsAs (wave_of without_learning (agent_of old history) w) why
+    → Resettles new (agent_of mid history) (Err why) → StopsAs (wave_of without_learning (agent_of old history) w) why
 settling_stop old mid new history w (stop.Limit limit) sound counted within room stands passed =
     let a = agent_of old history in
     past_rows a w top sound.one_goal counted within room ∙ ap (λ s. first_passed s.totals) (sym (settles_same mid history a w.retracted (fired_in a w) stands)) ∙ passed
@@ -72,16 +74,17 @@ pub done : (old mid new : AgentKept) (history : List RecordedFiring) (w : WorkOf
     → HasFired mid.table mid.letters count made (first_wave (agent_of old history)) (fired_in (agent_of old history) w)
     → rows_in_all (agent_of old history) w.retracted (fired_in (agent_of old history) w) ≤ 1000000
     → agent_of mid history ≡ unsettled (agent_of old history) w.retracted (fired_in (agent_of old history) w)
-    → IsResettled new history (resettled_now mid history)
+    → IsResettled new (resettled_now (agent_of mid history))
     → after ≡ before ++ made.text
     → Carried (record new { halted = new.halted || made.halted }) before after made.halted (wave_of without_learning (agent_of old history) w)
 done old mid new history w count made before after sound counted fired room stands settled text =
     let a = agent_of old history in
     let same = settles_same mid history a w.retracted (fired_in a w) stands in
+    let now = (resettled_now (agent_of mid history)).agent in
     record {
       stepped = record {
-        history = history_after a w;
-        stands = stands_after a (agent_of new history) w top made.halted sound.one_goal (settled.stands ∙ ap (λ s. s.agent) same) fired.halted_is;
+        stands = stands_for (record new { halted = new.halted || made.halted }) (history_after a w) (halting (wave_of without_learning a w))
+            (stands_after a (agent_of new now.history) w top made.halted sound.one_goal (sym (state_is new now settled.stands) ∙ ap (λ s. s.agent) same) fired.halted_is);
         within = past_rows a w top sound.one_goal counted fired.within room ∙ ap (λ s. first_passed s.totals) (sym same) ∙ settled.within;
       };
       halted_is = fired.halted_is ∙ sym (halted_is a w top sound.one_goal);

@@ -1,24 +1,32 @@
 -- How a phase begins, goes on, and ends.
 use Rattle.std.proofs.Common.{◌≡◌, ℕ, suc, ◌-◌, ◌<◌, ◌≤◌, ◌∙◌, Bool, true, false, not, List, [], ◌∷◌, ◌++◌, append-nil, append_assoc, None, Result, Ok, Err, refl, sym, ap, subst, arith}
 use Rattle.soar_rule.specs.Repeat.{Turn, ends, goes_on, turns}
-use Rattle.defs_soar.specs.History.{RecordedFiring}
+use Rattle.defs_soar.specs.Agents.{Agent, Settings}
 use Rattle.defs_soar.specs.Learning.{without_learning}
 use Rattle.defs_soar.specs.Pending.{is_none, pending}
-use Rattle.defs_soar.specs.Phases.{Said, Course, still, said_by, then_step, one_wave, phased_by, phase}
+use Rattle.defs_soar.specs.Phases.{Said, Course, halting, still, said_by, then_step, one_wave, phased_by, phase}
 use Rattle.soar_cycle.specs.Going.{Going, TellsWork}
 use Rattle.soar_cycle.specs.Phasing.{limit_in, written_within, ProposesFrom, ProposesText, Ran}
-use Rattle.soar_cycle.specs.Seen.{agent_of, wave_at, WavesFrom, Writes}
+use Rattle.soar_cycle.specs.Seen.{wave_at, WavesFrom, Writes}
+use Rattle.soar_cycle.specs.Stands.{Stands}
 use Rattle.soar_cycle.specs.declared.agent.Agent.{Agent as AgentKept}
 use Rattle.soar_settle.specs.declared.stop.Stop.{Stop}
 use Rattle.soar_settle.specs.declared.stop.Stop.TheVariants as stop
 use Rattle.soar_cycle.specs.declared.wave.Waved.TheVariants as waved
 use Rattle.soar_cycle.proofs.PhaseLemmas.{limit_behind, written_behind, one_limit, one_written, one_stop, none_written, at_rest, with_wave, turns_by, wave_among}
 
-abbrev course_at : AgentKept → List RecordedFiring → List Said → Course
-course_at a past steps = record { agent = agent_of a past; steps = steps }
+abbrev course_at : Agent → List Said → Course
+course_at s steps = record { agent = s; steps = steps }
 
-pub starts : (a : AgentKept) (history : List RecordedFiring) (text : List ℕ) → Going a a 100 history text text
-starts a history text = record { past = history; steps = []; is_left = refl; within = refl; wrote = sym (append-nil text) }
+pub starts : (now : AgentKept) (s : Agent) (text : List ℕ) → Stands now s → Going now 100 s text text
+starts now s text stands = record {
+  state = s;
+  stands = stands;
+  steps = [];
+  is_left = ap (λ (settings : Settings). turns settings.max_elaborations (one_wave without_learning true) (still s)) stands.settings;
+  within = refl;
+  wrote = sym (append-nil text);
+}
 
 -- ---- a step that passed no limit comes behind the others
 
@@ -32,121 +40,121 @@ wrote_next steps s before mid after text within here was now =
 
 -- ---- a wave that went
 
-pub goes : (initial now new : AgentKept) (left : ℕ) (history : List RecordedFiring) (before mid after : List ℕ) → (g : Going initial now (suc left) history before mid)
-    → WavesFrom now new g.past (Ok waved.Went) → Writes now g.past mid after (Ok waved.Went) → Going initial new left history before after
-goes initial now new left history before mid after g went wrote =
-    let c = course_at now g.past g.steps in
-    let s = wave_at now g.past in
+pub goes : (now new : AgentKept) (left : ℕ) (s : Agent) (before mid after : List ℕ) → (g : Going now (suc left) s before mid)
+    → WavesFrom now new g.state (Ok waved.Went) → Writes g.state mid after (Ok waved.Went) → Going new left s before after
+goes now new left s before mid after g went wrote =
+    let c = course_at g.state g.steps in
+    let w = wave_at g.state in
     record {
-      past = went.1.history;
-      steps = g.steps ++ said_by s ∷ [];
-      is_left = ap (λ a. turns left (one_wave without_learning true) (record { agent = a; steps = g.steps ++ said_by s ∷ [] })) went.1.stands
-          ∙ sym (turns_by left c (goes_on (then_step c s)) (with_wave c false went.0 went.2)) ∙ g.is_left;
-      within = limit_next g.steps (said_by s) g.within (one_limit (said_by s) went.1.within);
-      wrote = wrote_next g.steps (said_by s) before mid after _ g.within (one_written (said_by s) [] went.1.within ∙ append-nil _) g.wrote wrote;
+      state = halting w;
+      stands = went.1.stands;
+      steps = g.steps ++ said_by w ∷ [];
+      is_left = sym (turns_by left c (goes_on (then_step c w)) (with_wave c false went.0 went.2)) ∙ g.is_left;
+      within = limit_next g.steps (said_by w) g.within (one_limit (said_by w) went.1.within);
+      wrote = wrote_next g.steps (said_by w) before mid after _ g.within (one_written (said_by w) [] went.1.within ∙ append-nil _) g.wrote wrote;
     }
 
 -- ---- the end of a phase
 
 -- the phase is what the turns that are left come to
-abbrev ends_with : AgentKept → List RecordedFiring → Turn Course → Type 0
-ends_with initial history t = turns 100 (one_wave without_learning true) (still (agent_of initial history)) ≡ t
+abbrev ends_with : Agent → Turn Course → Type 0
+ends_with s t = turns s.settings.max_elaborations (one_wave without_learning true) (still s) ≡ t
 
-phase_is : (initial : AgentKept) (history : List RecordedFiring) (t : Turn Course) → ends_with initial history t → phase without_learning true (agent_of initial history) ≡ phased_by true t
+phase_is : (s : Agent) (t : Turn Course) → ends_with s t → phase without_learning true s ≡ phased_by true t
 unfolding phase
-phase_is initial history t is = ap (phased_by true) is
+phase_is s t is = ap (phased_by true) is
 
 abbrev ran_so : AgentKept → Bool → Course → Bool → Type 0
 ran_so new cut c is_cut = Ran new c × (cut ≡ is_cut)
 
-proposes : (initial new : AgentKept) (history : List RecordedFiring) (cut : Bool) (t : Turn Course) → ends_with initial history t → ran_so new cut (phased_by true t).course (phased_by true t).is_cut → ProposesFrom initial new history (Ok cut)
-proposes initial new history cut t is ran = subst (λ p. ran_so new cut p.course p.is_cut) (sym (phase_is initial history t is)) ran
+proposes : (new : AgentKept) (s : Agent) (cut : Bool) (t : Turn Course) → ends_with s t → ran_so new cut (phased_by true t).course (phased_by true t).is_cut → ProposesFrom new s (Ok cut)
+proposes new s cut t is ran = subst (λ p. ran_so new cut p.course p.is_cut) (sym (phase_is s t is)) ran
 
-tells : (initial : AgentKept) (history : List RecordedFiring) (before after : List ℕ) (cut : Bool) (t : Turn Course) → ends_with initial history t → after ≡ before ++ written_within (phased_by true t).course.steps
-    → ProposesText initial history before after (Ok cut)
-tells initial history before after cut t is wrote = wrote ∙ ap (λ p. before ++ written_within p.course.steps) (sym (phase_is initial history t is))
+tells : (s : Agent) (before after : List ℕ) (cut : Bool) (t : Turn Course) → ends_with s t → after ≡ before ++ written_within (phased_by true t).course.steps
+    → ProposesText s before after (Ok cut)
+tells s before after cut t is wrote = wrote ∙ ap (λ p. before ++ written_within p.course.steps) (sym (phase_is s t is))
 
 -- nothing was pending
-pub rests : (initial now new : AgentKept) (left : ℕ) (history : List RecordedFiring) (before mid : List ℕ) → (g : Going initial now (suc left) history before mid)
-    → WavesFrom now new g.past (Ok waved.Rest) → ProposesFrom initial new history (Ok false)
-rests initial now new left history before mid g rest =
-    let c = course_at now g.past g.steps in
-    proposes initial new history false (ends c) (sym g.is_left ∙ turns_by left c (ends c) (at_rest c rest.0))
-    (record { history = g.past; stands = ap (λ a. agent_of a g.past) rest.1; within = g.within }, refl)
+pub rests : (now new : AgentKept) (left : ℕ) (s : Agent) (before mid : List ℕ) → (g : Going now (suc left) s before mid)
+    → WavesFrom now new g.state (Ok waved.Rest) → ProposesFrom new s (Ok false)
+rests now new left s before mid g rest =
+    let c = course_at g.state g.steps in
+    proposes new s false (ends c) (sym g.is_left ∙ turns_by left c (ends c) (at_rest c rest.0))
+    (record { stands = subst (λ (a : AgentKept). Stands a g.state) (sym rest.1) g.stands; within = g.within }, refl)
 
-pub rest_tells : (initial now new : AgentKept) (left : ℕ) (history : List RecordedFiring) (before mid after : List ℕ) → (g : Going initial now (suc left) history before mid)
-    → WavesFrom now new g.past (Ok waved.Rest) → Writes now g.past mid after (Ok waved.Rest) → ProposesText initial history before after (Ok false)
-rest_tells initial now new left history before mid after g rest same =
-    let c = course_at now g.past g.steps in
-    tells initial history before after false (ends c) (sym g.is_left ∙ turns_by left c (ends c) (at_rest c rest.0)) (same ∙ g.wrote)
+pub rest_tells : (now new : AgentKept) (left : ℕ) (s : Agent) (before mid after : List ℕ) → (g : Going now (suc left) s before mid)
+    → WavesFrom now new g.state (Ok waved.Rest) → Writes g.state mid after (Ok waved.Rest) → ProposesText s before after (Ok false)
+rest_tells now new left s before mid after g rest same =
+    let c = course_at g.state g.steps in
+    tells s before after false (ends c) (sym g.is_left ∙ turns_by left c (ends c) (at_rest c rest.0)) (same ∙ g.wrote)
 
 -- a firing halted
-pub halts : (initial now new : AgentKept) (left : ℕ) (history : List RecordedFiring) (before mid : List ℕ) → (g : Going initial now (suc left) history before mid)
-    → WavesFrom now new g.past (Ok waved.Halted) → ProposesFrom initial new history (Ok false)
-halts initial now new left history before mid g halt =
-    let c = course_at now g.past g.steps in
-    let s = wave_at now g.past in
-    proposes initial new history false (ends (then_step c s)) (sym g.is_left ∙ turns_by left c (ends (then_step c s)) (with_wave c true halt.0 halt.2))
-    (record { history = halt.1.history; stands = halt.1.stands; within = limit_next g.steps (said_by s) g.within (one_limit (said_by s) halt.1.within) }, refl)
+pub halts : (now new : AgentKept) (left : ℕ) (s : Agent) (before mid : List ℕ) → (g : Going now (suc left) s before mid)
+    → WavesFrom now new g.state (Ok waved.Halted) → ProposesFrom new s (Ok false)
+halts now new left s before mid g halt =
+    let c = course_at g.state g.steps in
+    let w = wave_at g.state in
+    proposes new s false (ends (then_step c w)) (sym g.is_left ∙ turns_by left c (ends (then_step c w)) (with_wave c true halt.0 halt.2))
+    (record { stands = halt.1.stands; within = limit_next g.steps (said_by w) g.within (one_limit (said_by w) halt.1.within) }, refl)
 
-pub halt_tells : (initial now new : AgentKept) (left : ℕ) (history : List RecordedFiring) (before mid after : List ℕ) → (g : Going initial now (suc left) history before mid)
-    → WavesFrom now new g.past (Ok waved.Halted) → Writes now g.past mid after (Ok waved.Halted) → ProposesText initial history before after (Ok false)
-halt_tells initial now new left history before mid after g halt wrote =
-    let c = course_at now g.past g.steps in
-    let s = wave_at now g.past in
-    tells initial history before after false (ends (then_step c s)) (sym g.is_left ∙ turns_by left c (ends (then_step c s)) (with_wave c true halt.0 halt.2))
-    (wrote_next g.steps (said_by s) before mid after _ g.within (one_written (said_by s) [] halt.1.within ∙ append-nil _) g.wrote wrote)
+pub halt_tells : (now new : AgentKept) (left : ℕ) (s : Agent) (before mid after : List ℕ) → (g : Going now (suc left) s before mid)
+    → WavesFrom now new g.state (Ok waved.Halted) → Writes g.state mid after (Ok waved.Halted) → ProposesText s before after (Ok false)
+halt_tells now new left s before mid after g halt wrote =
+    let c = course_at g.state g.steps in
+    let w = wave_at g.state in
+    tells s before after false (ends (then_step c w)) (sym g.is_left ∙ turns_by left c (ends (then_step c w)) (with_wave c true halt.0 halt.2))
+    (wrote_next g.steps (said_by w) before mid after _ g.within (one_written (said_by w) [] halt.1.within ∙ append-nil _) g.wrote wrote)
 
 -- no wave is left
-pub is_over : (initial now : AgentKept) (history : List RecordedFiring) (before after : List ℕ) (some : Bool) → (g : Going initial now 0 history before after)
-    → some ≡ not (is_none (pending true (agent_of now g.past))) → ProposesFrom initial now history (Ok some)
-is_over initial now history before after some g is =
-    proposes initial now history some (goes_on (course_at now g.past g.steps)) (sym g.is_left) (record { history = g.past; stands = refl; within = g.within }, is)
+pub is_over : (now : AgentKept) (s : Agent) (before after : List ℕ) (some : Bool) → (g : Going now 0 s before after)
+    → some ≡ not (is_none (pending true g.state)) → ProposesFrom now s (Ok some)
+is_over now s before after some g is =
+    proposes now s some (goes_on (course_at g.state g.steps)) (sym g.is_left) (record { stands = g.stands; within = g.within }, is)
 
-pub over_tells : (initial now : AgentKept) (history : List RecordedFiring) (before after : List ℕ) (some : Bool) → (g : Going initial now 0 history before after) → ProposesText initial history before after (Ok some)
-over_tells initial now history before after some g = tells initial history before after some (goes_on (course_at now g.past g.steps)) (sym g.is_left) g.wrote
+pub over_tells : (now : AgentKept) (s : Agent) (before after : List ℕ) (some : Bool) → (g : Going now 0 s before after) → ProposesText s before after (Ok some)
+over_tells now s before after some g = tells s before after some (goes_on (course_at g.state g.steps)) (sym g.is_left) g.wrote
 
 -- ---- a limit
 
-pub stops : (initial now new : AgentKept) (left : ℕ) (history : List RecordedFiring) (before mid : List ℕ) (why : Stop) → (g : Going initial now (suc left) history before mid)
-    → WavesFrom now new g.past (Err why) → ProposesFrom initial new history (Err why)
-stops initial now new left history before mid stop.NoMemory g h = tt
-stops initial now new left history before mid (stop.Limit which) g h =
-    let c = course_at now g.past g.steps in
-    let s = said_by (wave_at now g.past) in
+pub stops : (now new : AgentKept) (left : ℕ) (s : Agent) (before mid : List ℕ) (why : Stop) → (g : Going now (suc left) s before mid)
+    → WavesFrom now new g.state (Err why) → ProposesFrom new s (Err why)
+stops now new left s before mid stop.NoMemory g h = tt
+stops now new left s before mid (stop.Limit which) g h =
+    let c = course_at g.state g.steps in
+    let w = said_by (wave_at g.state) in
     let among = wave_among left c h.0 in
-    ap (λ p. limit_in p.course.steps) (phase_is initial history (turns (suc left) (one_wave without_learning true) c) (sym g.is_left))
-    ∙ ap limit_in among.1 ∙ limit_behind g.steps (s ∷ among.0) g.within ∙ one_stop s among.0 which h.1
+    ap (λ p. limit_in p.course.steps) (phase_is s (turns (suc left) (one_wave without_learning true) c) (sym g.is_left))
+    ∙ ap limit_in among.1 ∙ limit_behind g.steps (w ∷ among.0) g.within ∙ one_stop w among.0 which h.1
 
-pub stop_tells : (initial now new : AgentKept) (left : ℕ) (history : List RecordedFiring) (before mid after : List ℕ) (why : Stop) → (g : Going initial now (suc left) history before mid)
-    → WavesFrom now new g.past (Err why) → Writes now g.past mid after (Err why) → ProposesText initial history before after (Err why)
-stop_tells initial now new left history before mid after stop.NoMemory g h same = tt
-stop_tells initial now new left history before mid after (stop.Limit which) g h same =
-    let c = course_at now g.past g.steps in
-    let s = said_by (wave_at now g.past) in
+pub stop_tells : (now new : AgentKept) (left : ℕ) (s : Agent) (before mid after : List ℕ) (why : Stop) → (g : Going now (suc left) s before mid)
+    → WavesFrom now new g.state (Err why) → Writes g.state mid after (Err why) → ProposesText s before after (Err why)
+stop_tells now new left s before mid after stop.NoMemory g h same = tt
+stop_tells now new left s before mid after (stop.Limit which) g h same =
+    let c = course_at g.state g.steps in
+    let w = said_by (wave_at g.state) in
     let among = wave_among left c h.0 in
-    let steps : (phase without_learning true (agent_of initial history)).course.steps ≡ g.steps ++ s ∷ among.0 =
-    ap (λ p. p.course.steps) (phase_is initial history (turns (suc left) (one_wave without_learning true) c) (sym g.is_left)) ∙ among.1 in
+    let steps : (phase without_learning true s).course.steps ≡ g.steps ++ w ∷ among.0 =
+    ap (λ p. p.course.steps) (phase_is s (turns (suc left) (one_wave without_learning true) c) (sym g.is_left)) ∙ among.1 in
     same ∙ g.wrote
-    ∙ ap (λ t. before ++ t) (sym (ap written_within steps ∙ written_behind g.steps (s ∷ among.0) g.within ∙ ap (λ t. written_within g.steps ++ t) (none_written s among.0 which h.1) ∙ append-nil (written_within g.steps)))
+    ∙ ap (λ t. before ++ t) (sym (ap written_within steps ∙ written_behind g.steps (w ∷ among.0) g.within ∙ ap (λ t. written_within g.steps ++ t) (none_written w among.0 which h.1) ∙ append-nil (written_within g.steps)))
 
 -- ---- how many waves are left
 
-pub some_left : (initial now : AgentKept) (left : ℕ) (history : List RecordedFiring) (before after : List ℕ) → 0 < left → Going initial now left history before after → Going initial now (suc (left - 1)) history before after
-some_left initial now left history before after h g = let one : left ≡ suc (left - 1) = omega (arith, h) in subst (λ n. Going initial now n history before after) one g
+pub some_left : (now : AgentKept) (left : ℕ) (s : Agent) (before after : List ℕ) → 0 < left → Going now left s before after → Going now (suc (left - 1)) s before after
+some_left now left s before after h g = let one : left ≡ suc (left - 1) = omega (arith, h) in subst (λ n. Going now n s before after) one g
 
-none_left : (initial now : AgentKept) (left : ℕ) (history : List RecordedFiring) (before after : List ℕ) → left ≤ 0 → Going initial now left history before after → Going initial now 0 history before after
-none_left initial now left history before after h g = let none : left ≡ 0 = omega (arith, h) in subst (λ n. Going initial now n history before after) none g
+none_left : (now : AgentKept) (left : ℕ) (s : Agent) (before after : List ℕ) → left ≤ 0 → Going now left s before after → Going now 0 s before after
+none_left now left s before after h g = let none : left ≡ 0 = omega (arith, h) in subst (λ n. Going now n s before after) none g
 
-pub ends_phase : (initial now : AgentKept) (left : ℕ) (history : List RecordedFiring) (before after : List ℕ) (r : Result Bool Stop) → left ≤ 0 → Going initial now left history before after → TellsWork now r
-    → ProposesFrom initial now history r
-ends_phase initial now left history before after (Ok some) h g tells_work =
-    let over = none_left initial now left history before after h g in is_over initial now history before after some over (tells_work over.past)
-ends_phase initial now left history before after (Err (stop.Limit which)) h g tells_work = absurd tells_work
-ends_phase initial now left history before after (Err stop.NoMemory) h g tells_work = tt
+pub ends_phase : (now : AgentKept) (left : ℕ) (s : Agent) (before after : List ℕ) (r : Result Bool Stop) → left ≤ 0 → Going now left s before after → TellsWork now r
+    → ProposesFrom now s r
+ends_phase now left s before after (Ok some) h g tells_work =
+    let over = none_left now left s before after h g in is_over now s before after some over (tells_work over.state over.stands)
+ends_phase now left s before after (Err (stop.Limit which)) h g tells_work = absurd tells_work
+ends_phase now left s before after (Err stop.NoMemory) h g tells_work = tt
 
-pub ends_text : (initial now : AgentKept) (left : ℕ) (history : List RecordedFiring) (before after : List ℕ) (r : Result Bool Stop) → left ≤ 0 → Going initial now left history before after → TellsWork now r
-    → ProposesText initial history before after r
-ends_text initial now left history before after (Ok some) h g tells_work = over_tells initial now history before after some (none_left initial now left history before after h g)
-ends_text initial now left history before after (Err (stop.Limit which)) h g tells_work = absurd tells_work
-ends_text initial now left history before after (Err stop.NoMemory) h g tells_work = tt
+pub ends_text : (now : AgentKept) (left : ℕ) (s : Agent) (before after : List ℕ) (r : Result Bool Stop) → left ≤ 0 → Going now left s before after → TellsWork now r
+    → ProposesText s before after r
+ends_text now left s before after (Ok some) h g tells_work = over_tells now s before after some (none_left now left s before after h g)
+ends_text now left s before after (Err (stop.Limit which)) h g tells_work = absurd tells_work
+ends_text now left s before after (Err stop.NoMemory) h g tells_work = tt

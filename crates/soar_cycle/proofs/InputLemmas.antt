@@ -10,7 +10,8 @@ use Rattle.defs_soar.specs.Resettling.{AgentStep, resettled}
 use Rattle.defs_soar.specs.Trimming.{Remains}
 use Rattle.soar_cycle.specs.Changing.{with_inputs, ChangesInputs}
 use Rattle.soar_cycle.specs.Resettles.{resettled_now, IsResettled, Resettles}
-use Rattle.soar_cycle.specs.Seen.{IsSound, Stepped}
+use Rattle.soar_cycle.specs.Seen.{agent_of, IsSound, Stepped}
+use Rattle.soar_cycle.specs.Stands.{Stands}
 use Rattle.soar_cycle.specs.declared.agent.Agent.{Agent as AgentKept}
 use Rattle.soar_settle.specs.declared.stop.Stop.{Stop}
 use Rattle.soar_settle.specs.declared.stop.Stop.TheVariants as stop
@@ -19,7 +20,7 @@ abbrev pub with_new : AgentKept → List Triple → AgentKept
 with_new a inputs = record a { inputs = inputs }
 
 -- settling puts what is held in the place of what there was
-same_step : (a : AgentKept) (history : List RecordedFiring) (inputs : List Triple) → resettled_now (with_new a inputs) history ≡ with_inputs a history inputs
+same_step : (a : AgentKept) (history : List RecordedFiring) (inputs : List Triple) → resettled_now (agent_of (with_new a inputs) history) ≡ with_inputs (agent_of a history) inputs
 unfolding resettled
 same_step a history inputs = refl
 
@@ -32,12 +33,12 @@ halts_none : (a : Agent) (held : Remains) → halting (resettled a held) ≡ (re
 unfolding resettled
 halts_none a held = ap (λ b. record (resettled a held).agent { halted = b }) (or_none a.halted)
 
-pub stepped : (new : AgentKept) (history : List RecordedFiring) (a : Agent) (held : Remains) → IsResettled new history (resettled a held) → Stepped new (resettled a held)
-stepped new history a held h = record { history = history; stands = h.stands ∙ sym (halts_none a held); within = h.within }
+pub stepped : (new : AgentKept) (a : Agent) (held : Remains) → IsResettled new (resettled a held) → Stepped new (resettled a held)
+stepped new a held h = record { stands = subst (Stands new) (sym (halts_none a held)) h.stands; within = h.within }
 
-pub changes_by : (a new : AgentKept) (history : List RecordedFiring) (inputs : List Triple) (result : Result (Unit {0}) Stop) → Resettles (with_new a inputs) new history result
-    → ChangesInputs a new history inputs result
-changes_by a new history inputs (Ok done) h = subst (Stepped new) (same_step a history inputs) (stepped new history _ _ h)
+pub changes_by : (a new : AgentKept) (history : List RecordedFiring) (inputs : List Triple) (result : Result (Unit {0}) Stop) → Resettles new (agent_of (with_new a inputs) history) result
+    → ChangesInputs new (agent_of a history) inputs result
+changes_by a new history inputs (Ok done) h = subst (Stepped new) (same_step a history inputs) (stepped new _ _ h)
 changes_by a new history inputs (Err (stop.Limit which)) h = ap (λ (s : AgentStep). first_passed s.totals) (sym (same_step a history inputs)) ∙ h
 changes_by a new history inputs (Err stop.NoMemory) h = tt
 

@@ -21,4 +21,5 @@ pub mod PhaseLemmas
 pub mod QuietLemmas
 pub mod ResettlingLemmas
 pub mod RuleLemmas
+pub mod StandsLemmas
 pub mod UnsettledLemmas

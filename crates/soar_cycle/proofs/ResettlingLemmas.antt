@@ -24,6 +24,7 @@ use Rattle.soar_cycle.specs.declared.agent.Agent.{Agent as AgentKept}
 use Rattle.soar_settle.specs.declared.stop.Stop.{Stop}
 use Rattle.soar_settle.specs.declared.stop.Stop.TheVariants as stop
 use Rattle.soar_cycle.proofs.KnownLemmas.{KnowsSupports, settled_known, settled_few, kept_known, after_known}
+use Rattle.soar_cycle.proofs.StandsLemmas.{stands_for}
 
 -- ---- the top goal stays
 
@@ -65,7 +66,7 @@ step_is a history held = refl
 abbrev settled_step : AgentKept → List RecordedFiring → AgentStep
 settled_step a history = step_to a history (with_supports (held_with (agent_of a history) a.inputs) (settled_from a.goals a.prefs.rows a.inputs))
 
-resettled_is : (a : AgentKept) (history : List RecordedFiring) (goal : Goal) → a.goals ≡ goal ∷ [] → resettled_now a history ≡ settled_step a history
+resettled_is : (a : AgentKept) (history : List RecordedFiring) (goal : Goal) → a.goals ≡ goal ∷ [] → resettled_now (agent_of a history) ≡ settled_step a history
 resettled_is a history goal one =
     step_is a history (held_with (agent_of a history) a.inputs)
     ∙ ap (step_to a history) (trimmed_top history a.memory.elements a.goals goal a.prefs.rows a.inputs (map live_seen a.live) one)
@@ -80,7 +81,7 @@ kept_of a = kept_triples a.goals (settled_from a.goals a.prefs.rows a.inputs)
 
 -- a limit that is passed where memory is made is that of the step
 pub stops_resettling : (a new : AgentKept) (history : List RecordedFiring) (goal : Goal) (kept : List Triple) (memory : WorkingMemory) (why : Stop) → a.goals ≡ goal ∷ [] → kept ≡ kept_of a
-    → Retags a.table a.goals kept a.memory memory (Err why) → Resettles a new history (Err why)
+    → Retags a.table a.goals kept a.memory memory (Err why) → Resettles new (agent_of a history) (Err why)
 stops_resettling a new history goal kept memory stop.NoMemory one is h = tt
 stops_resettling a new history goal kept memory (stop.Limit which) one is h =
     ap (λ (s : AgentStep). first_passed s.totals) (resettled_is a history goal one) ∙ ap (λ l. passed_by (elements_settled a l) a.memory) (sym is) ∙ h.0
@@ -107,9 +108,10 @@ agent_stands a history kept memory prefs inputs h = λ i.
 
 pub settled_stands : (a : AgentKept) (history : List RecordedFiring) (goal : Goal) (kept : List Triple) (memory : WorkingMemory) (prefs : PreferenceMemory) (inputs : List Triple)
     → a.goals ≡ goal ∷ [] → HasSettled a kept memory prefs inputs → passed_by (elements_settled a kept) a.memory ≡ None
-    → IsResettled (with_settled a memory prefs inputs) history (resettled_now a history)
+    → IsResettled (with_settled a memory prefs inputs) (resettled_now (agent_of a history))
 settled_stands a history goal kept memory prefs inputs one h within = record {
-  stands = agent_stands a history kept memory prefs inputs h ∙ ap (λ (s : AgentStep). s.agent) (sym (resettled_is a history goal one));
+  stands = stands_for (with_settled a memory prefs inputs) history (resettled_now (agent_of a history)).agent
+      (agent_stands a history kept memory prefs inputs h ∙ ap (λ (s : AgentStep). s.agent) (sym (resettled_is a history goal one)));
   within = ap (λ (s : AgentStep). first_passed s.totals) (resettled_is a history goal one) ∙ ap (λ l. passed_by (elements_settled a l) a.memory) (sym h.kept_is) ∙ within;
 }
 

@@ -6,11 +6,9 @@ use Rattle.soar_sym.specs.Words.{Texts}
 use Rattle.defs_match.specs.Rules.{RuleOf, rule_seen}
 use Rattle.defs_soar.specs.declared.preference.Preference.{Preference}
 use Rattle.defs_soar.specs.Agents.{LiveFiring, Agent}
-use Rattle.defs_soar.specs.Cycle.{held_with}
 use Rattle.defs_soar.specs.History.{RecordedFiring}
 use Rattle.defs_soar.specs.Pending.{Work as WorkOf}
 use Rattle.defs_soar.specs.Preferences.{rows_after, with_rows, without_firings, is_rejected_by}
-use Rattle.defs_soar.specs.Resettling.{resettled}
 use Rattle.defs_soar.specs.Trimming.{numbers_of}
 use Rattle.defs_soar.specs.WaveAtHand.{Wave}
 use Rattle.defs_soar.specs.WaveFirings.{first_wave, before_wave}
@@ -100,8 +98,9 @@ fired_stands old history work w made table letters prefs live waves firings retr
     }
 
 -- settling it is settling what the definition holds then
-pub settles_same : (new : AgentKept) (history : List RecordedFiring) (a : Agent) (gone : List LiveFiring) (v : Wave) → agent_of new history ≡ unsettled a gone v → resettled_now new history ≡ settled_after a gone v
-settles_same new history a gone v stands = ap (λ s. resettled s (held_with s s.holding.inputs)) stands
+pub settles_same : (new : AgentKept) (history : List RecordedFiring) (a : Agent) (gone : List LiveFiring) (v : Wave) → agent_of new history ≡ unsettled a gone v
+    → resettled_now (agent_of new history) ≡ settled_after a gone v
+settles_same new history a gone v stands = ap resettled_now stands
 
 -- ---- what it keeps
 

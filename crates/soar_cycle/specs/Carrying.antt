@@ -4,12 +4,13 @@ use Rattle.defs_match.specs.Rules.{rule_seen}
 use Rattle.defs_soar.specs.declared.limit.Which.{Which}
 use Rattle.defs_soar.specs.Learning.{without_learning}
 use Rattle.defs_soar.specs.Limits.{first_passed}
-use Rattle.defs_soar.specs.History.{RecordedFiring}
+use Rattle.defs_soar.specs.Agents.{Agent}
 use Rattle.defs_soar.specs.Pending.{Work as WorkOf}
 use Rattle.defs_soar.specs.Resettling.{AgentStep}
 use Rattle.defs_soar.specs.Waves.{wave_of}
 use Rattle.soar_cycle.specs.Firables.{IsPending}
-use Rattle.soar_cycle.specs.Seen.{agent_of, Stepped, written_of}
+use Rattle.soar_cycle.specs.Seen.{Stepped, written_of}
+use Rattle.soar_cycle.specs.Stands.{Stands}
 use Rattle.soar_cycle.specs.declared.agent.Agent.{Agent as AgentKept}
 use Rattle.soar_settle.specs.declared.stop.Stop.{Stop}
 use Rattle.soar_settle.specs.declared.stop.Stop.TheVariants as stop
@@ -33,10 +34,11 @@ Carries new before after s (Ok halted) = Carried new before after halted s
 Carries new before after s (Err (stop.Limit which)) = CarriedNot before after which s
 Carries new before after s (Err stop.NoMemory) = Unit {0}
 
--- whatever the history, for the work that this stands for
+-- in each state that the agent stands for, for the work that this stands for
 abbrev pub CarriesOut : AgentKept → AgentKept → Work → List ℕ → List ℕ → Result Bool Stop → Type 0
 CarriesOut old new work before after result =
-    (history : List RecordedFiring) (w : WorkOf) → IsPending (map rule_seen old.rules) old.memory.elements work w → Carries new before after (wave_of without_learning (agent_of old history) w) result
+    (s : Agent) → Stands old s → (w : WorkOf) → IsPending (map rule_seen old.rules) old.memory.elements work w
+    → Carries new before after (wave_of without_learning s w) result
 
 -- ---- parts of a wave's answer
 

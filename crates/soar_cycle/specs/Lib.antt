@@ -12,4 +12,5 @@ pub mod Living
 pub mod Phasing
 pub mod Resettles
 pub mod Seen
+pub mod Stands
 pub mod WaveParts

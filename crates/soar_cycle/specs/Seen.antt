@@ -1,4 +1,4 @@
--- The code's agent as the state that it stands for. What the agent does not keep yet is as at the start; its history is not kept at all.
+-- What an agent keeps, and what a wave answers for each state that it stands for.
 use Rattle.std.specs.Prelude.{◌≡◌, ℕ, ◌≤◌, true, false, List, [], ◌∷◌, ◌++◌, map, flat_map, length, Some, None, Result, Ok, Err}
 use Rattle.soar_sym.specs.declared.symbol.Sym.TheVariants.{Ident}
 use Rattle.defs_match.specs.Rules.{RuleOf, rule_seen}
@@ -15,6 +15,7 @@ use Rattle.defs_soar.specs.Resettling.{AgentStep}
 use Rattle.defs_soar.specs.Start.{first_settings}
 use Rattle.defs_soar.specs.Waves.{wave_of}
 use Rattle.soar_cycle.specs.Firables.{AreNumbered, live_seen}
+use Rattle.soar_cycle.specs.Stands.{Stands, counts_of}
 use Rattle.soar_settle.specs.Known.{AreElementsKnown, AreRulesKnown, AreRowsKnown, AreTriplesKnown}
 use Rattle.soar_cycle.specs.declared.agent.Agent.{Agent as AgentKept}
 use Rattle.soar_settle.specs.declared.stop.Stop.{Stop}
@@ -22,14 +23,14 @@ use Rattle.soar_settle.specs.declared.stop.Stop.TheVariants as stop
 use Rattle.soar_cycle.specs.declared.wave.Waved.{Waved}
 use Rattle.soar_cycle.specs.declared.wave.Waved.TheVariants as waved
 
--- with this history
+-- the state that has the parts of the agent and this history
 abbrev pub agent_of : AgentKept → List RecordedFiring → Agent
 agent_of a history = record {
   names = record { words = a.table; letters = a.letters; last_tag = a.memory.last };
   holding = record { elements = a.memory.elements; goals = a.goals; rows = a.prefs.rows; inputs = a.inputs; live = map live_seen a.live };
   queues = record { input = []; random = [] };
   program = record { rules = map rule_seen a.rules; last_rule = a.last_rule; chains = []; chunks = 0; justifications = 0 };
-  counts = record { cycles = a.cycles; waves = a.waves; firings = a.firings; retractions = a.retractions; learned = 0 };
+  counts = counts_of a;
   settings = first_settings 1;
   history = history;
   output = [];
@@ -67,20 +68,20 @@ pub record IsSound (a : AgentKept) : Type 0 where
 
 -- the agent stands for the state after a step, and none of what the step drew is beyond its limit
 pub record Stepped (new : AgentKept) (s : AgentStep) : Type 0 where
-  pub history : List RecordedFiring
-  pub stands : agent_of new history ≡ halting s
+  pub stands : Stands new (halting s)
   pub within : first_passed s.totals ≡ None
 
-abbrev pub wave_at : AgentKept → List RecordedFiring → AgentStep
-wave_at a history = wave_of without_learning (agent_of a history) (pending true (agent_of a history))
+-- what is pending in a state, carried out
+abbrev pub wave_at : Agent → AgentStep
+wave_at s = wave_of without_learning s (pending true s)
 
 -- each answer of a wave of the proposal phase, exactly where it comes; only want of memory is free
-abbrev pub WavesFrom : AgentKept → AgentKept → List RecordedFiring → Result Waved Stop → Type 0
-WavesFrom old new history (Ok waved.Rest) = (is_none (pending true (agent_of old history)) ≡ true) × (new ≡ old)
-WavesFrom old new history (Ok waved.Went) = (is_none (pending true (agent_of old history)) ≡ false) × Stepped new (wave_at old history) × ((wave_at old history).halted ≡ false)
-WavesFrom old new history (Ok waved.Halted) = (is_none (pending true (agent_of old history)) ≡ false) × Stepped new (wave_at old history) × ((wave_at old history).halted ≡ true)
-WavesFrom old new history (Err (stop.Limit which)) = (is_none (pending true (agent_of old history)) ≡ false) × (first_passed (wave_at old history).totals ≡ Some which)
-WavesFrom old new history (Err stop.NoMemory) = Unit {0}
+abbrev pub WavesFrom : AgentKept → AgentKept → Agent → Result Waved Stop → Type 0
+WavesFrom old new s (Ok waved.Rest) = (is_none (pending true s) ≡ true) × (new ≡ old)
+WavesFrom old new s (Ok waved.Went) = (is_none (pending true s) ≡ false) × Stepped new (wave_at s) × ((wave_at s).halted ≡ false)
+WavesFrom old new s (Ok waved.Halted) = (is_none (pending true s) ≡ false) × Stepped new (wave_at s) × ((wave_at s).halted ≡ true)
+WavesFrom old new s (Err (stop.Limit which)) = (is_none (pending true s) ≡ false) × (first_passed (wave_at s).totals ≡ Some which)
+WavesFrom old new s (Err stop.NoMemory) = Unit {0}
 
 -- ---- what a wave writes
 
@@ -92,8 +93,8 @@ abbrev pub written_of : List Event → List ℕ
 written_of events = flat_map written_by events
 
 -- the texts of the firings come behind what was there
-abbrev pub Writes : AgentKept → List RecordedFiring → List ℕ → List ℕ → Result Waved Stop → Type 0
-Writes old history before after (Ok waved.Rest) = after ≡ before
-Writes old history before after (Ok other) = after ≡ before ++ written_of (wave_at old history).events
-Writes old history before after (Err (stop.Limit which)) = after ≡ before
-Writes old history before after (Err stop.NoMemory) = Unit {0}
+abbrev pub Writes : Agent → List ℕ → List ℕ → Result Waved Stop → Type 0
+Writes s before after (Ok waved.Rest) = after ≡ before
+Writes s before after (Ok other) = after ≡ before ++ written_of (wave_at s).events
+Writes s before after (Err (stop.Limit which)) = after ≡ before
+Writes s before after (Err stop.NoMemory) = Unit {0}

@@ -1,5 +1,6 @@
-ghost use Rattle.std.specs.Prelude.{◌≡◌, ◌≤◌, length, map, IfOk};
+ghost use Rattle.std.specs.Prelude.{◌≡◌, map, IfOk};
 ghost use Rattle.defs_match.specs.Rules.{rule_seen};
+ghost use Rattle.soar_fire.specs.Growth.{Grown, LettersKeep};
 ghost use Rattle.soar_cycle.specs.Firables.{AreNumbered, AreBound};
 ghost use Rattle.soar_cycle.specs.FiresAll.{FiresAll};
 ghost use Rattle.soar_cycle.specs.FiringOutcome.{nothing_fired};
@@ -43,7 +44,8 @@ pub fn fire_all(
     requires known { AreInstancesKnown table.old instances.now }
     ensures answer { FiresAll table.old letters.old goals.now (map rule_seen rules.now) memory.now.elements instances.now last table.new letters.new result }
     ensures known { IfOk result (λ fired. AreRowsKnown table.new fired.rows) }
-    ensures grown { length table.old ≤ length table.new }
+    ensures words { Grown table.old table.new }
+    ensures letters { LettersKeep letters.old letters.new }
 {
     let mut fired = nothing_fired(alloc);
     let scene = Scene {

@@ -1,8 +1,9 @@
-ghost use Rattle.std.specs.Prelude.{◌≡◌, List as ListOf, IfOk};
-ghost use Rattle.defs_soar.specs.History.{RecordedFiring};
+ghost use Rattle.std.specs.Prelude.{◌≡◌, IfOk};
+ghost use Rattle.defs_soar.specs.Agents.{Agent as AgentOf};
 ghost use Rattle.soar_cycle.specs.Changing.{ChangesInputs};
 ghost use Rattle.soar_settle.specs.Known.{AreTriplesKnown};
 ghost use Rattle.soar_cycle.specs.Seen.{IsSound};
+ghost use Rattle.soar_cycle.specs.Stands.{Stands};
 
 use crate::agent::Agent;
 use soar_settle::Stop;
@@ -14,7 +15,7 @@ impl Agent {
     pub fn change_inputs(&mut self, alloc: Global, inputs: List<Triple>) -> Result<(), Stop>
         requires sound { IsSound self.old }
         requires known { AreTriplesKnown self.old.table inputs }
-        ensures inputs { (history : ListOf RecordedFiring) → ChangesInputs self.old self.new history inputs result }
+        ensures inputs { (s : AgentOf) → Stands self.old s → ChangesInputs self.new s inputs result }
         ensures sound { IfOk result (λ _. IsSound self.new) }
     {
         self.inputs = inputs;

@@ -1,8 +1,9 @@
-ghost use Rattle.std.specs.Prelude.{◌≡◌, List as ListOf, IfOk};
-ghost use Rattle.defs_soar.specs.History.{RecordedFiring};
+ghost use Rattle.std.specs.Prelude.{◌≡◌, IfOk};
+ghost use Rattle.defs_soar.specs.Agents.{Agent as AgentOf};
 ghost use Rattle.soar_cycle.specs.Going.{TellsWork};
 ghost use Rattle.soar_cycle.specs.Phasing.{ProposesFrom, ProposesText};
 ghost use Rattle.soar_cycle.specs.Seen.{IsSound};
+ghost use Rattle.soar_cycle.specs.Stands.{Stands};
 
 use crate::agent::Agent;
 use crate::wave::{Waved, is_nothing};
@@ -19,8 +20,8 @@ impl Agent {
     /// manual, execution cycle). Tells whether it was cut with work still pending. What firings write goes to `text`.
     pub fn propose(&mut self, alloc: Global, text: &mut Text) -> Result<bool, Stop>
         requires sound { IsSound self.old }
-        ensures phase { (history : ListOf RecordedFiring) → ProposesFrom self.old self.new history result }
-        ensures text { (history : ListOf RecordedFiring) → ProposesText self.old history text.old text.new result }
+        ensures phase { (s : AgentOf) → Stands self.old s → ProposesFrom self.new s result }
+        ensures text { (s : AgentOf) → Stands self.old s → ProposesText s text.old text.new result }
         ensures sound { IfOk result (λ _. IsSound self.new) }
     {
         let mut left = MOST_WAVES;

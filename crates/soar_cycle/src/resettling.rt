@@ -1,7 +1,8 @@
-ghost use Rattle.std.specs.Prelude.{◌≡◌, List as ListOf, IfOk};
-ghost use Rattle.defs_soar.specs.History.{RecordedFiring};
+ghost use Rattle.std.specs.Prelude.{◌≡◌, IfOk};
+ghost use Rattle.defs_soar.specs.Agents.{Agent as AgentOf};
 ghost use Rattle.soar_cycle.specs.Resettles.{Resettles};
 ghost use Rattle.soar_cycle.specs.Seen.{IsSound};
+ghost use Rattle.soar_cycle.specs.Stands.{Stands};
 
 use crate::agent::Agent;
 use soar_settle::{Stop, retag, settle};
@@ -11,7 +12,7 @@ impl Agent {
     /// Settles what the agent holds, and makes working memory of it.
     pub(crate) fn resettle(&mut self, alloc: Global) -> Result<(), Stop>
         requires sound { IsSound self.old }
-        ensures resettled { (history : ListOf RecordedFiring) → Resettles self.old self.new history result }
+        ensures resettled { (s : AgentOf) → Stands self.old s → Resettles self.new s result }
         ensures sound { IfOk result (λ _. IsSound self.new) }
     {
         let kept = settle(alloc, &self.goals, &mut self.prefs, &mut self.inputs)?;

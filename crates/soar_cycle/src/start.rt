@@ -2,7 +2,8 @@
 ghost use Rattle.std.specs.Prelude.{◌≡◌, ◌<◌, ◌-◌, ◌^◌, false, [], None, length, IfOk, OnOk};
 ghost use Rattle.defs_soar.specs.Start.{first_agent, first_elements, first_holding, first_letters};
 ghost use Rattle.soar_wm.specs.WorkingMemory.{tag_of, with_triple};
-ghost use Rattle.soar_cycle.specs.Seen.{IsSound, agent_of};
+ghost use Rattle.soar_cycle.specs.Seen.{IsSound};
+ghost use Rattle.soar_cycle.specs.Stands.{Stands};
 
 use crate::agent::Agent;
 use defs_soar::{Goal, Impasse};
@@ -38,7 +39,7 @@ const OUTPUT: Sym = Sym::Ident {
 impl Agent {
     /// The top state with its input and output links, and no rule (Soar manual, chapter 2, the top state).
     pub fn new(alloc: Global) -> Result<Agent, NoMemory>
-        ensures stands { IfOk result (λ agent. agent_of agent [] ≡ first_agent 1) }
+        ensures stands { IfOk result (λ agent. Stands agent (first_agent 1)) }
         ensures sound { IfOk result (λ agent. IsSound agent) }
     {
         let table = SymTable::new(alloc)?;

@@ -4,6 +4,7 @@ ghost use Rattle.std.specs.Option.{option_copied, option_map};
 ghost use Rattle.soar_rule.specs.Symbols.{AreKnown};
 ghost use Rattle.soar_rule.specs.Variables.{bound_variables};
 ghost use Rattle.soar_fire.specs.Fires.{AreWishesKnown, IsFirable, made_of};
+ghost use Rattle.soar_fire.specs.Growth.{Grown, LettersKeep, OnlyGains};
 ghost use Rattle.defs_match.specs.Rules.{rule_seen};
 ghost use Rattle.defs_soar.specs.Pending.{firable_of};
 ghost use Rattle.soar_cycle.specs.Firables.{firables_for, rules_of, AreBound, IsInstance};
@@ -36,7 +37,7 @@ pub fn fire_each(
         (gathered table.old letters.old last fired.old))
         (gathered table.new letters.new (last + length instances.now) fired.new) result }
     ensures rows { OnOk result (KnowsRows table.new fired.new.rows) }
-    ensures grown { length table.old ≤ length table.new }
+    ensures gains { OnlyGains table.old letters.old table.new letters.new }
 {
     let mut number = last;
     'instances: for instance in instances {
@@ -76,7 +77,8 @@ fn fire_one(
         (firables_for (map rule_seen scene.now.rules.now) scene.now.memory.now.elements instance.now)
         (gathered table.new letters.new number fired.new) result }
     ensures rows { OnOk result (KnowsRows table.new fired.new.rows) }
-    ensures grown { length table.old ≤ length table.new }
+    ensures words { Grown table.old table.new }
+    ensures letters { LettersKeep letters.old letters.new }
 {
     match rule_of(scene.rules.as_slice(), instance.rule) {
         Some(rule) => fire_rule(scene, rule, instance, number, table, letters, fired),
@@ -114,7 +116,8 @@ fn fire_rule(
         (firable_of scene.now.memory.now.elements (rule_seen rule.now) instance.now))
         (gathered table.new letters.new number fired.new) result }
     ensures rows { OnOk result (KnowsRows table.new fired.new.rows) }
-    ensures grown { length table.old ≤ length table.new }
+    ensures words { Grown table.old table.new }
+    ensures letters { LettersKeep letters.old letters.new }
 {
     let made = made_by(scene, rule, instance, table, letters)?;
     match gather(scene, rule, instance, number, &made, fired) {
@@ -135,7 +138,8 @@ fn made_by(
     requires known { IsFirable table.old (rule_seen rule.now) instance.now }
     ensures answer { Makes table.new letters.new (made_of table.old letters.old scene.now.goals.now (rule_seen rule.now) instance.now) result }
     ensures known { IfOk result (λ made. AreWishesKnown table.new made.wishes) }
-    ensures grown { length table.old ≤ length table.new }
+    ensures words { Grown table.old table.new }
+    ensures letters { LettersKeep letters.old letters.new }
 {
     match fire(scene.alloc, table, letters, scene.goals, rule, instance) {
         Ok(made) => Ok(made),

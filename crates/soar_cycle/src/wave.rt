@@ -1,10 +1,11 @@
-ghost use Rattle.std.specs.Prelude.{◌≡◌, ◌||◌, List as ListOf, map, IfOk};
+ghost use Rattle.std.specs.Prelude.{◌≡◌, ◌||◌, map, IfOk};
 ghost use Rattle.defs_match.specs.Rules.{rule_seen};
-ghost use Rattle.defs_soar.specs.History.{RecordedFiring};
+ghost use Rattle.defs_soar.specs.Agents.{Agent as AgentOf};
 ghost use Rattle.soar_cycle.specs.Carrying.{CarriesOut, is_nothing, waved};
 ghost use Rattle.soar_cycle.specs.Firables.{AreBound};
 ghost use Rattle.soar_settle.specs.Known.{AreInstancesKnown};
 ghost use Rattle.soar_cycle.specs.Seen.{IsSound, WavesFrom, Writes};
+ghost use Rattle.soar_cycle.specs.Stands.{Stands};
 
 use crate::agent::Agent;
 use crate::counting::count_more;
@@ -27,8 +28,8 @@ impl Agent {
     /// Runs a wave of the proposal phase (Soar manual, chapter 2, elaboration cycle). What its firings write goes to `text`.
     pub fn wave(&mut self, alloc: Global, text: &mut Text) -> Result<Waved, Stop>
         requires sound { IsSound self.old }
-        ensures wave { (history : ListOf RecordedFiring) → WavesFrom self.old self.new history result }
-        ensures text { (history : ListOf RecordedFiring) → Writes self.old history text.old text.new result }
+        ensures wave { (s : AgentOf) → Stands self.old s → WavesFrom self.old self.new s result }
+        ensures text { (s : AgentOf) → Stands self.old s → Writes s text.old text.new result }
         ensures sound { IfOk result (λ _. IsSound self.new) }
     {
         let work = pending(

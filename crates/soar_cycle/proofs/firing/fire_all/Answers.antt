@@ -21,3 +21,15 @@ pub returns-clause-answer : goal.returns-clause-answer
 returns-clause-answer c =
     fires_all c.args.table.now c.args.letters.now c.args.goals.now (map rule_seen c.args.rules.now) c.args.memory.now.elements c.args.instances.now c.args.last c.fire_each.new.table c.fire_each.new.letters c.fire_each.new.fired
     (rw (c.as_slice.ensures, c.nothing_fired-fired.ensures) at c.in_ok-fire_each.ensures.answer)
+
+pub returns-in_err-fire_each-clause-words : goal.returns-in_err-fire_each-clause-words
+returns-in_err-fire_each-clause-words c = c.fire_each.ensures.gains.words_grow.grown
+
+pub returns-in_err-fire_each-clause-letters : goal.returns-in_err-fire_each-clause-letters
+returns-in_err-fire_each-clause-letters c = c.fire_each.ensures.gains.letters_rise.kept
+
+pub returns-clause-words : goal.returns-clause-words
+returns-clause-words c = c.fire_each.ensures.gains.words_grow.grown
+
+pub returns-clause-letters : goal.returns-clause-letters
+returns-clause-letters c = c.fire_each.ensures.gains.letters_rise.kept

@@ -1,11 +1,24 @@
-use Rattle.std.proofs.Common.{◌+◌, length, map, Ok, Err, sym, ◌∙◌, arith, subst}
+use Rattle.std.proofs.Common.{◌≤◌, ◌+◌, length, map, Ok, Err, refl, sym, ◌∙◌, arith, subst}
 use Rattle.std.proofs.lemmas.Result.{err_from_is_err_and}
 use Rattle.defs_match.specs.Rules.{rule_seen}
 use Rattle.soar_cycle.specs.Firables.{firables_for}
 use Rattle.soar_cycle.specs.FiringOutcome.{gathered, Leaves, LeavesOne}
+use Rattle.soar_fire.specs.Growth.{OnlyGains}
+use Rattle.soar_fire.proofs.GrowthLemmas.{gains_both, gains_none, gains_twice, no_shorter}
 use Rattle.soar_cycle.proofs.FiringKnown.{instance_bound, instance_known, instances_grown, rules_grown}
 use Rattle.soar_cycle.proofs.FiringLemmas.{next_fires, next_over, next_stops}
 use Rattle.soar_cycle.proofs.turns.fire_each.Goals as goal
+
+pub instances-init : goal.instances-init
+instances-init c = record {
+  number = omega arith;
+  bound = c.requires.bound;
+  rules = c.requires.rules;
+  instances = c.requires.instances;
+  rows = c.requires.rows;
+  gains = gains_none _ _;
+  rest = refl;
+}
 
 pub instances-preserved : goal.instances-preserved
 instances-preserved c =
@@ -20,13 +33,15 @@ instances-preserved c =
     let known = instance_known c.instances.table instances place i c.instances.invariant.instances c.instances-test.true c.instance-item.is in
     let after = gathered c.fire_one.new.table c.fire_one.new.letters number c.fire_one.new.fired in
     let leaves : LeavesOne goals number (gathered c.instances.table c.instances.letters number c.instances.fired) (firables_for rules elements i) after (Ok tt) = c.in_ok-fire_one.ensures.answer in
+    let one : OnlyGains c.instances.table c.instances.letters c.fire_one.new.table c.fire_one.new.letters = gains_both _ _ _ _ c.fire_one.ensures.words c.fire_one.ensures.letters in
+    let longer : length c.instances.table ≤ length c.fire_one.new.table = no_shorter _ _ one.words_grow in
     record {
       number = omega (arith, c.in_ok-number.ensures.next, c.instances.invariant.number);
       bound = bound.1;
-      rules = rules_grown _ _ _ c.instances.invariant.rules c.fire_one.ensures.grown;
-      instances = instances_grown c.instances.table _ _ (record { are_known = known.1 }) c.fire_one.ensures.grown;
+      rules = rules_grown _ _ _ c.instances.invariant.rules longer;
+      instances = instances_grown c.instances.table _ _ (record { are_known = known.1 }) longer;
       rows = c.in_ok-fire_one.ensures.rows;
-      grown = omega (arith, c.fire_one.ensures.grown, c.instances.invariant.grown);
+      gains = gains_twice _ _ _ _ _ _ c.instances.invariant.gains one;
       rest =
           sym (next_fires goals c.instances.table c.instances.letters c.instances.fired c.instances.number rules elements instances place i c.instances-test.true c.instance-item.is
           number after c.in_ok-number.ensures.next c.in_ok-number.ensures.within bound.0 leaves)
@@ -65,3 +80,6 @@ returns-in_err-fire_one-clause-answer c =
     (subst (λ o. Leaves o last (Err e)) c.instances.invariant.rest
     (next_stops goals c.instances.table c.instances.letters c.instances.fired c.instances.number rules elements instances place i c.instances-test.true c.instance-item.is
     number after last e c.in_ok-number.ensures.next c.in_ok-number.ensures.within bound.0 leaves))
+
+pub returns-in_err-fire_one-clause-gains : goal.returns-in_err-fire_one-clause-gains
+returns-in_err-fire_one-clause-gains c = gains_twice _ _ _ _ _ _ c.instances.invariant.gains (gains_both _ _ _ _ c.fire_one.ensures.words c.fire_one.ensures.letters)

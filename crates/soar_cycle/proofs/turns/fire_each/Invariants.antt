@@ -1,5 +1,6 @@
-use Rattle.std.proofs.Common.{◌≡◌, ◌≤◌, ◌+◌, length, map, drop}
+use Rattle.std.proofs.Common.{◌≡◌, ◌+◌, map, drop}
 use Rattle.defs_match.specs.Rules.{rule_seen}
+use Rattle.soar_fire.specs.Growth.{OnlyGains}
 use Rattle.soar_cycle.specs.Firables.{AreBound}
 use Rattle.soar_cycle.specs.FiringOutcome.{gathered, instances_outcome, KnowsInstances, KnowsRows, KnowsRules}
 use Rattle.soar_cycle.proofs.turns.fire_each.Given as goal
@@ -11,7 +12,7 @@ invariant-instances l = record {
   rules : KnowsRules l.table (map rule_seen l.scene.rules.now);
   instances : KnowsInstances l.table (drop l.instance-index l.instances);
   rows : KnowsRows l.table l.fired.rows;
-  grown : length l.initial.table ≤ length l.table;
+  gains : OnlyGains l.initial.table l.initial.letters l.table l.letters;
   rest : instances_outcome l.scene.goals.now (map rule_seen l.scene.rules.now) l.scene.memory.now.elements (drop l.instance-index l.instances) (gathered l.table l.letters l.number l.fired)
       ≡ instances_outcome l.scene.goals.now (map rule_seen l.scene.rules.now) l.scene.memory.now.elements l.instances (gathered l.initial.table l.initial.letters l.last l.initial.fired);
 }

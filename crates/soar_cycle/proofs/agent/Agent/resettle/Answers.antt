@@ -1,25 +1,31 @@
-use Rattle.std.proofs.Common.{sym, subst}
+use Rattle.std.proofs.Common.{Err, sym, subst}
 use Rattle.std.proofs.lemmas.Result.{err_from_is_err_and}
+use Rattle.defs_soar.specs.Agents.{Agent}
+use Rattle.soar_cycle.specs.Resettles.{IsResettled, Resettles, resettled_now}
 use Rattle.soar_settle.specs.Known.{AreTriplesKnown}
 use Rattle.soar_cycle.proofs.ResettlingLemmas.{with_settled, stops_resettling, settled_stands, kept_sound, settled_sound}
+use Rattle.soar_cycle.proofs.StandsLemmas.{of_each_state}
 use Rattle.soar_cycle.proofs.agent.Agent.resettle.Goals as goal
 
 pub retag-requires-clause-known : goal.retag-requires-clause-known
 retag-requires-clause-known c = subst (AreTriplesKnown c.args.self.now.table) (sym c.in_ok-kept.ensures.kept) (kept_sound c.args.self.now c.requires.sound)
 
 pub returns-in_err-retag-clause-resettled : goal.returns-in_err-retag-clause-resettled
-returns-in_err-retag-clause-resettled c = λ history.
+returns-in_err-retag-clause-resettled c =
     let a = c.args.self.now in
     let new = with_settled a c.retag.new.memory c.settle.new.prefs c.settle.new.inputs in
     let p = err_from_is_err_and c.from_residual-in_err-retag.result c.from_residual-in_err-retag.ensures.1 in
     rw (p.1, p.2)
-    (stops_resettling a new history _ c.in_ok-kept.kept c.retag.new.memory c.in_err-retag.field-0.0 c.requires.sound.one_goal c.in_ok-kept.ensures.kept c.in_err-retag.ensures)
+    (of_each_state (λ (s : Agent). Resettles new s (Err c.in_err-retag.field-0.0)) a
+    (λ history. stops_resettling a new history _ c.in_ok-kept.kept c.retag.new.memory c.in_err-retag.field-0.0 c.requires.sound.one_goal c.in_ok-kept.ensures.kept c.in_err-retag.ensures))
 
 pub returns-clause-resettled : goal.returns-clause-resettled
-returns-clause-resettled c = λ history.
-    settled_stands c.args.self.now history _ c.in_ok-kept.kept c.retag.new.memory c.settle.new.prefs c.settle.new.inputs c.requires.sound.one_goal
+returns-clause-resettled c =
+    let a = c.args.self.now in
+    of_each_state (λ (s : Agent). IsResettled (with_settled a c.retag.new.memory c.settle.new.prefs c.settle.new.inputs) (resettled_now s)) a
+    (λ history. settled_stands a history _ c.in_ok-kept.kept c.retag.new.memory c.settle.new.prefs c.settle.new.inputs c.requires.sound.one_goal
     (record { kept_is = c.in_ok-kept.ensures.kept; memory_is = c.in_ok-retag.ensures.memory_is; rows_are = c.in_ok-kept.ensures.rows; inputs_are = c.in_ok-kept.ensures.inputs })
-    c.in_ok-retag.ensures.within
+    c.in_ok-retag.ensures.within)
 
 pub returns-clause-sound : goal.returns-clause-sound
 returns-clause-sound c =
