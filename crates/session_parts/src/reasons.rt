@@ -26,10 +26,10 @@ pub enum Reason<'a> {
 }
 
 /// The number of a refusal.
-pub fn number_of(reason: Reason<'_>) -> u32
-    ensures { (words : Texts) → result ≡ (refusal_by words reason).number }
+pub fn number_of(reason: &Reason<'_>) -> u32
+    ensures { (words : Texts) → result ≡ (refusal_by words reason.now).number }
 {
-    match reason {
+    match *reason {
         Reason::Read(number, _) => number,
         Reason::Unfinished => 11,
         Reason::UnknownIdentifier(_) => 31,
@@ -43,11 +43,11 @@ pub fn number_of(reason: Reason<'_>) -> u32
 }
 
 /// The text of a reason.
-pub fn text_of(alloc: Global, table: &SymTable, reason: Reason<'_>) -> Result<Text, NoMemory>
-    requires { IsReasonKnown table.now reason }
-    ensures { IfOk result (λ text. text ≡ (refusal_by table.now reason).text) }
+pub fn text_of(alloc: Global, table: &SymTable, reason: &Reason<'_>) -> Result<Text, NoMemory>
+    requires { IsReasonKnown table.now reason.now }
+    ensures { IfOk result (λ text. text ≡ (refusal_by table.now reason.now).text) }
 {
-    match reason {
+    match *reason {
         Reason::Read(number, shown) => text_of_read(alloc, table, number, shown),
         Reason::Unfinished => Ok(Text::from_str(alloc, "unfinished command")?),
         Reason::UnknownIdentifier(text) => with_text(alloc, "unknown identifier ", text),

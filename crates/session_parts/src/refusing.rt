@@ -12,13 +12,13 @@ use soar_sym::{NoMemory, SymTable, Text};
 /// Says that a command was refused.
 pub fn say_refusal(
     table: &SymTable,
-    origin: Origin<'_>,
-    reason: Reason<'_>,
+    origin: &Origin<'_>,
+    reason: &Reason<'_>,
     out: &mut Text,
     mid_line: &mut bool,
 ) -> Result<(), NoMemory>
-    requires { IsReasonKnown table.now reason }
-    ensures { OnOk result ((out.new ≡ out.old ++ line_text mid_line.old (refusal_text (refusal_by table.now reason) origin.source.now origin.line)) × (mid_line.new ≡ false)) }
+    requires { IsReasonKnown table.now reason.now }
+    ensures { OnOk result ((out.new ≡ out.old ++ line_text mid_line.old (refusal_text (refusal_by table.now reason.now) origin.now.source.now origin.now.line)) × (mid_line.new ≡ false)) }
 {
     let number = number_of(reason);
     let source = origin.source;

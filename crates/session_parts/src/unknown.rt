@@ -25,10 +25,10 @@ use std::alloc::Global;
 
 impl Lookup<'_> {
     /// The text of the first identifier of an addition that there is not; the first has to be reached by a goal, too.
-    pub fn first_unknown(self, addition: &Addition) -> Result<Option<Text>, NoMemory>
-        requires { IsAdditionKnown self.table.now addition.now }
+    pub fn first_unknown(&self, addition: &Addition) -> Result<Option<Text>, NoMemory>
+        requires { IsAdditionKnown self.now.table.now addition.now }
         ensures { (s : Session) →
-            IfOk result (λ text. text ≡ first_unknown true (session_with self s) (operand_seen addition.now.id) (operand_seen addition.now.attr) (operand_seen addition.now.value)) }
+            IfOk result (λ text. text ≡ first_unknown true (session_with self.now s) (operand_seen addition.now.id) (operand_seen addition.now.attr) (operand_seen addition.now.value)) }
     {
         if let Some(text) = self.unknown_in(&addition.id)? {
             return Ok(Some(text));
@@ -43,9 +43,9 @@ impl Lookup<'_> {
     }
 
     /// The text of an operand that is an identifier that was never given.
-    pub fn unknown_in(self, operand: &Operand) -> Result<Option<Text>, NoMemory>
-        requires { IsOperandKnown self.table.now operand.now }
-        ensures { (s : Session) → IfOk result (λ text. text ≡ unknown_in (session_with self s) (operand_seen operand.now)) }
+    pub fn unknown_in(&self, operand: &Operand) -> Result<Option<Text>, NoMemory>
+        requires { IsOperandKnown self.now.table.now operand.now }
+        ensures { (s : Session) → IfOk result (λ text. text ≡ unknown_in (session_with self.now s) (operand_seen operand.now)) }
     {
         match operand {
             Operand::Symbol(symbol) => {
@@ -56,9 +56,9 @@ impl Lookup<'_> {
     }
 
     /// The text of an operand that no goal reaches; a label that stands for nothing yet is told with its brackets.
-    fn unreached_in(self, operand: &Operand) -> Result<Option<Text>, NoMemory>
-        requires { IsOperandKnown self.table.now operand.now }
-        ensures { (s : Session) → IfOk result (λ text. text ≡ unreached_in (session_with self s) (operand_seen operand.now)) }
+    fn unreached_in(&self, operand: &Operand) -> Result<Option<Text>, NoMemory>
+        requires { IsOperandKnown self.now.table.now operand.now }
+        ensures { (s : Session) → IfOk result (λ text. text ≡ unreached_in (session_with self.now s) (operand_seen operand.now)) }
     {
         match operand {
             Operand::Symbol(symbol) => self.unreached_symbol(*symbol),
@@ -70,9 +70,9 @@ impl Lookup<'_> {
     }
 
     /// The text of a symbol that no goal reaches.
-    fn unreached_symbol(self, symbol: Sym) -> Result<Option<Text>, NoMemory>
-        requires { IsKnown self.table.now symbol }
-        ensures { (s : Session) → IfOk result (λ text. text ≡ unreached_symbol (session_with self s) symbol) }
+    fn unreached_symbol(&self, symbol: Sym) -> Result<Option<Text>, NoMemory>
+        requires { IsKnown self.now.table.now symbol }
+        ensures { (s : Session) → IfOk result (λ text. text ≡ unreached_symbol (session_with self.now s) symbol) }
     {
         let levels = self.levels()?;
         if levels.level_of(symbol).is_some() {
@@ -83,8 +83,8 @@ impl Lookup<'_> {
     }
 
     /// The levels of what the goals reach.
-    fn levels(self) -> Result<Levels, NoMemory>
-        ensures { IfOk result (λ levels. TellsLevels levels self.goals.now (map triple_of self.memory.now.elements)) }
+    fn levels(&self) -> Result<Levels, NoMemory>
+        ensures { IfOk result (λ levels. TellsLevels levels self.now.goals.now (map triple_of self.now.memory.now.elements)) }
     {
         let elements = self.memory.all(self.alloc)?;
         let triples = triples_of(self.alloc, elements.as_slice())?;
@@ -94,8 +94,8 @@ impl Lookup<'_> {
     }
 
     /// The tag of the element whose value is the identifier that a label of this name would be.
-    pub fn tag_of_next(self, slot: Slot, name: &str) -> Result<Option<u32>, NoMemory>
-        ensures { IfOk result (λ tag. tag ≡ tag_of (plain_triple slot.id slot.attr (next_identifier self.letters.now name.now)) self.memory.now.elements) }
+    pub fn tag_of_next(&self, slot: Slot, name: &str) -> Result<Option<u32>, NoMemory>
+        ensures { IfOk result (λ tag. tag ≡ tag_of (plain_triple slot.id slot.attr (next_identifier self.now.letters.now name.now)) self.now.memory.now.elements) }
     {
         let letter = letter_from(name.as_bytes());
         let number = u64::from(self.letters.last(letter)) + 1;

@@ -24,16 +24,16 @@ impl Session {
     /// Adds an element to the inputs.
     pub fn add(
         &mut self,
-        origin: Origin<'_>,
+        origin: &Origin<'_>,
         addition: Addition,
         out: &mut Text,
     ) -> Result<bool, Stop>
         requires sound { IsSound self.old.agent }
         requires known { IsAdditionKnown self.old.agent.table addition }
-        ensures { Carries self.old self.new origin.source.now origin.line (carried_out run_present (addition_seen addition)) out.old out.new result }
+        ensures { Carries self.old self.new origin.now.source.now origin.now.line (carried_out run_present (addition_seen addition)) out.old out.new result }
     {
         match self.lookup(out.allocator()).first_unknown(&addition)? {
-            Some(text) => self.refuse(origin, Reason::UnknownIdentifier(text.as_str()), out),
+            Some(text) => self.refuse(origin, &Reason::UnknownIdentifier(text.as_str()), out),
             None => self.add_given(origin, addition, out),
         }
     }
@@ -41,7 +41,7 @@ impl Session {
     /// Adds an element whose identifiers there are, the first of them reached. Neither that nor the attribute makes a label.
     fn add_given(
         &mut self,
-        origin: Origin<'_>,
+        origin: &Origin<'_>,
         addition: Addition,
         out: &mut Text,
     ) -> Result<bool, Stop>
@@ -49,7 +49,7 @@ impl Session {
         requires known { IsAdditionKnown self.old.agent.table addition }
         requires given { (history : ListOf RecordedFiring) →
             first_unknown true (session_of self.old history) (operand_seen addition.id) (operand_seen addition.attr) (operand_seen addition.value) ≡ None }
-        ensures { Carries self.old self.new origin.source.now origin.line
+        ensures { Carries self.old self.new origin.now.source.now origin.now.line
             (λ s. added (spelled s (operand_seen addition.id) (operand_seen addition.attr) (operand_seen addition.value))) out.old out.new result }
     {
         let id = self.resolve(addition.id)?;
@@ -60,7 +60,7 @@ impl Session {
     /// Adds an element to an identifier of the top level, unless its attribute is reserved.
     fn add_unless_reserved(
         &mut self,
-        origin: Origin<'_>,
+        origin: &Origin<'_>,
         slot: Slot,
         value: Operand,
         out: &mut Text,
@@ -69,10 +69,10 @@ impl Session {
         requires id { IsKnown self.old.agent.table slot.id }
         requires attr { IsKnown self.old.agent.table slot.attr }
         requires value { IsOperandKnown self.old.agent.table value }
-        ensures { Carries self.old self.new origin.source.now origin.line (adds_to slot.id slot.attr (operand_seen value)) out.old out.new result }
+        ensures { Carries self.old self.new origin.now.source.now origin.now.line (adds_to slot.id slot.attr (operand_seen value)) out.old out.new result }
     {
         if is_operator_slot(self.agent.goals.as_slice(), slot.id, slot.attr) {
-            self.refuse(origin, Reason::ReservedAttribute, out)
+            self.refuse(origin, &Reason::ReservedAttribute, out)
         } else {
             self.add_value(origin, slot, value, out)
         }
@@ -81,7 +81,7 @@ impl Session {
     /// Adds an element with the symbol that an operand stands for.
     fn add_value(
         &mut self,
-        origin: Origin<'_>,
+        origin: &Origin<'_>,
         slot: Slot,
         value: Operand,
         out: &mut Text,
@@ -90,7 +90,7 @@ impl Session {
         requires id { IsKnown self.old.agent.table slot.id }
         requires attr { IsKnown self.old.agent.table slot.attr }
         requires value { IsOperandKnown self.old.agent.table value }
-        ensures { Carries self.old self.new origin.source.now origin.line (adds_by slot.id slot.attr (operand_seen value)) out.old out.new result }
+        ensures { Carries self.old self.new origin.now.source.now origin.now.line (adds_by slot.id slot.attr (operand_seen value)) out.old out.new result }
     {
         match value {
             Operand::Symbol(value) => self.add_triple(origin, slot.with(value), out),
@@ -104,16 +104,16 @@ impl Session {
     /// Adds an element of symbols, unless it is there.
     fn add_triple(
         &mut self,
-        origin: Origin<'_>,
+        origin: &Origin<'_>,
         triple: Triple,
         out: &mut Text,
     ) -> Result<bool, Stop>
         requires sound { IsSound self.old.agent }
         requires known { IsTripleKnown self.old.agent.table triple }
-        ensures { Carries self.old self.new origin.source.now origin.line (adds_triple triple) out.old out.new result }
+        ensures { Carries self.old self.new origin.now.source.now origin.now.line (adds_triple triple) out.old out.new result }
     {
         match self.agent.memory.find(triple) {
-            Some(tag) => self.refuse(origin, Reason::AlreadyThere(tag), out),
+            Some(tag) => self.refuse(origin, &Reason::AlreadyThere(tag), out),
             None => self.put_input(triple, out),
         }
     }
@@ -121,7 +121,7 @@ impl Session {
     /// Adds an element whose value is a label that is used for the first time, unless it is there.
     fn add_labelled(
         &mut self,
-        origin: Origin<'_>,
+        origin: &Origin<'_>,
         slot: Slot,
         name: Text,
         out: &mut Text,
@@ -129,13 +129,13 @@ impl Session {
         requires sound { IsSound self.old.agent }
         requires id { IsKnown self.old.agent.table slot.id }
         requires attr { IsKnown self.old.agent.table slot.attr }
-        ensures { Carries self.old self.new origin.source.now origin.line (adds_labelled slot.id slot.attr name) out.old out.new result }
+        ensures { Carries self.old self.new origin.now.source.now origin.now.line (adds_labelled slot.id slot.attr name) out.old out.new result }
     {
         match self
             .lookup(out.allocator())
             .tag_of_next(slot, name.as_str())?
         {
-            Some(tag) => self.refuse(origin, Reason::AlreadyThere(tag), out),
+            Some(tag) => self.refuse(origin, &Reason::AlreadyThere(tag), out),
             None => self.put_labelled(slot, name, out),
         }
     }

@@ -37,16 +37,16 @@ impl Session {
     /// Says the elements of an identifier. A label that is used for the first time becomes a new one.
     pub fn list_elements(
         &mut self,
-        origin: Origin<'_>,
+        origin: &Origin<'_>,
         id: Operand,
         out: &mut Text,
     ) -> Result<bool, Stop>
         requires sound { IsSound self.old.agent }
         requires known { IsOperandKnown self.old.agent.table id }
-        ensures { Carries self.old self.new origin.source.now origin.line (carried_out run_present (print_id (operand_seen id))) out.old out.new result }
+        ensures { Carries self.old self.new origin.now.source.now origin.now.line (carried_out run_present (print_id (operand_seen id))) out.old out.new result }
     {
         match self.lookup(out.allocator()).unknown_in(&id)? {
-            Some(text) => self.refuse(origin, Reason::UnknownIdentifier(text.as_str()), out),
+            Some(text) => self.refuse(origin, &Reason::UnknownIdentifier(text.as_str()), out),
             None => self.list_given(id, out),
         }
     }
@@ -72,17 +72,17 @@ impl Session {
     }
 
     /// Says the production of a name.
-    pub fn show_rule(&mut self, origin: Origin<'_>, name: Sym, out: &mut Text) -> Result<bool, Stop>
+    pub fn show_rule(&mut self, origin: &Origin<'_>, name: Sym, out: &mut Text) -> Result<bool, Stop>
         requires sound { IsSound self.old.agent }
         requires known { IsKnown self.old.agent.table name }
-        ensures { Carries self.old self.new origin.source.now origin.line (carried_out run_present (print_name name)) out.old out.new result }
+        ensures { Carries self.old self.new origin.now.source.now origin.now.line (carried_out run_present (print_name name)) out.old out.new result }
     {
         match rule_named(self.agent.rules.as_slice(), name) {
             Some(rule) => {
                 say_production(&self.agent.table, &rule.production, out, &mut self.mid_line)?;
                 Ok(false)
             }
-            None => self.refuse(origin, Reason::NoProduction(name), out),
+            None => self.refuse(origin, &Reason::NoProduction(name), out),
         }
     }
 }

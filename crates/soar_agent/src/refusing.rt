@@ -19,13 +19,13 @@ impl Session {
     /// Refuses a command, which leaves the agent as it was.
     pub fn refuse(
         &mut self,
-        origin: Origin<'_>,
-        reason: Reason<'_>,
+        origin: &Origin<'_>,
+        reason: &Reason<'_>,
         out: &mut Text,
     ) -> Result<bool, Stop>
         requires sound { IsSound self.old.agent }
-        requires known { IsReasonKnown self.old.agent.table reason }
-        ensures { Replies self.old self.new (refused_by (refusal_by self.old.agent.table reason) origin.source.now origin.line) out.old out.new result }
+        requires known { IsReasonKnown self.old.agent.table reason.now }
+        ensures { Replies self.old self.new (refused_by (refusal_by self.old.agent.table reason.now) origin.now.source.now origin.now.line) out.old out.new result }
     {
         say_refusal(&self.agent.table, origin, reason, out, &mut self.mid_line)?;
         Ok(true)
@@ -43,8 +43,8 @@ impl Session {
             Commands s (refused_by unfinished_command source.now line s) self.new text.old text.new result }
     {
         let mut said = Text::new(text.allocator());
-        let origin = Origin { source, line };
-        match self.refuse(origin, Reason::Unfinished, &mut said) {
+        let origin = &Origin { source, line };
+        match self.refuse(origin, &Reason::Unfinished, &mut said) {
             Ok(_) => {
                 text.push_str(said.as_str())?;
                 Ok(Outcome::Refused)

@@ -16,30 +16,30 @@ use soar_wm::Element;
 
 impl Session {
     /// Takes the element of a tag from the inputs.
-    pub fn remove(&mut self, origin: Origin<'_>, tag: u64, out: &mut Text) -> Result<bool, Stop>
+    pub fn remove(&mut self, origin: &Origin<'_>, tag: u64, out: &mut Text) -> Result<bool, Stop>
         requires { IsSound self.old.agent }
-        ensures { Carries self.old self.new origin.source.now origin.line (carried_out run_present (remove_wme tag)) out.old out.new result }
+        ensures { Carries self.old self.new origin.now.source.now origin.now.line (carried_out run_present (remove_wme tag)) out.old out.new result }
     {
         match element_of(&self.agent.memory, tag) {
             Some(element) => self.remove_element(origin, element, out),
-            None => self.refuse(origin, Reason::NoElement(tag), out),
+            None => self.refuse(origin, &Reason::NoElement(tag), out),
         }
     }
 
     fn remove_element(
         &mut self,
-        origin: Origin<'_>,
+        origin: &Origin<'_>,
         element: Element,
         out: &mut Text,
     ) -> Result<bool, Stop>
         requires { IsSound self.old.agent }
-        ensures { Carries self.old self.new origin.source.now origin.line (λ s. removed s element) out.old out.new result }
+        ensures { Carries self.old self.new origin.now.source.now origin.now.line (λ s. removed s element) out.old out.new result }
     {
         let triple = triple_of(element);
         if has_triple(self.agent.inputs.as_slice(), triple) {
             self.drop_input(triple, out)
         } else {
-            self.refuse(origin, Reason::NotAnInput(element.tag), out)
+            self.refuse(origin, &Reason::NotAnInput(element.tag), out)
         }
     }
 

@@ -23,15 +23,15 @@ impl Session {
     /// Asks for so many cycles, unless the agent is halted.
     pub fn ask_to_run(
         &mut self,
-        origin: Origin<'_>,
+        origin: &Origin<'_>,
         count: u32,
         out: &mut Text,
     ) -> Result<Outcome, Stop>
         requires { IsSound self.old.agent }
-        ensures { CarriesOut self.old self.new origin.source.now origin.line (carried_out run_present (run_cycles count)) out.old out.new result }
+        ensures { CarriesOut self.old self.new origin.now.source.now origin.now.line (carried_out run_present (run_cycles count)) out.old out.new result }
     {
         if self.agent.halted {
-            return outcome_of(self.refuse(origin, Reason::Halted, out));
+            return outcome_of(self.refuse(origin, &Reason::Halted, out));
         }
         Ok(Outcome::Run(count))
     }

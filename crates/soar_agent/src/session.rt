@@ -59,7 +59,7 @@ impl Session {
         ensures { (history : ListOf RecordedFiring) → let s = session_of self.old history in
             Outcomes self.old.mid_line (obeyed present_stage source.now c.now.line c.now.text s) self.new out.old out.new result }
     {
-        let origin = Origin {
+        let origin = &Origin {
             source,
             line: c.line,
         };
@@ -70,7 +70,7 @@ impl Session {
             }
             Err(CmdFault::Refused { number, shown }) => {
                 let _within = self.agent.table.word_count();
-                outcome_of(self.refuse(origin, Reason::Read(number, shown), out))
+                outcome_of(self.refuse(origin, &Reason::Read(number, shown), out))
             }
             Err(CmdFault::WordsSpent) => Err(Stop::Limit(Which::Words)),
             Err(CmdFault::NoMemory) => Err(Stop::NoMemory),
@@ -80,13 +80,13 @@ impl Session {
     /// Carries an order out.
     fn carry_out(
         &mut self,
-        origin: Origin<'_>,
+        origin: &Origin<'_>,
         order: Order,
         out: &mut Text,
     ) -> Result<Outcome, Stop>
         requires sound { IsSound self.old.agent }
         requires known { IsOrderKnown self.old.agent.table order }
-        ensures { CarriesOut self.old self.new origin.source.now origin.line (carried_out run_present (order_seen order)) out.old out.new result }
+        ensures { CarriesOut self.old self.new origin.now.source.now origin.now.line (carried_out run_present (order_seen order)) out.old out.new result }
     {
         match order {
             Order::Load(production) => outcome_of(self.load(production, out)),

@@ -12,7 +12,7 @@ returns-in-Some c = λ history.
     let s : Session = session_of c.args.self.now history in
     let first : Session → Option (List ℕ) = λ t. first_unknown true t (operand_seen c.args.addition.id) (operand_seen c.args.addition.attr) (operand_seen c.args.addition.value) in
     let unknown : Some c.as_str.result.now ≡ first s = ap Some c.as_str.ensures ∙ (sym c.in-Some.is ∙ (c.in_ok-text.ensures s ∙ ap first (c.lookup.ensures.session history))) in
-    subst (λ (o : Option (List ℕ)). Obeys c.args.self.now.mid_line (replied_by c.args.origin.source.now c.args.origin.line s
+    subst (λ (o : Option (List ℕ)). Obeys c.args.self.now.mid_line (replied_by c.args.origin.now.source.now c.args.origin.now.line s
     (unless_unknown o (added (spelled s (operand_seen c.args.addition.id) (operand_seen c.args.addition.attr) (operand_seen c.args.addition.value)))))
     c.refuse.new.self c.args.out.now c.refuse.new.out c.refuse.result)
     unknown (c.refuse.ensures history)
@@ -27,7 +27,7 @@ returns-in-None c = λ history.
     let s : Session = session_of c.args.self.now history in
     let first : Session → Option (List ℕ) = λ t. first_unknown true t (operand_seen c.args.addition.id) (operand_seen c.args.addition.attr) (operand_seen c.args.addition.value) in
     let given : None ≡ first s = sym c.in-None.is ∙ (c.in_ok-text.ensures s ∙ ap first (c.lookup.ensures.session history)) in
-    subst (λ (o : Option (List ℕ)). Obeys c.args.self.now.mid_line (replied_by c.args.origin.source.now c.args.origin.line s
+    subst (λ (o : Option (List ℕ)). Obeys c.args.self.now.mid_line (replied_by c.args.origin.now.source.now c.args.origin.now.line s
     (unless_unknown o (added (spelled s (operand_seen c.args.addition.id) (operand_seen c.args.addition.attr) (operand_seen c.args.addition.value)))))
     c.add_given.new.self c.args.out.now c.add_given.new.out c.add_given.result)
     given (c.add_given.ensures history)

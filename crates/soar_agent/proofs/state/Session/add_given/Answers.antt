@@ -21,13 +21,13 @@ returns c = λ history.
     let id_is : c.in_ok-id.id ≡ r.symbol = cc (first.0, c.in_ok-id.was) in
     let attr_is : c.in_ok-attr.attr ≡ a.0 = cc (second.0, c.in_ok-attr.was) in
     let same : c.resolve-2.new.self ≡ c.args.self.now = second.1 ∙ first.1 in
-    given_adds c.args.self.now c.resolve-2.new.self c.add_unless_reserved.new.self c.args.origin.source.now c.args.origin.line (operand_seen c.args.addition.id) (operand_seen c.args.addition.attr) (operand_seen c.args.addition.value)
+    given_adds c.args.self.now c.resolve-2.new.self c.add_unless_reserved.new.self c.args.origin.now.source.now c.args.origin.now.line (operand_seen c.args.addition.id) (operand_seen c.args.addition.attr) (operand_seen c.args.addition.value)
     a.0 history c.args.out.now c.add_unless_reserved.new.out c.add_unless_reserved.result c.requires.sound r
     (subst (λ (s : Session). symbol_in (map label_seen s.labels) (operand_seen c.args.addition.attr) ≡ Some a.0) first.1 a.1) same
-    (subst (λ (s : Sym). Obeys c.resolve-2.new.self.mid_line (replied_by c.args.origin.source.now c.args.origin.line (session_of c.resolve-2.new.self history)
+    (subst (λ (s : Sym). Obeys c.resolve-2.new.self.mid_line (replied_by c.args.origin.now.source.now c.args.origin.now.line (session_of c.resolve-2.new.self history)
     (adds_to s a.0 (operand_seen c.args.addition.value) (session_of c.resolve-2.new.self history))) c.add_unless_reserved.new.self c.args.out.now c.add_unless_reserved.new.out c.add_unless_reserved.result)
     id_is
-    (subst (λ (s : Sym). Obeys c.resolve-2.new.self.mid_line (replied_by c.args.origin.source.now c.args.origin.line (session_of c.resolve-2.new.self history)
+    (subst (λ (s : Sym). Obeys c.resolve-2.new.self.mid_line (replied_by c.args.origin.now.source.now c.args.origin.now.line (session_of c.resolve-2.new.self history)
     (adds_to c.in_ok-id.id s (operand_seen c.args.addition.value) (session_of c.resolve-2.new.self history))) c.add_unless_reserved.new.self c.args.out.now c.add_unless_reserved.new.out c.add_unless_reserved.result)
     attr_is (c.add_unless_reserved.ensures history)))
 

@@ -20,7 +20,7 @@ returns-in-Some c = λ history.
     ∙ (ap (λ letters. next letters c.args.name c.lookup.result.memory.now.elements) (sym c.lookup.ensures.letters)
     ∙ (ap (λ name. next c.lookup.result.letters.now name c.lookup.result.memory.now.elements) (sym c.as_str.ensures)
     ∙ (sym c.in_ok-tag.ensures ∙ c.in-Some.is))) in
-    there_refused c.args.self.now c.refuse.new.self c.args.origin.source.now c.args.origin.line t s (tag_of t.triple c.args.self.now.agent.memory.elements) c.in-Some.tag
+    there_refused c.args.self.now c.refuse.new.self c.args.origin.now.source.now c.args.origin.now.line t s (tag_of t.triple c.args.self.now.agent.memory.elements) c.in-Some.tag
     c.args.out.now c.refuse.new.out c.refuse.result there (c.refuse.ensures history)
 
 pub returns-in-None : goal.returns-in-None
@@ -33,5 +33,5 @@ returns-in-None c = λ history.
     ∙ (ap (λ letters. next letters c.args.name c.lookup.result.memory.now.elements) (sym c.lookup.ensures.letters)
     ∙ (ap (λ name. next c.lookup.result.letters.now name c.lookup.result.memory.now.elements) (sym c.as_str.ensures)
     ∙ (sym c.in_ok-tag.ensures ∙ c.in-None.is))) in
-    missing_put c.args.self.now c.put_labelled.new.self c.args.origin.source.now c.args.origin.line t s (tag_of t.triple c.args.self.now.agent.memory.elements)
+    missing_put c.args.self.now c.put_labelled.new.self c.args.origin.now.source.now c.args.origin.now.line t s (tag_of t.triple c.args.self.now.agent.memory.elements)
     c.args.out.now c.args.out.now c.put_labelled.result missing (c.put_labelled.ensures history)

@@ -15,7 +15,7 @@ pub returns-then-is_operator_slot : goal.returns-then-is_operator_slot
 returns-then-is_operator_slot c = λ history.
     let s : Session = session_of c.args.self.now history in
     let reserved : is_operator_slot c.args.self.now.agent.goals c.args.slot.id c.args.slot.attr ≡ true = cc (c.is_operator_slot.ensures, c.as_slice.ensures, c.if-is_operator_slot.true) in
-    subst (λ (b : Bool). Obeys c.args.self.now.mid_line (replied_by c.args.origin.source.now c.args.origin.line s (if b then refuses reserved_attribute else adds_by c.args.slot.id c.args.slot.attr (operand_seen c.args.value) s))
+    subst (λ (b : Bool). Obeys c.args.self.now.mid_line (replied_by c.args.origin.now.source.now c.args.origin.now.line s (if b then refuses reserved_attribute else adds_by c.args.slot.id c.args.slot.attr (operand_seen c.args.value) s))
     c.refuse.new.self c.args.out.now c.refuse.new.out c.refuse.result)
     (sym reserved) (c.refuse.ensures history)
 
@@ -23,6 +23,6 @@ pub returns-else-is_operator_slot : goal.returns-else-is_operator_slot
 returns-else-is_operator_slot c = λ history.
     let s : Session = session_of c.args.self.now history in
     let reserved : is_operator_slot c.args.self.now.agent.goals c.args.slot.id c.args.slot.attr ≡ false = cc (c.is_operator_slot.ensures, c.as_slice.ensures, c.if-is_operator_slot.false) in
-    subst (λ (b : Bool). Obeys c.args.self.now.mid_line (replied_by c.args.origin.source.now c.args.origin.line s (if b then refuses reserved_attribute else adds_by c.args.slot.id c.args.slot.attr (operand_seen c.args.value) s))
+    subst (λ (b : Bool). Obeys c.args.self.now.mid_line (replied_by c.args.origin.now.source.now c.args.origin.now.line s (if b then refuses reserved_attribute else adds_by c.args.slot.id c.args.slot.attr (operand_seen c.args.value) s))
     c.add_value.new.self c.args.out.now c.add_value.new.out c.add_value.result)
     (sym reserved) (c.add_value.ensures history)

@@ -14,14 +14,14 @@ use Rattle.soar_agent.proofs.state.Session.ask_to_run.Goals as goal
 pub returns-then-self : goal.returns-then-self
 returns-then-self c = λ history.
     let s : Session = session_of c.args.self.now history in
-    subst (λ (b : Bool). Outcomes c.args.self.now.mid_line (replied_by c.args.origin.source.now c.args.origin.line s (if b then refuses halted else does (followed s (run_present c.args.count s.agent))))
+    subst (λ (b : Bool). Outcomes c.args.self.now.mid_line (replied_by c.args.origin.now.source.now c.args.origin.now.line s (if b then refuses halted else does (followed s (run_present c.args.count s.agent))))
     c.refuse.new.self c.args.out.now c.refuse.new.out c.outcome_of.result)
-    (sym c.if-self.true) (c.outcome_of.ensures c.args.self.now.mid_line (refused_by halted c.args.origin.source.now c.args.origin.line s) c.refuse.new.self c.args.out.now c.refuse.new.out (c.refuse.ensures history))
+    (sym c.if-self.true) (c.outcome_of.ensures c.args.self.now.mid_line (refused_by halted c.args.origin.now.source.now c.args.origin.now.line s) c.refuse.new.self c.args.out.now c.refuse.new.out (c.refuse.ensures history))
 
 pub returns : goal.returns
 returns c = λ history.
     let s : Session = session_of c.args.self.now history in
-    subst (λ (b : Bool). Outcomes c.args.self.now.mid_line (replied_by c.args.origin.source.now c.args.origin.line s (if b then refuses halted else does (followed s (run_present c.args.count s.agent))))
+    subst (λ (b : Bool). Outcomes c.args.self.now.mid_line (replied_by c.args.origin.now.source.now c.args.origin.now.line s (if b then refuses halted else does (followed s (run_present c.args.count s.agent))))
     c.args.self.now c.args.out.now c.args.out.now (Ok (Run c.args.count)))
     (sym c.if-self.false)
     (record { history = history; comes = record { session = refl; refused = refl; limit = refl; front = λ mid. refl }; text = refl; mid_line = refl; kept = c.requires })

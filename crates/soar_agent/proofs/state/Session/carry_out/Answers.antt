@@ -12,34 +12,34 @@ use Rattle.soar_agent.proofs.state.Session.carry_out.Goals as goal
 
 pub returns-in-Load : goal.returns-in-Load
 returns-in-Load c =
-    subst (λ (o : Order). CarriesOut c.args.self.now c.load.new.self c.args.origin.source.now c.args.origin.line (carried_out run_present (order_seen o)) c.args.out.now c.args.out.now c.outcome_of.result) (sym c.in-Load.is)
-    (carries_as c.args.self.now c.load.new.self c.args.origin.source.now c.args.origin.line (λ s. does (loaded (production_seen c.in-Load.production) s)) c.args.out.now c.args.out.now c.load.result c.outcome_of.result c.outcome_of.ensures c.load.ensures)
+    subst (λ (o : Order). CarriesOut c.args.self.now c.load.new.self c.args.origin.now.source.now c.args.origin.now.line (carried_out run_present (order_seen o)) c.args.out.now c.args.out.now c.outcome_of.result) (sym c.in-Load.is)
+    (carries_as c.args.self.now c.load.new.self c.args.origin.now.source.now c.args.origin.now.line (λ s. does (loaded (production_seen c.in-Load.production) s)) c.args.out.now c.args.out.now c.load.result c.outcome_of.result c.outcome_of.ensures c.load.ensures)
 
 pub returns-in-Add : goal.returns-in-Add
 returns-in-Add c =
-    subst (λ (o : Order). CarriesOut c.args.self.now c.add.new.self c.args.origin.source.now c.args.origin.line (carried_out run_present (order_seen o)) c.args.out.now c.add.new.out c.outcome_of-in-Add.result) (sym c.in-Add.is)
-    (carries_as c.args.self.now c.add.new.self c.args.origin.source.now c.args.origin.line (carried_out run_present (addition_seen c.in-Add.addition)) c.args.out.now c.add.new.out c.add.result c.outcome_of-in-Add.result c.outcome_of-in-Add.ensures c.add.ensures)
+    subst (λ (o : Order). CarriesOut c.args.self.now c.add.new.self c.args.origin.now.source.now c.args.origin.now.line (carried_out run_present (order_seen o)) c.args.out.now c.add.new.out c.outcome_of-in-Add.result) (sym c.in-Add.is)
+    (carries_as c.args.self.now c.add.new.self c.args.origin.now.source.now c.args.origin.now.line (carried_out run_present (addition_seen c.in-Add.addition)) c.args.out.now c.add.new.out c.add.result c.outcome_of-in-Add.result c.outcome_of-in-Add.ensures c.add.ensures)
 
 pub returns-in-Remove : goal.returns-in-Remove
 returns-in-Remove c =
-    subst (λ (o : Order). CarriesOut c.args.self.now c.remove.new.self c.args.origin.source.now c.args.origin.line (carried_out run_present (order_seen o)) c.args.out.now c.remove.new.out c.outcome_of-in-Remove.result) (sym c.in-Remove.is)
-    (carries_as c.args.self.now c.remove.new.self c.args.origin.source.now c.args.origin.line (carried_out run_present (remove_wme c.in-Remove.tag)) c.args.out.now c.remove.new.out c.remove.result c.outcome_of-in-Remove.result c.outcome_of-in-Remove.ensures c.remove.ensures)
+    subst (λ (o : Order). CarriesOut c.args.self.now c.remove.new.self c.args.origin.now.source.now c.args.origin.now.line (carried_out run_present (order_seen o)) c.args.out.now c.remove.new.out c.outcome_of-in-Remove.result) (sym c.in-Remove.is)
+    (carries_as c.args.self.now c.remove.new.self c.args.origin.now.source.now c.args.origin.now.line (carried_out run_present (remove_wme c.in-Remove.tag)) c.args.out.now c.remove.new.out c.remove.result c.outcome_of-in-Remove.result c.outcome_of-in-Remove.ensures c.remove.ensures)
 
 pub returns-in-Matches : goal.returns-in-Matches
 returns-in-Matches c =
-    subst (λ (o : Order). CarriesOut c.args.self.now c.list_matches.new.self c.args.origin.source.now c.args.origin.line (carried_out run_present (order_seen o)) c.args.out.now c.list_matches.new.out c.outcome_of-in-Matches.result) (sym c.in-Matches.is)
-    (carries_as c.args.self.now c.list_matches.new.self c.args.origin.source.now c.args.origin.line (carried_out run_present matches) c.args.out.now c.list_matches.new.out c.list_matches.result c.outcome_of-in-Matches.result c.outcome_of-in-Matches.ensures c.list_matches.ensures)
+    subst (λ (o : Order). CarriesOut c.args.self.now c.list_matches.new.self c.args.origin.now.source.now c.args.origin.now.line (carried_out run_present (order_seen o)) c.args.out.now c.list_matches.new.out c.outcome_of-in-Matches.result) (sym c.in-Matches.is)
+    (carries_as c.args.self.now c.list_matches.new.self c.args.origin.now.source.now c.args.origin.now.line (carried_out run_present matches) c.args.out.now c.list_matches.new.out c.list_matches.result c.outcome_of-in-Matches.result c.outcome_of-in-Matches.ensures c.list_matches.ensures)
 
 pub returns-in-Print : goal.returns-in-Print
 returns-in-Print c =
-    subst (λ (o : Order). CarriesOut c.args.self.now c.list_elements.new.self c.args.origin.source.now c.args.origin.line (carried_out run_present (order_seen o)) c.args.out.now c.list_elements.new.out c.outcome_of-in-Print.result) (sym c.in-Print.is)
-    (carries_as c.args.self.now c.list_elements.new.self c.args.origin.source.now c.args.origin.line (carried_out run_present (print_id (operand_seen c.in-Print.id))) c.args.out.now c.list_elements.new.out c.list_elements.result c.outcome_of-in-Print.result c.outcome_of-in-Print.ensures c.list_elements.ensures)
+    subst (λ (o : Order). CarriesOut c.args.self.now c.list_elements.new.self c.args.origin.now.source.now c.args.origin.now.line (carried_out run_present (order_seen o)) c.args.out.now c.list_elements.new.out c.outcome_of-in-Print.result) (sym c.in-Print.is)
+    (carries_as c.args.self.now c.list_elements.new.self c.args.origin.now.source.now c.args.origin.now.line (carried_out run_present (print_id (operand_seen c.in-Print.id))) c.args.out.now c.list_elements.new.out c.list_elements.result c.outcome_of-in-Print.result c.outcome_of-in-Print.ensures c.list_elements.ensures)
 
 pub returns-in-Show : goal.returns-in-Show
 returns-in-Show c =
-    subst (λ (o : Order). CarriesOut c.args.self.now c.show_rule.new.self c.args.origin.source.now c.args.origin.line (carried_out run_present (order_seen o)) c.args.out.now c.show_rule.new.out c.outcome_of-in-Show.result) (sym c.in-Show.is)
-    (carries_as c.args.self.now c.show_rule.new.self c.args.origin.source.now c.args.origin.line (carried_out run_present (print_name c.in-Show.name)) c.args.out.now c.show_rule.new.out c.show_rule.result c.outcome_of-in-Show.result c.outcome_of-in-Show.ensures c.show_rule.ensures)
+    subst (λ (o : Order). CarriesOut c.args.self.now c.show_rule.new.self c.args.origin.now.source.now c.args.origin.now.line (carried_out run_present (order_seen o)) c.args.out.now c.show_rule.new.out c.outcome_of-in-Show.result) (sym c.in-Show.is)
+    (carries_as c.args.self.now c.show_rule.new.self c.args.origin.now.source.now c.args.origin.now.line (carried_out run_present (print_name c.in-Show.name)) c.args.out.now c.show_rule.new.out c.show_rule.result c.outcome_of-in-Show.result c.outcome_of-in-Show.ensures c.show_rule.ensures)
 
 pub returns-in-Run : goal.returns-in-Run
 returns-in-Run c =
-    subst (λ (o : Order). CarriesOut c.args.self.now c.ask_to_run.new.self c.args.origin.source.now c.args.origin.line (carried_out run_present (order_seen o)) c.args.out.now c.ask_to_run.new.out c.ask_to_run.result) (sym c.in-Run.is) c.ask_to_run.ensures
+    subst (λ (o : Order). CarriesOut c.args.self.now c.ask_to_run.new.self c.args.origin.now.source.now c.args.origin.now.line (carried_out run_present (order_seen o)) c.args.out.now c.ask_to_run.new.out c.ask_to_run.result) (sym c.in-Run.is) c.ask_to_run.ensures

@@ -13,7 +13,7 @@ returns-in-Some c = λ history.
     let s : Session = session_of c.args.self.now history in
     let unknown : Some c.as_str.result.now ≡ unknown_in s (operand_seen c.args.id) =
     ap Some c.as_str.ensures ∙ (sym c.in-Some.is ∙ (c.in_ok-text.ensures s ∙ ap (λ (t : Session). unknown_in t (operand_seen c.args.id)) (c.lookup.ensures.session history))) in
-    subst (λ (o : Option (List ℕ)). Obeys c.args.self.now.mid_line (replied_by c.args.origin.source.now c.args.origin.line s (unless_unknown o (does (lists_elements s (operand_seen c.args.id)))))
+    subst (λ (o : Option (List ℕ)). Obeys c.args.self.now.mid_line (replied_by c.args.origin.now.source.now c.args.origin.now.line s (unless_unknown o (does (lists_elements s (operand_seen c.args.id)))))
     c.refuse.new.self c.args.out.now c.refuse.new.out c.refuse.result)
     unknown (c.refuse.ensures history)
 
@@ -22,6 +22,6 @@ returns-in-None c = λ history.
     let s : Session = session_of c.args.self.now history in
     let given : None ≡ unknown_in s (operand_seen c.args.id) =
     sym c.in-None.is ∙ (c.in_ok-text.ensures s ∙ ap (λ (t : Session). unknown_in t (operand_seen c.args.id)) (c.lookup.ensures.session history)) in
-    subst (λ (o : Option (List ℕ)). Obeys c.args.self.now.mid_line (replied_by c.args.origin.source.now c.args.origin.line s (unless_unknown o (does (lists_elements s (operand_seen c.args.id)))))
+    subst (λ (o : Option (List ℕ)). Obeys c.args.self.now.mid_line (replied_by c.args.origin.now.source.now c.args.origin.now.line s (unless_unknown o (does (lists_elements s (operand_seen c.args.id)))))
     c.list_given.new.self c.args.out.now c.list_given.new.out c.list_given.result)
     given (c.list_given.ensures history)

@@ -11,13 +11,13 @@ use Rattle.soar_agent.proofs.state.Session.remove.Goals as goal
 pub returns-in-Some : goal.returns-in-Some
 returns-in-Some c = λ history.
     let s : Session = session_of c.args.self.now history in
-    subst (λ (o : Option Element). Obeys c.args.self.now.mid_line (replied_by c.args.origin.source.now c.args.origin.line s (elim o as (λ _. Carried) [ None ↦ refuses (no_element c.args.tag) | Some e ↦ removed s e ]))
+    subst (λ (o : Option Element). Obeys c.args.self.now.mid_line (replied_by c.args.origin.now.source.now c.args.origin.now.line s (elim o as (λ _. Carried) [ None ↦ refuses (no_element c.args.tag) | Some e ↦ removed s e ]))
     c.remove_element.new.self c.args.out.now c.remove_element.new.out c.remove_element.result)
     c.in-Some.ensures (c.remove_element.ensures history)
 
 pub returns-in-None : goal.returns-in-None
 returns-in-None c = λ history.
     let s : Session = session_of c.args.self.now history in
-    subst (λ (o : Option Element). Obeys c.args.self.now.mid_line (replied_by c.args.origin.source.now c.args.origin.line s (elim o as (λ _. Carried) [ None ↦ refuses (no_element c.args.tag) | Some e ↦ removed s e ]))
+    subst (λ (o : Option Element). Obeys c.args.self.now.mid_line (replied_by c.args.origin.now.source.now c.args.origin.now.line s (elim o as (λ _. Carried) [ None ↦ refuses (no_element c.args.tag) | Some e ↦ removed s e ]))
     c.refuse.new.self c.args.out.now c.refuse.new.out c.refuse.result)
     c.in-None.ensures (c.refuse.ensures history)

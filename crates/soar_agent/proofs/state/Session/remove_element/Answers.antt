@@ -17,7 +17,7 @@ returns-then-has_triple c = λ history.
     let s : Session = session_of c.args.self.now history in
     let among : has_triple_among c.args.self.now.agent.inputs (triple_of c.args.element) ≡ true = cc (c.has_triple.ensures, c.as_slice.ensures, c.triple_of-triple.ensures, c.if-has_triple.true) in
     subst (λ (b : Bool). Obeys c.args.self.now.mid_line
-    (replied_by c.args.origin.source.now c.args.origin.line s (if b then does (with_inputs (filter (λ t. not (triple_eq t (triple_of c.args.element))) s.agent.holding.inputs) s) else refuses (not_an_input c.args.element.tag)))
+    (replied_by c.args.origin.now.source.now c.args.origin.now.line s (if b then does (with_inputs (filter (λ t. not (triple_eq t (triple_of c.args.element))) s.agent.holding.inputs) s) else refuses (not_an_input c.args.element.tag)))
     c.drop_input.new.self c.args.out.now c.args.out.now c.drop_input.result)
     (sym among)
     (subst (λ (u : Triple). Replies c.args.self.now c.drop_input.new.self (with_inputs (filter (λ t. not (triple_eq t u)) c.args.self.now.agent.inputs)) c.args.out.now c.args.out.now c.drop_input.result)
@@ -28,6 +28,6 @@ returns-else-has_triple c = λ history.
     let s : Session = session_of c.args.self.now history in
     let among : has_triple_among c.args.self.now.agent.inputs (triple_of c.args.element) ≡ false = cc (c.has_triple.ensures, c.as_slice.ensures, c.triple_of-triple.ensures, c.if-has_triple.false) in
     subst (λ (b : Bool). Obeys c.args.self.now.mid_line
-    (replied_by c.args.origin.source.now c.args.origin.line s (if b then does (with_inputs (filter (λ t. not (triple_eq t (triple_of c.args.element))) s.agent.holding.inputs) s) else refuses (not_an_input c.args.element.tag)))
+    (replied_by c.args.origin.now.source.now c.args.origin.now.line s (if b then does (with_inputs (filter (λ t. not (triple_eq t (triple_of c.args.element))) s.agent.holding.inputs) s) else refuses (not_an_input c.args.element.tag)))
     c.refuse.new.self c.args.out.now c.refuse.new.out c.refuse.result)
     (sym among) (c.refuse.ensures history)

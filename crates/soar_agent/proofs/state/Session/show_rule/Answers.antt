@@ -27,7 +27,7 @@ returns-in_ok-say_production-in-Some c = λ history.
     let found : Some rule ≡ rule_named (map rule_seen c.args.self.now.agent.rules) c.args.name =
     c.in-Some.ensures ∙ ap (λ (rs : List Rule). rule_named (map rule_seen rs) c.args.name) c.as_slice.ensures in
     subst (λ (o : Option RuleOf). Obeys c.args.self.now.mid_line
-    (replied_by c.args.origin.source.now c.args.origin.line s (elim o as (λ _. Carried) [ None ↦ refuses (no_production s.agent.names.words c.args.name) | Some r ↦ does (says s (production_lines s.agent r)) ]))
+    (replied_by c.args.origin.now.source.now c.args.origin.now.line s (elim o as (λ _. Carried) [ None ↦ refuses (no_production s.agent.names.words c.args.name) | Some r ↦ does (says s (production_lines s.agent r)) ]))
     (record c.args.self.now { mid_line = c.say_production.new.mid_line }) c.args.out.now c.say_production.new.out (Ok false))
     found
     (says_lines c.args.self.now (production_lines s.agent rule) c.say_production.new.mid_line history c.args.out.now c.say_production.new.out c.requires.sound c.in_ok-say_production-in-Some.ensures)
@@ -38,6 +38,6 @@ returns-in-None c = λ history.
     let missing : None ≡ rule_named (map rule_seen c.args.self.now.agent.rules) c.args.name =
     c.in-None.ensures ∙ ap (λ (rs : List Rule). rule_named (map rule_seen rs) c.args.name) c.as_slice.ensures in
     subst (λ (o : Option RuleOf). Obeys c.args.self.now.mid_line
-    (replied_by c.args.origin.source.now c.args.origin.line s (elim o as (λ _. Carried) [ None ↦ refuses (no_production s.agent.names.words c.args.name) | Some r ↦ does (says s (production_lines s.agent r)) ]))
+    (replied_by c.args.origin.now.source.now c.args.origin.now.line s (elim o as (λ _. Carried) [ None ↦ refuses (no_production s.agent.names.words c.args.name) | Some r ↦ does (says s (production_lines s.agent r)) ]))
     c.refuse.new.self c.args.out.now c.refuse.new.out c.refuse.result)
     missing (c.refuse.ensures history)
