@@ -5,6 +5,7 @@ pub mod CycleLemmas
 pub mod GivenLemmas
 pub mod LabelLemmas
 pub mod QuietLemmas
+pub mod ReachLemmas
 pub mod ReplyLemmas
 pub mod SaidLemmas
 pub mod SessionLemmas

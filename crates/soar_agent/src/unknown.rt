@@ -16,6 +16,7 @@ use crate::elements::triples_of;
 use crate::labels::label_in;
 use crate::state::Session;
 use defs_run::{Addition, Operand};
+use defs_soar::is_goal;
 use soar_levels::Levels;
 use soar_show::show_symbol;
 use soar_sym::{Letters, NoMemory, Sym, SymTable, Text};
@@ -79,6 +80,9 @@ impl Session {
         requires { IsKnown self.now.agent.table symbol }
         ensures { (history : ListOf RecordedFiring) → IfOk result (λ text. text ≡ unreached_symbol (session_of self.now history) symbol) }
     {
+        if is_goal(self.agent.goals.as_slice(), symbol) {
+            return Ok(None);
+        }
         let levels = self.levels(alloc)?;
         if levels.level_of(symbol).is_some() {
             Ok(None)
