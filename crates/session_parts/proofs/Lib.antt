@@ -1,3 +1,4 @@
+pub mod ReachLemmas
 pub mod RuleLemmas
 pub mod SaidLemmas
 pub mod TagLemmas

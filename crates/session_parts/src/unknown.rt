@@ -19,6 +19,7 @@ use crate::lookup::Lookup;
 use crate::texts::symbol_text;
 use crate::triples::Slot;
 use defs_run::{Addition, Operand};
+use defs_soar::is_goal;
 use soar_levels::Levels;
 use soar_sym::{Letters, NoMemory, Sym, SymTable, Text};
 use std::alloc::Global;
@@ -74,6 +75,9 @@ impl Lookup<'_> {
         requires { IsKnown self.now.table.now symbol }
         ensures { (s : Session) → IfOk result (λ text. text ≡ unreached_symbol (session_with self.now s) symbol) }
     {
+        if is_goal(self.goals.as_slice(), symbol) {
+            return Ok(None);
+        }
         let levels = self.levels()?;
         if levels.level_of(symbol).is_some() {
             Ok(None)

@@ -1,7 +1,7 @@
 // The place of a triple among the elements.
 ghost use Rattle.std.specs.Prelude.{◌≡◌, None, Some, IsTrue, IfNone, IfSome};
-ghost use Rattle.soar_wm.specs.WorkingMemory.{IsLawful, IsRising, has_triple, tag_of};
-ghost use Rattle.soar_settle.specs.Marks.{HasTagAt, HasTripleAt};
+ghost use Rattle.soar_wm.specs.WorkingMemory.{IsRising, has_triple, tag_of};
+ghost use Rattle.soar_settle.specs.Marks.{HasTripleAt};
 
 use soar_sym::{Triple, is_symbol};
 use soar_wm::{Element, Memory};

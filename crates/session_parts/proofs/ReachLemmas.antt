@@ -1,0 +1,25 @@
+-- A goal is reached.
+use Rattle.std.proofs.Common.{◌≡◌, ℕ, suc, Bool, true, false, cond, ◌||◌, List, [], ◌∷◌, Option, Some, None, is_some, refl, ap}
+use Rattle.soar_sym.specs.Equality.{symbol_eq}
+use Rattle.soar_sym.specs.declared.symbol.Sym.{Sym}
+use Rattle.soar_sym.specs.declared.symbol.Triple.{Triple}
+use Rattle.defs_soar.specs.declared.goal.Goal.{Goal}
+use Rattle.defs_soar.specs.Goals.{goal_ids, is_goal}
+use Rattle.defs_soar.specs.Levels.{first_place, level, or_reached}
+use Rattle.defs_soar.specs.Sorted.{has_symbol}
+
+has_place : (s : Sym) (n : ℕ) (ids : List Sym) → has_symbol ids s ≡ true → is_some (first_place (symbol_eq s) n ids) ≡ true
+has_place s n [] has = cc
+has_place s n (id ∷ ids) has = by (symbol_eq s id) has (has_place s (suc n) ids)
+  where
+    by : (b : Bool) → (b || has_symbol ids s) ≡ true → (has_symbol ids s ≡ true → is_some (first_place (symbol_eq s) (suc n) ids) ≡ true)
+        → is_some (cond b (Some n) (first_place (symbol_eq s) (suc n) ids)) ≡ true
+    by true h later = refl
+    by false h later = later h
+
+or_more : (a b : Option ℕ) → is_some a ≡ true → is_some (or_reached a b) ≡ true
+or_more (Some n) b h = refl
+or_more None b h = cc
+
+pub goal_is_reached : (goals : List Goal) (triples : List Triple) (s : Sym) → is_goal goals s ≡ true → is_some (level goals triples s) ≡ true
+goal_is_reached goals triples s goal = or_more _ _ (has_place s 1 (goal_ids goals) goal)
