@@ -72,7 +72,12 @@ impl Session {
     }
 
     /// Says the production of a name.
-    pub fn show_rule(&mut self, origin: &Origin<'_>, name: Sym, out: &mut Text) -> Result<bool, Stop>
+    pub fn show_rule(
+        &mut self,
+        origin: &Origin<'_>,
+        name: Sym,
+        out: &mut Text,
+    ) -> Result<bool, Stop>
         requires sound { IsSound self.old.agent }
         requires known { IsKnown self.old.agent.table name }
         ensures { Carries self.old self.new origin.now.source.now origin.now.line (carried_out run_present (print_name name)) out.old out.new result }

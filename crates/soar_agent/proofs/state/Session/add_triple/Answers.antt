@@ -1,4 +1,4 @@
-use Rattle.std.proofs.Common.{sym}
+use Rattle.std.proofs.Common.{[], sym}
 use Rattle.soar_wm.specs.WorkingMemory.{tag_of}
 use Rattle.defs_run.specs.Sessions.{Session}
 use Rattle.soar_agent.specs.States.{session_of}
