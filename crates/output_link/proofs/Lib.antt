@@ -1,0 +1,3 @@
+pub mod ChangeLemmas
+pub mod ShownLemmas
+pub mod WalkLemmas
