@@ -1,3 +1,3 @@
-pub mod ChangeLemmas
+pub mod KnownLemmas
 pub mod ShownLemmas
 pub mod WalkLemmas

@@ -1,9 +1,8 @@
 -- What is shown by levels is what the output link shows.
-use Rattle.std.proofs.Common.{◌≡◌, ℕ, Bool, true, false, cond, ◌&&◌, ◌||◌, not, List, [], ◌∷◌, map, filter, Option, Some, None, is_some, refl, sym, ap, ◌∙◌}
+use Rattle.std.proofs.Common.{◌≡◌, ℕ, Bool, true, false, cond, ◌&&◌, ◌||◌, not, List, [], ◌∷◌, map, filter, Option, Some, None, is_some, refl, ap, ◌∙◌}
 use Rattle.soar_sym.specs.Equality.{symbol_eq}
 use Rattle.soar_sym.specs.declared.symbol.Sym.{Sym}
 use Rattle.soar_sym.specs.declared.symbol.Triple.{Triple}
-use Rattle.soar_wm.specs.declared.element.Element.{Element}
 use Rattle.soar_wm.specs.WorkingMemory.{triple_of}
 use Rattle.defs_soar.specs.declared.goal.Goal.{Goal}
 use Rattle.defs_soar.specs.Agents.{Agent}
@@ -13,7 +12,7 @@ use Rattle.defs_soar.specs.Goals.{goal_ids, is_goal}
 use Rattle.defs_soar.specs.Levels.{level, reached_from}
 use Rattle.defs_soar.specs.Sorted.{has_symbol}
 use Rattle.settling_laws.proofs.FilterLemmas.{filter_same}
-use Rattle.level_graph.specs.Marks.{MarkList, has_mark}
+use Rattle.level_graph.specs.Marks.{MarkList}
 use Rattle.soar_levels.specs.Told.{as_answered, level_told, TellsLevels}
 use Rattle.soar_settle.proofs.FilterLemmas.{filter_twice}
 use Rattle.output_link.specs.Walking.{goes_on_at, leading, output_goal, shown}

@@ -1,5 +1,5 @@
 -- Walks that go on through no other goal are walks over the triples that they go on along.
-use Rattle.std.proofs.Common.{◌≡◌, Bool, true, false, cond, ◌||◌, not, ◌⊎◌, List, [], ◌∷◌, filter, Option, Some, None, is_some, refl, sym, ap, subst, ◌∙◌, inl, inr}
+use Rattle.std.proofs.Common.{◌≡◌, Bool, true, false, cond, ◌||◌, not, ◌⊎◌, List, [], ◌∷◌, filter, Some, None, is_some, refl, sym, ap, subst, ◌∙◌, inl, inr}
 use Rattle.soar_sym.specs.Equality.{symbol_eq}
 use Rattle.soar_sym.specs.declared.symbol.Sym.{Sym}
 use Rattle.soar_sym.specs.declared.symbol.Triple.{Triple}

@@ -31,6 +31,7 @@ pub fn output_changes(
     requires now { AreTriplesKnown table.now now.now }
     ensures gone { IfOk result (λ changes. changes.gone ≡ in_order table.now (without_triples now.now before.now)) }
     ensures new { IfOk result (λ changes. changes.new ≡ in_order table.now (without_triples before.now now.now)) }
+    ensures known { IfOk result (λ changes. AreTriplesKnown table.now changes.gone × AreTriplesKnown table.now changes.new) }
 {
     let gone = those_without(alloc, table, now.as_slice(), before.as_slice())?;
     let new = those_without(alloc, table, before.as_slice(), now.as_slice())?;
@@ -45,7 +46,8 @@ fn those_without(
     triples: &[Triple],
 ) -> Result<List<Triple>, NoMemory>
     requires { AreTriplesKnown table.now triples.now }
-    ensures { IfOk result (λ out. out ≡ in_order table.now (without_triples others.now triples.now)) }
+    ensures out { IfOk result (λ out. out ≡ in_order table.now (without_triples others.now triples.now)) }
+    ensures known { IfOk result (λ out. AreTriplesKnown table.now out) }
 {
     let others = set_of(alloc, others)?;
     let left = without(alloc, &others, triples)?;
@@ -64,11 +66,7 @@ fn set_of(alloc: Global, triples: &[Triple]) -> Result<TripleSet, NoMemory>
 }
 
 /// The triples that are not in a set.
-fn without(
-    alloc: Global,
-    others: &TripleSet,
-    triples: &[Triple],
-) -> Result<List<Triple>, NoMemory>
+fn without(alloc: Global, others: &TripleSet, triples: &[Triple]) -> Result<List<Triple>, NoMemory>
     ensures { IfOk result (λ out. out ≡ without_triples others.now triples.now) }
 {
     let mut out = List::new(alloc);

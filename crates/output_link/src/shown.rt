@@ -1,8 +1,10 @@
 // What walks from the output link reach (Soar manual, chapter 2, input and output).
 ghost use Rattle.std.specs.Prelude.{◌≡◌, IfOk};
+ghost use Rattle.soar_sym.specs.Words.{Texts};
 ghost use Rattle.defs_soar.specs.Agents.{Agent};
 ghost use Rattle.defs_soar.specs.Cycle.{output_of};
 ghost use Rattle.level_graph.specs.Marks.{has_mark};
+ghost use Rattle.soar_settle.specs.Known.{AreElementsKnown, AreTriplesKnown};
 ghost use Rattle.output_link.specs.Walking as walking;
 
 use crate::walking::{ids_of, leading, levels_from_output};
@@ -20,7 +22,8 @@ pub fn output_of(
     memory: &Memory,
     goals: &List<Goal>,
 ) -> Result<List<Triple>, NoMemory>
-    ensures { (a : Agent) → a.holding.goals ≡ goals.now → a.holding.elements ≡ memory.now.elements → IfOk result (λ shown. shown ≡ output_of a) }
+    ensures shown { (a : Agent) → a.holding.goals ≡ goals.now → a.holding.elements ≡ memory.now.elements → IfOk result (λ shown. shown ≡ output_of a) }
+    ensures known { (words : Texts) → AreElementsKnown words memory.now.elements → IfOk result (λ shown. AreTriplesKnown words shown) }
 {
     let elements = memory.all(alloc)?;
     let ids = ids_of(alloc, goals.as_slice())?;

@@ -32,11 +32,7 @@ pub fn ids_of(alloc: Global, goals: &[Goal]) -> Result<Marks, NoMemory>
 }
 
 /// The triples of the identifiers through which a walk from the output link goes on, in order of tag.
-pub fn leading(
-    alloc: Global,
-    ids: &Marks,
-    elements: &[Element],
-) -> Result<List<Triple>, NoMemory>
+pub fn leading(alloc: Global, ids: &Marks, elements: &[Element]) -> Result<List<Triple>, NoMemory>
     ensures { IfOk result (λ out. out ≡ walking.leading (has_mark ids.now) elements.now) }
 {
     let mut out = List::new(alloc);

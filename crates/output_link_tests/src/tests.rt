@@ -1,1 +1,2 @@
-mod output;
+mod changes;
+mod shown;
