@@ -1,0 +1,3 @@
+pub mod TagLemmas
+pub mod TellingLemmas
+pub mod LawfulLemmas
