@@ -8,6 +8,8 @@ ghost use Rattle.trace_laws.specs.Levels as levels;
 /// What is told with the words of its step is the same with each later table, and lines above a watch level leave
 /// nothing at it.
 pub fn lines_stay()
+    ensures grown { tables.TablesGrow }
+    ensures in_turn { tables.LaterInTurn }
     ensures known { tables.KnownStays }
     ensures symbols { tables.SymbolsKeep }
     ensures events_known { events.EventsStayKnown }

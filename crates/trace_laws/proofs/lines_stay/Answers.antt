@@ -1,7 +1,13 @@
-use Rattle.trace_laws.proofs.TableLemmas.{known_stays, symbols_keep}
+use Rattle.trace_laws.proofs.TableLemmas.{known_stays, later_in_turn, symbols_keep, tables_grow}
 use Rattle.trace_laws.proofs.EventLemmas.{events_keep, events_stay_known, pieces_keep}
 use Rattle.trace_laws.proofs.LevelLemmas.{low_events_alone, low_events_keep, low_levels_alone}
 use Rattle.trace_laws.proofs.lines_stay.Goals as goal
+
+pub returns-clause-grown : goal.returns-clause-grown
+returns-clause-grown c = tables_grow
+
+pub returns-clause-in_turn : goal.returns-clause-in_turn
+returns-clause-in_turn c = later_in_turn
 
 pub returns-clause-known : goal.returns-clause-known
 returns-clause-known c = known_stays
