@@ -1,5 +1,6 @@
 -- Lines of known events, part by part, with a later table.
 use Rattle.std.proofs.Common.{◌≡◌, ℕ, List, [], ◌∷◌, ◌++◌, map, Option, Some, None, cond, codes, refl}
+use Rattle.std.proofs.lemmas.List.{map-append}
 use Rattle.std.specs.Fmt.{decimal}
 use Rattle.soar_sym.specs.Words.{IsKnown, Texts}
 use Rattle.soar_sym.specs.declared.symbol.Sym.{Sym}
@@ -16,7 +17,7 @@ use Rattle.defs_soar.specs.Events.{LearningEvent, learns, justifies, has_no_grou
 use Rattle.defs_soar.specs.Texts.{front_text, referent_text, sign_text, tagged_text, triple_text, wish_text}
 use Rattle.defs_soar.specs.Trace.{cause_text, cycle_text, impasse_text, learned_text, learning_text, line, name_text, piece_of, pieces_of, support_text}
 use Rattle.trace_laws.specs.Tables.{Later}
-use Rattle.trace_laws.specs.Events.{AreEventsKnown, EventsKeep, EventsStayKnown, IsCauseKnown, IsEventKnown, IsLearningKnown, IsOptionKnown, IsSignKnown, IsTripleKnown, IsWishKnown, PiecesKeep}
+use Rattle.trace_laws.specs.Events.{AreEventsKnown, EventsKeep, EventsStayKnown, IsCauseKnown, IsEventKnown, IsLearningKnown, IsOptionKnown, IsSignKnown, IsTripleKnown, IsWishKnown, PiecesInTurn, PiecesKeep}
 use Rattle.trace_laws.proofs.TableLemmas.{known_stays, symbols_keep}
 
 module _ (words later : Texts) (grown : Later words later) where
@@ -193,3 +194,7 @@ events_keep words later e known grown = event words later grown e known
 pub pieces_keep : PiecesKeep
 unfolding pieces_of
 pieces_keep words later events known grown = all_keep words later grown events known
+
+pub pieces_in_turn : PiecesInTurn
+unfolding pieces_of
+pieces_in_turn words first second = map-append (piece_of words) first second

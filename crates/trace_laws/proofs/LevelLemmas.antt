@@ -1,12 +1,24 @@
--- Lines above a level leave nothing at it.
-use Rattle.std.proofs.Common.{◌≡◌, ℕ, ◌≤◌, Bool, true, false, cond, List, [], ◌∷◌, filter, map, refl, ap, ◌∙◌, arith}
+-- Pieces are written in turn, and lines above a level leave nothing at it.
+use Rattle.std.proofs.Common.{◌≡◌, ℕ, ◌≤◌, Bool, true, false, cond, List, [], ◌∷◌, append_assoc, filter, map, refl, sym, ap, ◌∙◌, arith}
 use Rattle.std.specs.Prelude.{nat_le}
 use Rattle.std.proofs.lemmas.Bool.Decides.{nat_tests}
 use Rattle.soar_sym.specs.Words.{Texts}
 use Rattle.defs_soar.specs.Events.{Event, begins, removes, retracts, fires, makes_wish, drops, writes_text, learning, goes, comes, selects, substates, reaches_goal_limit, is_cut, shows_no_longer, shows, halts}
 use Rattle.defs_soar.specs.Trace.{Piece, Written, line, bare, followed_by, line_text, piece_of, piece_written, pieces_of, rendered}
-use Rattle.trace_laws.specs.Levels.{LowEventsAlone, LowEventsKeep, LowLevelsAlone, is_shown_at, is_told_at}
+use Rattle.trace_laws.specs.Levels.{LowEventsAlone, LowEventsKeep, LowLevelsAlone, WrittenInTurn, is_shown_at, is_told_at}
 use Rattle.trace_laws.proofs.EventLemmas.{pieces_keep}
+
+-- ---- in turn
+
+followed_in_turn : (a b c : Written) → followed_by a (followed_by b c) ≡ followed_by (followed_by a b) c
+followed_in_turn a b c = λ k. record { text = sym (append_assoc a.text b.text c.text) k; mid_line = c.mid_line }
+
+pub written_in_turn : WrittenInTurn
+written_in_turn watch mid [] second = refl
+written_in_turn watch mid (p ∷ first) second =
+    let w : Written = piece_written watch mid p in
+    let r : Written = rendered watch w.mid_line first in
+    ap (followed_by w) (written_in_turn watch w.mid_line first second) ∙ followed_in_turn w r (rendered watch r.mid_line second)
 
 -- ---- lines
 

@@ -1,5 +1,5 @@
 -- Events whose symbols are known, and what is told of them with a later table.
-use Rattle.std.specs.Prelude.{◌≡◌, List, [], ◌∷◌, Option, Some, None}
+use Rattle.std.specs.Prelude.{◌≡◌, List, [], ◌∷◌, ◌++◌, Option, Some, None}
 use Rattle.soar_sym.specs.Words.{IsKnown, Texts}
 use Rattle.soar_sym.specs.declared.symbol.Sym.{Sym}
 use Rattle.soar_sym.specs.declared.symbol.Triple.{Triple}
@@ -99,3 +99,7 @@ EventsKeep = (words later : Texts) (e : Event) → IsEventKnown words e → Late
 -- known events keep their lines
 abbrev pub PiecesKeep : Type 0
 PiecesKeep = (words later : Texts) (events : List Event) → AreEventsKnown words events → Later words later → pieces_of later events ≡ pieces_of words events
+
+-- events are told in turn
+abbrev pub PiecesInTurn : Type 0
+PiecesInTurn = (words : Texts) (first second : List Event) → pieces_of words (first ++ second) ≡ pieces_of words first ++ pieces_of words second

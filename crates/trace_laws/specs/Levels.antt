@@ -1,8 +1,8 @@
--- What is written at a watch level, without the lines above it.
-use Rattle.std.specs.Prelude.{◌≡◌, ℕ, ◌≤◌, Bool, true, nat_le, List, [], filter}
+-- What is written at a watch level: piece after piece, and without the lines above it.
+use Rattle.std.specs.Prelude.{◌≡◌, ℕ, ◌≤◌, Bool, true, nat_le, List, [], ◌++◌, filter}
 use Rattle.soar_sym.specs.Words.{Texts}
 use Rattle.defs_soar.specs.Events.{Event}
-use Rattle.defs_soar.specs.Trace.{Piece, line, bare, piece_of, pieces_of, rendered}
+use Rattle.defs_soar.specs.Trace.{Piece, line, bare, followed_by, piece_of, pieces_of, rendered}
 use Rattle.trace_laws.specs.Events.{AreEventsKnown}
 use Rattle.trace_laws.specs.Tables.{Later}
 
@@ -14,6 +14,12 @@ is_shown_at watch (bare text) = true
 -- so may that of the event, with any table
 abbrev pub is_told_at : ℕ → Event → Bool
 is_told_at watch e = is_shown_at watch (piece_of [] e)
+
+-- pieces are written in turn, each where the text before it ended
+abbrev pub WrittenInTurn : Type 0
+WrittenInTurn =
+    (watch : ℕ) (mid : Bool) (first second : List Piece)
+    → rendered watch mid (first ++ second) ≡ followed_by (rendered watch mid first) (rendered watch (rendered watch mid first).mid_line second)
 
 -- up to a watch level, lines above it leave nothing
 abbrev pub LowLevelsAlone : Type 0

@@ -15,6 +15,8 @@ pub fn lines_stay()
     ensures events_known { events.EventsStayKnown }
     ensures events { events.EventsKeep }
     ensures pieces { events.PiecesKeep }
+    ensures pieces_in_turn { events.PiecesInTurn }
+    ensures written_in_turn { levels.WrittenInTurn }
     ensures alone { levels.LowLevelsAlone }
     ensures filtered { levels.LowEventsAlone }
     ensures told { levels.LowEventsKeep }

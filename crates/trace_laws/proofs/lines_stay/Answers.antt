@@ -1,6 +1,6 @@
 use Rattle.trace_laws.proofs.TableLemmas.{known_stays, later_in_turn, symbols_keep, tables_grow}
-use Rattle.trace_laws.proofs.EventLemmas.{events_keep, events_stay_known, pieces_keep}
-use Rattle.trace_laws.proofs.LevelLemmas.{low_events_alone, low_events_keep, low_levels_alone}
+use Rattle.trace_laws.proofs.EventLemmas.{events_keep, events_stay_known, pieces_in_turn, pieces_keep}
+use Rattle.trace_laws.proofs.LevelLemmas.{low_events_alone, low_events_keep, low_levels_alone, written_in_turn}
 use Rattle.trace_laws.proofs.lines_stay.Goals as goal
 
 pub returns-clause-grown : goal.returns-clause-grown
@@ -23,6 +23,12 @@ returns-clause-events c = events_keep
 
 pub returns-clause-pieces : goal.returns-clause-pieces
 returns-clause-pieces c = pieces_keep
+
+pub returns-clause-pieces_in_turn : goal.returns-clause-pieces_in_turn
+returns-clause-pieces_in_turn c = pieces_in_turn
+
+pub returns-clause-written_in_turn : goal.returns-clause-written_in_turn
+returns-clause-written_in_turn c = written_in_turn
 
 pub returns-clause-alone : goal.returns-clause-alone
 returns-clause-alone c = low_levels_alone
