@@ -1,0 +1,10 @@
+//! What waits for an agent: recorded changes of its inputs, and random words.
+#![tactic(auto)]
+
+mod inputs;
+mod queued;
+mod random;
+
+pub use inputs::changed_inputs;
+pub use queued::Queued;
+pub use random::drop_word;

@@ -1,0 +1,5 @@
+//! Tests of what waits for an agent.
+#![tactic(auto)]
+
+#[cfg(test)]
+mod tests;
