@@ -1,5 +1,5 @@
 -- The values and the referents of known rows.
-use Rattle.std.proofs.Common.{List, [], ◌∷◌, Option, Some, None}
+use Rattle.std.proofs.Common.{[], ◌∷◌, Option, Some, None}
 use Rattle.soar_sym.specs.Words.{Texts}
 use Rattle.soar_sym.specs.declared.symbol.Sym.{Sym}
 use Rattle.soar_rule.specs.Symbols.{AreKnown}

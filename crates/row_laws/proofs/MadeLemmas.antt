@@ -1,10 +1,10 @@
 -- Each wish that a firing makes was judged to be in range, and no action takes one away.
-use Rattle.std.proofs.Common.{◌≡◌, refl, sym, subst, ℕ, suc, ℤ, Bool, true, false, not, ◌&&◌, ◌||◌, cond, List, [], ◌∷◌, ◌++◌, map, Option, Some, None, Result, Ok, Err}
+use Rattle.std.proofs.Common.{◌≡◌, refl, ℕ, suc, ℤ, Bool, true, false, not, ◌&&◌, ◌||◌, cond, List, [], ◌∷◌, ◌++◌, Option, Some, Result, Ok, Err}
 use Rattle.std.specs.Prelude.{int_le, pos, neg_ℤ, ◌≤ℤ◌}
-use lib.Dec.{T}
-use lib.Signed.{le_z_yes}
+use Rattle.std.specs.Bool.{passes}
+use Rattle.std.specs.Int.Signed.{le_z_yes}
 use Rattle.soar_sym.specs.declared.symbol.Sym.{Sym}
-use Rattle.soar_sym.specs.declared.symbol.Sym.TheVariants.{Ident, Word, Int}
+use Rattle.soar_sym.specs.declared.symbol.Sym.TheVariants.{Int}
 use Rattle.soar_rule.specs.Productions.{ActionOf, makes, writes, halts, PreferenceOf, ValueOf}
 use Rattle.soar_rule.specs.declared.cond.Atom.{Atom}
 use Rattle.soar_choose.specs.Rows.{IsNumberInRange, IsWithin}
@@ -22,7 +22,7 @@ use Rattle.row_laws.specs.Made.{AreWishesInRange, MadeAreInRange, RowsMadeAreInR
 -- ---- what is judged
 
 in_order : (a b : ℤ) → int_le a b ≡ true → a ≤ℤ b
-in_order a b e = le_z_yes (subst T (sym e) tt)
+in_order a b e = le_z_yes (passes (int_le a b) e)
 
 within : (most : ℕ) (z : ℤ) → (int_le (neg_ℤ (pos most)) z && int_le z (pos most)) ≡ true → IsWithin most z
 within most z e = by (int_le (neg_ℤ (pos most)) z) (int_le z (pos most)) (in_order (neg_ℤ (pos most)) z) (in_order z (pos most)) e
@@ -57,7 +57,7 @@ then_fit {A} e f fit = by e.value
     by (Ok a) = fit a e.naming
     by (Err why) = tt
 
--- a wish, from what is known of it so far
+-- the rest of a wish, once its identifier is there, then its attribute, then its value
 
 abbrev by_value : List Goal → PreferenceOf → Sym → Sym → Sym → Naming → Evaluated Wish
 by_value goals preference i a v naming =
