@@ -57,7 +57,7 @@ then_fit {A} e f fit = by e.value
     by (Ok a) = fit a e.naming
     by (Err why) = tt
 
--- the rest of a wish, once its identifier is there, then its attribute, then its value
+-- the rest of a wish, once its value is there, its attribute, or its identifier alone
 
 abbrev by_value : List Goal → PreferenceOf → Sym → Sym → Sym → Naming → Evaluated Wish
 by_value goals preference i a v naming =
