@@ -44,7 +44,8 @@ name_in_front words operator elements k at next within is_name =
     sym (ap first_symbol here ∙ first_with words later e.value)
 
 -- elements of others have no name of it
-pub names_among : (words : Texts) (operator : Sym) (elements : List Element) → names_of_operator words (elements_of operator elements) operator ≡ names_of_operator words elements operator
+pub names_among : (words : Texts) (operator : Sym) (elements : List Element)
+    → names_of_operator words (elements_of operator elements) operator ≡ names_of_operator words elements operator
 names_among words operator [] = refl
 names_among words operator (e ∷ elements) = by (symbol_eq e.id operator) refl (names_among words operator elements)
   where

@@ -1,5 +1,5 @@
 // The name of an operator.
-ghost use Rattle.std.specs.Prelude.{◌≡◌, ◌&&◌, not, IfOk, IfSome};
+ghost use Rattle.std.specs.Prelude.{◌≡◌, IfOk, IfSome};
 ghost use Rattle.std.specs.List.{All};
 ghost use Rattle.defs_soar.specs.Decision.{first_symbol, names_of_operator};
 ghost use Rattle.soar_sym.specs.Words.{IsKnown};

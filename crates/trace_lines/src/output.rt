@@ -1,5 +1,5 @@
 // What the output link shows, and shows no longer.
-ghost use Rattle.std.specs.Prelude.{◌≡◌, ◌++◌, false, map, string_bytes, true, IfOk, OnErr, OnOk};
+ghost use Rattle.std.specs.Prelude.{◌≡◌, ◌++◌, map, string_bytes, IfOk, OnErr, OnOk};
 ghost use Rattle.std.specs.List.{All};
 ghost use Rattle.defs_soar.specs.Events.{shows, shows_no_longer};
 ghost use Rattle.defs_soar.specs.Trace.{piece_of};
@@ -48,7 +48,7 @@ fn say_each(
     Ok(())
 }
 
-/// Appends the line of a triple that the output link shows, or shows no longer.
+/// Appends the line of a triple that the output link shows, or shows no longer, as `out + (I3 ^move north)`.
 pub fn say_output(
     table: &SymTable,
     triple: Triple,

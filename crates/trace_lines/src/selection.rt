@@ -9,16 +9,23 @@ use crate::texts::{indent_text, name_text, symbol_text};
 use soar_sym::{NoMemory, Sym, SymTable, Text};
 use std::alloc::Global;
 
-/// An operator that was selected in a cycle, at a goal so many goals below the top.
+/// An operator that was selected.
 #[derive(Clone, Copy)]
 pub struct Selected {
+    /// The number of the cycle, from 1.
     pub cycle: u64,
+
+    /// How many goals its goal is below the top: 0 for the top goal.
     pub below: usize,
+
+    /// The operator.
     pub operator: Sym,
+
+    /// Its name, where it has one.
     pub name: Option<Sym>,
 }
 
-/// Appends the line of a decision that selects an operator.
+/// Appends the line of a decision that selects an operator, as `2: O: O1 (wait)`.
 pub fn say_selection(
     table: &SymTable,
     selected: &Selected,
