@@ -1,0 +1,5 @@
+//! Tests of the lines of the trace.
+#![tactic(auto)]
+
+#[cfg(test)]
+mod tests;
