@@ -49,12 +49,11 @@ excised name s = quiet (with_agent s (record s.agent { program = without_name na
 
 -- ---- running
 
-abbrev pub told_of : Agent → Said → Told
-told_of a said = record { pieces = pieces_of a.names.words said.events; totals = said.totals }
+abbrev pub told_of : Said → Told
+told_of said = record { pieces = pieces_of said.words said.events; totals = said.totals }
 
--- words are never taken from the table, so the last table has the texts of all steps
 abbrev pub followed : Session → Course → Reply
-followed s c = replied (with_agent s c.agent) (map (told_of c.agent) c.steps)
+followed s c = replied (with_agent s c.agent) (map told_of c.steps)
 
 abbrev pub has_run : (ℕ → Agent → Course) → ℕ → Session → Carried
 has_run run n s = if s.agent.halted then refuses halted else does (followed s (run n s.agent))

@@ -6,7 +6,6 @@ pub mod Commands
 pub mod Inputs
 pub mod Listing
 pub mod Orders
-pub mod PlainActions
 pub mod Present
 pub mod RandomReading
 pub mod Runs

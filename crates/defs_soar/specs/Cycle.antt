@@ -1,5 +1,6 @@
 -- The cycle: input, proposal, decision, application, output (Soar manual, chapter 2, execution cycle).
 use Rattle.std.specs.Prelude.{ℕ, suc, Bool, true, false, ◌&&◌, not, List, [], ◌∷◌, ◌++◌, map, filter, if◌then◌else◌}
+use Rattle.soar_sym.specs.Words.{Texts}
 use Rattle.soar_sym.specs.declared.symbol.Triple.{Triple}
 use Rattle.soar_rule.specs.Repeat.{Turn, ends, goes_on, turns}
 use Rattle.soar_wm.specs.WorkingMemory.{triple_of}
@@ -64,18 +65,18 @@ after_output a =
 
 -- ---- phases
 
-abbrev pub told_alone : Event → Said
-told_alone e = record { events = e ∷ []; totals = [] }
+abbrev pub told_alone : Texts → Event → Said
+told_alone words e = record { words = words; events = e ∷ []; totals = [] }
 
 abbrev pub then_course : Course → Course → Course
 then_course c d = record { agent = d.agent; steps = c.steps ++ d.steps }
 
 -- the line that begins a phase of waves belongs to none of them
 abbrev pub begun : Part → Course → Course
-begun part c = record c { steps = c.steps ++ told_alone (begins part) ∷ [] }
+begun part c = record c { steps = c.steps ++ told_alone c.agent.names.words (begins part) ∷ [] }
 
 abbrev pub cut_line : Part → Bool → Course → Course
-cut_line part true c = record c { steps = c.steps ++ told_alone (is_cut part) ∷ [] }
+cut_line part true c = record c { steps = c.steps ++ told_alone c.agent.names.words (is_cut part) ∷ [] }
 cut_line part false c = c
 
 abbrev pub then_phase : WaveEnd → Part → Bool → Course → Course

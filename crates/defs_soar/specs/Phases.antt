@@ -1,5 +1,6 @@
 -- Phases: waves until nothing is pending, and what they told (Soar manual, chapter 2, elaboration cycle).
 use Rattle.std.specs.Prelude.{Bool, true, false, ◌||◌, not, List, [], ◌∷◌, ◌++◌}
+use Rattle.soar_sym.specs.Words.{Texts}
 use Rattle.soar_rule.specs.Repeat.{Turn, ends, goes_on, turns}
 use Rattle.defs_soar.specs.Agents.{Agent}
 use Rattle.defs_soar.specs.Events.{Event}
@@ -9,8 +10,9 @@ use Rattle.defs_soar.specs.Resettling.{AgentStep}
 use Rattle.defs_soar.specs.WaveAtHand.{WaveEnd}
 use Rattle.defs_soar.specs.Waves.{wave_of}
 
--- what a step of a phase told and drew
+-- what a step told and drew, and the table of words behind it, with which it is told
 pub record Said : Type 0 where
+  pub words : Texts
   pub events : List Event
   pub totals : List Total
 
@@ -23,7 +25,7 @@ abbrev pub still : Agent → Course
 still a = record { agent = a; steps = [] }
 
 abbrev pub said_by : AgentStep → Said
-said_by s = record { events = s.events; totals = s.totals }
+said_by s = record { words = s.agent.names.words; events = s.events; totals = s.totals }
 
 -- a firing that halts halts the agent
 abbrev pub halting : AgentStep → Agent

@@ -18,7 +18,7 @@ MadeAndGone =
 abbrev pub NotBuiltYet : Type 0
 NotBuiltYet =
     WritesNow (codes "add-wme S1 ^<a> x\nsp {n (state <s> ^a 1) --> (halt)}\nexcise n\nprint n\nprint Q9\nremove-wme 5\nremove-wme 99\nrun 0\nadd-wme S1 ^a 1\nadd-wme S1 ^a 1\n")
-    (codes "error 18 -:1: not built\nerror 18 -:2: not built\nerror 10 -:3: unknown command\nerror 32 -:4: no production n\nerror 31 -:5: unknown identifier Q9\nerror 34 -:6: not an input element 5\nerror 33 -:7: no element 99\nerror 18 -:8: not built\nerror 35 -:10: already there as 6\n") status.Refusals
+    (codes "error 18 -:1: not built\nerror 10 -:3: unknown command\nsp {n\n    (state <s> ^a 1)\n    -->\n    (halt)\n}\nerror 31 -:5: unknown identifier Q9\nerror 34 -:6: not an input element 5\nerror 33 -:7: no element 99\nerror 18 -:8: not built\nerror 35 -:10: already there as 6\n") status.Refusals
 
 -- ---- reading and matching
 
@@ -41,11 +41,11 @@ Joined =
     WritesNow (codes " \nsp {j (state <s> ^a <x>) (<s> ^b <x>) --> (<s> ^c <y>) (<y> ^d 1)}\nadd-wme S1 ^b 2\nadd-wme S1 ^a 2\nadd-wme S1 ^a 1\nadd-wme S1 ^b 1\nadd-wme S1 ^b |2|\nmatches\n")
     (codes "j: 7 6\nj: 8 9\n") status.Done
 
--- what is not built: an operator, more behind; and an unconnected group, a comment, a float, an open brace
+-- what is not built: more behind; and an unconnected group, a proposal, a comment, a float, an open brace
 abbrev pub Forms : Type 0
 Forms =
     WritesNow (codes "sp {a (state <s> ^a 1) (<t> ^b 2) --> }\nsp {a (state <s> ^a 1) --> (<s> ^operator 1)}\nmatches #\nmatches now\nadd-wme S1 ^a 1.5\nadd-wme S1 ^a S1 1\nadd-wme S1 ^a |S1|\nmatches{\nsp")
-    (codes "error 22 -:1: unconnected condition 2\nerror 18 -:2: not built\nno matches\nerror 18 -:4: not built\nerror 13 -:5: floating-point number at byte 14\nerror 18 -:6: not built\nerror 11 -:8: unfinished command\n") status.Refusals
+    (codes "error 22 -:1: unconnected condition 2\nno matches\nerror 18 -:4: not built\nerror 13 -:5: floating-point number at byte 14\nerror 18 -:6: not built\nerror 11 -:8: unfinished command\n") status.Refusals
 
 -- an arrow is missing, and a number is too wide
 abbrev pub Syntax : Type 0
@@ -94,3 +94,32 @@ InMatchOrder =
 -- no word of the command line is taken
 abbrev pub WordsGiven : Type 0
 WordsGiven = present_transcript (codes "a" ∷ []) [] (codes "matches\n") ≡ record { text = codes "usage: soar_app [--watch N] [--generate N] [FILE]...\n"; status = status.Usage }
+
+-- ---- operators, input and output
+
+-- a counter: each operator is applied in the next cycle but one, and the next number is proposed in the cycle after
+abbrev pub CountedNow : Type 0
+CountedNow =
+    WritesNow
+    (codes "sp {init :o-support (state <s> ^superstate nil) --> (<s> ^n 0)}\nsp {count*propose (state <s> ^superstate nil ^n <x>) --> (<s> ^operator <o> +) (<o> ^name count ^from <x>)}\nsp {count*apply (state <s> ^operator <o> ^n <x>) (<o> ^name count ^from <x>) --> (<s> ^n <x> - (+ <x> 1))}\nrun 4\nprint S1\n")
+    (codes "2: O: O1 (count)\n3: O: O2 (count)\n4: O: O3 (count)\n3: (S1 ^io I1)\n4: (S1 ^superstate nil)\n5: (S1 ^type state)\n20: (S1 ^operator O3)\n21: (S1 ^n 3)\n24: (S1 ^operator O4 +)\n")
+    status.Done
+
+-- an impasse is not told
+abbrev pub ShownNow : Type 0
+ShownNow = WritesNow (codes "sp {o (state <s> ^superstate nil ^io.output-link <ol>) --> (<ol> ^say hi)}\nrun 1\n") (codes "out + (I3 ^say hi)\n") status.Done
+
+-- a text is ended before a line, and a halted agent does not run
+abbrev pub HaltedNow : Type 0
+HaltedNow =
+    WritesNow
+    (codes "sp {hello*propose\n   (state <s> ^type state)\n   -->\n   (<s> ^operator <o> +)\n   (<o> ^name hello-world)\n}\nsp {hello*apply\n   (state <s> ^operator <o>)\n   (<o> ^name hello-world)\n   -->\n   (write |Hello World|)\n   (halt)\n}\nrun 1\nrun 1\n")
+    (codes "1: O: O1 (hello-world)\nHello World\nhalt\nerror 37 -:15: halted\n") status.Refusals
+
+-- what is queued, and refusals of that; a random word is below 2^64
+abbrev pub QueuedNow : Type 0
+QueuedNow =
+    WritesNow
+    (codes "input add S1 ^a <n>\ninput add <n> ^b 1\ninput remove <n> ^b 1\nprint S1\nrun 1\nprint S1\nprint <n>\ninput add S1 ^operator x\ninput add S1 ^a Q1\ninput add S1\nrandom\nrandom 18446744073709551615\nrandom 18446744073709551616\nrandom -1\n")
+    (codes "3: (S1 ^io I1)\n4: (S1 ^superstate nil)\n5: (S1 ^type state)\n3: (S1 ^io I1)\n4: (S1 ^superstate nil)\n5: (S1 ^type state)\n6: (S1 ^a N1)\nno elements\nerror 36 -:8: reserved attribute\nerror 31 -:9: unknown identifier Q1\nerror 18 -:10: not built\nerror 18 -:11: not built\nerror 14 -:13: number too wide at byte 7\nerror 18 -:14: not built\n")
+    status.Refusals

@@ -101,4 +101,8 @@ pub fn worked_present()
     ensures labelled { present.Labelled }
     ensures in_match_order { present.InMatchOrder }
     ensures words_given { present.WordsGiven }
+    ensures counted { present.CountedNow }
+    ensures shown { present.ShownNow }
+    ensures halted { present.HaltedNow }
+    ensures queued { present.QueuedNow }
 {}

@@ -61,3 +61,19 @@ returns-clause-labelled c = refl
 pub returns-clause-in_match_order : goal.returns-clause-in_match_order
 unfolding computing
 returns-clause-in_match_order c = refl
+
+pub returns-clause-counted : goal.returns-clause-counted
+unfolding computing
+returns-clause-counted c = refl
+
+pub returns-clause-shown : goal.returns-clause-shown
+unfolding computing
+returns-clause-shown c = refl
+
+pub returns-clause-halted : goal.returns-clause-halted
+unfolding computing
+returns-clause-halted c = refl
+
+pub returns-clause-queued : goal.returns-clause-queued
+unfolding computing
+returns-clause-queued c = refl
