@@ -32,6 +32,7 @@ module _ (words : Texts) (goals : List Goal) (kept : List Triple) (m : WorkingMe
       → changes.gone ≡ plan.going → changes.new ≡ tagged goals m.last triples → Retagged (after_of words goals kept m) m new changes
   retagged triples new changes same memory gone come =
       let coming_are : triples ≡ coming words goals kept m = same ∙ is.triples_are in record {
+        lawful = is.lawful;
         memory_is =
             memory
             ∙ ap₂ (λ elements last. record m { elements = elements; last = last })

@@ -3,7 +3,7 @@ use Rattle.std.specs.Prelude.{◌≡◌, ℕ, ◌+◌, List, [], ◌∷◌, leng
 use Rattle.soar_sym.specs.Words.{Texts}
 use Rattle.soar_sym.specs.declared.symbol.Triple.{Triple}
 use Rattle.soar_wm.specs.declared.element.Element.{Element}
-use Rattle.soar_wm.specs.WorkingMemory.{WorkingMemory}
+use Rattle.soar_wm.specs.WorkingMemory.{WorkingMemory, IsLawful}
 use Rattle.defs_soar.specs.declared.goal.Goal.{Goal}
 use Rattle.defs_soar.specs.declared.limit.Which.{Which}
 use Rattle.defs_soar.specs.declared.preference.Preference.{Preference}
@@ -30,6 +30,7 @@ abbrev pub passed_by : List Element → WorkingMemory → Option Which
 passed_by after m = first_passed (elements_to (length after) ∷ tags_to (last_of after m) ∷ [])
 
 pub record Retagged (after : List Element) (old new : WorkingMemory) (changes : Changes) : Type 0 where
+  pub lawful : IsLawful old
   pub memory_is : new ≡ record old { elements = after; last = last_of after old }
   pub gone_are : changes.gone ≡ without_elements after old.elements
   pub new_are : changes.new ≡ without_elements old.elements after

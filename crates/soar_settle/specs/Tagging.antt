@@ -1,4 +1,4 @@
--- What the steps of tagging owe one another. No public clause cites this module.
+-- What the steps of tagging owe one another. Of this the laws on matchers cite `without_each`, and no clause of this crate the rest.
 use Rattle.std.specs.Prelude.{◌≡◌, ℕ, suc, List, [], ◌∷◌, ◌++◌, None}
 use Rattle.soar_sym.specs.Words.{Texts, IsKnown}
 use Rattle.soar_sym.specs.declared.symbol.Triple.{Triple}
