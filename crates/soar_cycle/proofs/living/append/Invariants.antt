@@ -1,6 +1,0 @@
-use Rattle.std.proofs.Common.{◌≡◌, ◌++◌, map}
-use Rattle.soar_cycle.specs.Firables.{live_seen}
-use Rattle.soar_cycle.proofs.living.append.Given as goal
-
-abbrev pub invariant-fired : goal.invariant-fired
-invariant-fired l = map live_seen l.live ≡ map live_seen l.initial.live ++ map live_seen l.yielded

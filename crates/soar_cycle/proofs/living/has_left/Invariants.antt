@@ -1,7 +1,0 @@
-use Rattle.std.proofs.Common.{◌≡◌, drop}
-use Rattle.soar_cycle.specs.Firables.{live_seen}
-use Rattle.soar_cycle.specs.Living.{has_left}
-use Rattle.soar_cycle.proofs.living.has_left.Given as goal
-
-abbrev pub invariant-gone : goal.invariant-gone
-invariant-gone l = has_left (drop l.number-index l.gone) (live_seen l.firing) ≡ has_left l.gone (live_seen l.firing)

@@ -1,0 +1,71 @@
+-- The answers of a wave.
+use Rattle.std.proofs.Common.{◌≡◌, ℕ, Bool, true, false, ◌&&◌, List, [], ◌∷◌, map, length, length-append, Ok, Err, refl, sym, ap, arith}
+use Rattle.std.specs.Prelude.{flat_map}
+use Rattle.std.proofs.lemmas.List.{length-map}
+use Rattle.soar_wm.specs.declared.element.Element.{Element}
+use Rattle.defs_match.specs.Rules.{RuleOf}
+use Rattle.defs_match.specs.declared.instance.Instance.{Instance}
+use Rattle.defs_soar.specs.Agents.{Agent, LiveFiring}
+use Rattle.defs_soar.specs.Pending.{Firable, Work as WorkOf, firable_of, is_none, pending}
+use Rattle.wave_parts.specs.Carrying.{Carries, is_nothing, is_without, waved}
+use Rattle.wave_parts.specs.Firables.{AreBound, IsPending, firables_for, rules_of}
+use Rattle.wave_parts.specs.Seen.{WavesFrom, Writes, wave_at}
+use Rattle.wave_parts.specs.declared.parts.Parts.{Parts as PartsKept}
+use Rattle.soar_settle.specs.declared.stop.Stop.{Stop}
+use Rattle.soar_settle.specs.declared.stop.Stop.TheVariants as stop
+use Rattle.wave_parts.specs.declared.work.Work.{Work}
+
+-- ---- whether something is pending
+
+-- each instance is one to fire
+some_fired : (rules : List RuleOf) (elements : List Element) (instances : List Instance) → AreBound rules instances → flat_map (firables_for rules elements) instances ≡ [] → is_without instances ≡ true
+some_fired rules elements [] bound none = refl
+some_fired rules elements (i ∷ instances) bound none =
+    absurd (omega (arith, ap length none, length-append (firables_for rules elements i) (flat_map (firables_for rules elements) instances), length-map (rules_of rules i.rule) (λ rule. firable_of elements rule i), bound.0.one))
+
+none_retracted : (numbers : List ℕ) → numbers ≡ [] → is_without numbers ≡ true
+none_retracted numbers h = ap is_without h
+
+pub something : (rules : List RuleOf) (elements : List Element) (work : Work) (w : WorkOf) → IsPending rules elements work w → AreBound rules work.fired → is_nothing work ≡ false → is_none w ≡ false
+something rules elements work w pend bound nothing = by w.retracted w.fired pend.retracted_are pend.fired_are
+  where
+    by : (gone : List LiveFiring) (firables : List Firable) → work.retracted ≡ map (λ l. l.number) gone → flat_map (firables_for rules elements) work.fired ≡ firables
+        → is_none (record { retracted = gone; fired = firables }) ≡ false
+    by [] [] retracted fired = absurd (let a = none_retracted work.retracted retracted in let b = some_fired rules elements work.fired bound fired in cc)
+    by [] (f ∷ firables) retracted fired = refl
+    by (l ∷ gone) firables retracted fired = refl
+
+-- ---- each answer
+
+pub waves_err : (old new : PartsKept) (s : Agent) (before after : List ℕ) (why : Stop) → is_none (pending true s) ≡ false
+    → Carries new before after (wave_at s) (Err why) → WavesFrom old new s (Err why)
+waves_err old new s before after (stop.Limit which) some h = (some, h.passed)
+waves_err old new s before after stop.NoMemory some h = tt
+
+pub writes_err : (new : PartsKept) (s : Agent) (before after : List ℕ) (why : Stop) → Carries new before after (wave_at s) (Err why) → Writes s before after (Err why)
+writes_err new s before after (stop.Limit which) h = h.text
+writes_err new s before after stop.NoMemory h = tt
+
+pub waves_ok : (old new : PartsKept) (s : Agent) (before after : List ℕ) (halted : Bool) → is_none (pending true s) ≡ false
+    → Carries new before after (wave_at s) (Ok halted) → WavesFrom old new s (Ok (waved halted))
+waves_ok old new s before after true some h = (some, h.stepped, sym h.halted_is)
+waves_ok old new s before after false some h = (some, h.stepped, sym h.halted_is)
+
+-- ---- whether there is work
+
+pub nothing : (rules : List RuleOf) (elements : List Element) (work : Work) (w : WorkOf) → IsPending rules elements work w → is_nothing work ≡ true → is_none w ≡ true
+nothing rules elements work w pend h = by work.retracted work.fired w.retracted w.fired pend.retracted_are pend.fired_are h
+  where
+    by : (numbers : List ℕ) (instances : List Instance) (gone : List LiveFiring) (firables : List Firable) → numbers ≡ map (λ l. l.number) gone → flat_map (firables_for rules elements) instances ≡ firables
+        → (is_without numbers && is_without instances) ≡ true → is_none (record { retracted = gone; fired = firables }) ≡ true
+    by [] [] [] firables retracted fired h = ap (λ fs. is_none (record { retracted = []; fired = fs })) (sym fired)
+    by [] [] (l ∷ gone) firables retracted fired h = absurd (cc)
+    by [] (i ∷ instances) gone firables retracted fired h = absurd (cc)
+    by (n ∷ numbers) instances gone firables retracted fired h = absurd (cc)
+
+pub same_work : (rules : List RuleOf) (elements : List Element) (work : Work) (w : WorkOf) → IsPending rules elements work w → AreBound rules work.fired → is_nothing work ≡ is_none w
+same_work rules elements work w pend bound = by (is_nothing work) refl
+  where
+    by : (b : Bool) → is_nothing work ≡ b → b ≡ is_none w
+    by true h = sym (nothing rules elements work w pend h)
+    by false h = sym (something rules elements work w pend bound h)

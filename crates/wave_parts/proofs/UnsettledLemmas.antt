@@ -1,0 +1,146 @@
+-- The agent when all has fired and nothing is settled yet.
+use Rattle.std.proofs.Common.{◌≡◌, ℕ, suc, ◌+◌, ◌≤◌, ◌∙◌, Bool, ◌||◌, ◌==◌, not, List, [], ◌∷◌, ◌++◌, map, filter, length, refl, sym, ap, subst, arith}
+use Rattle.std.proofs.lemmas.List.{length-map}
+use Rattle.std.proofs.lemmas.List.Elements.{filter_agree}
+use Rattle.soar_sym.specs.Words.{Texts}
+use Rattle.defs_match.specs.Rules.{RuleOf, rule_seen}
+use Rattle.defs_soar.specs.declared.preference.Preference.{Preference}
+use Rattle.defs_soar.specs.Agents.{LiveFiring, Agent}
+use Rattle.defs_soar.specs.History.{RecordedFiring}
+use Rattle.defs_soar.specs.Pending.{Work as WorkOf}
+use Rattle.defs_soar.specs.Preferences.{rows_after, with_rows, without_firings, is_rejected_by}
+use Rattle.defs_soar.specs.Trimming.{numbers_of}
+use Rattle.defs_soar.specs.WaveAtHand.{Wave}
+use Rattle.defs_soar.specs.WaveFirings.{first_wave, before_wave}
+use Rattle.defs_soar.specs.Waves.{is_retracted, is_spent, without_spent}
+use Rattle.soar_prefs.specs.Memory.{PreferenceMemory}
+use Rattle.wave_parts.specs.Firables.{IsPending, live_seen}
+use Rattle.wave_parts.specs.FiresAll.{HasFired}
+use Rattle.soar_settle.specs.Known.{AreRowsKnown}
+use Rattle.wave_parts.specs.Living.{has_left, still_live}
+use Rattle.soar_settle.specs.Renewal.{RenewsRows}
+use Rattle.wave_parts.specs.Resettles.{resettled_now}
+use Rattle.wave_parts.specs.Seen.{AreNoJustifications, IsSound, agent_of}
+use Rattle.wave_parts.specs.WaveParts.{fired_in, live_after, rows_made_in, settled_after, unsettled}
+use Rattle.wave_parts.specs.declared.parts.Parts.{Parts as PartsKept}
+use Rattle.wave_parts.specs.declared.firing.Fired.{Fired}
+use Rattle.wave_parts.specs.declared.live.Live.{Live}
+use Rattle.wave_parts.specs.declared.work.Work.{Work}
+use Rattle.soar_settle.proofs.FilterLemmas.{filter_shorter}
+use Rattle.wave_parts.proofs.FiredWaveLemmas.{program_stays, learned_stays, tag_stays}
+use Rattle.wave_parts.proofs.FiringKnown.{are_rules_grown, are_rows_grown}
+use Rattle.wave_parts.proofs.GrownLemmas.{elements_grown, triples_grown, rows_after_known}
+
+-- ---- rules
+
+-- no rule goes, since none is a justification
+kept_rules : (gone : List LiveFiring) (rules : List RuleOf) → AreNoJustifications rules → filter (λ rule. not (is_spent gone rule)) rules ≡ rules
+kept_rules gone [] h = refl
+kept_rules gone (rule ∷ rules) h = rw (h.0) (ap (λ l. rule ∷ l) (kept_rules gone rules h.1))
+
+-- ---- live firings
+
+any_number : (gone : List LiveFiring) (l : LiveFiring) → has_left (numbers_of gone) l ≡ is_retracted gone l
+any_number [] l = refl
+any_number (g ∷ gone) l = ap (λ b. (g.number == l.number) || b) (any_number gone l)
+
+live_is : (numbers : List ℕ) (gone : List LiveFiring) (live : List LiveFiring) → numbers ≡ numbers_of gone → still_live numbers live ≡ filter (λ l. not (is_retracted gone l)) live
+live_is numbers gone live is =
+    ap (λ ns. still_live ns live) is ∙ filter_agree (λ l. not (has_left (numbers_of gone) l)) (λ l. not (is_retracted gone l)) (λ l. ap not (any_number gone l)) live
+
+-- ---- counts
+
+pub waves_more : (n m : ℕ) → n ≡ m + 1 → n ≡ suc m
+waves_more n m h = omega (arith, h)
+
+pub firings_more : (n m k count : ℕ) → k ≡ count → n ≡ m + k → n ≡ m + count
+firings_more n m k count is h = omega (arith, is, h)
+
+pub retractions_more : (old : PartsKept) (work : Work) (w : WorkOf) (k n : ℕ) → IsPending (map rule_seen old.rules) old.memory.elements work w → k ≡ length work.retracted → n ≡ old.retractions + k
+    → n ≡ old.retractions + length w.retracted
+retractions_more old work w k n pend is h = omega (arith, is, h, ap length pend.retracted_are, length-map w.retracted (λ l. l.number))
+
+-- ---- the agent
+
+-- these parts are new, and the others as they were
+abbrev pub fired_agent : PartsKept → Texts → List ℕ → PreferenceMemory → List Live → ℕ → ℕ → ℕ → PartsKept
+fired_agent old table letters prefs live waves firings retractions =
+    record old { table = table; letters = letters; prefs = prefs; live = live; waves = waves; firings = firings; retractions = retractions }
+
+-- it is what the definition comes to
+pub fired_stands : (old : PartsKept) (history : List RecordedFiring) (work : Work) (w : WorkOf) (made : Fired) (table : Texts) (letters : List ℕ) (prefs : PreferenceMemory) (live : List Live) (waves firings retractions : ℕ)
+    → IsSound old → IsPending (map rule_seen old.rules) old.memory.elements work w
+    → HasFired table letters (length work.fired) made (first_wave (agent_of old history)) (fired_in (agent_of old history) w)
+    → RenewsRows old.prefs prefs work.retracted made.rows
+    → map live_seen live ≡ still_live work.retracted (map live_seen old.live) ++ map live_seen made.live
+    → waves ≡ suc old.waves → firings ≡ old.firings + length work.fired → retractions ≡ old.retractions + length w.retracted
+    → agent_of (fired_agent old table letters prefs live waves firings retractions) history ≡ unsettled (agent_of old history) w.retracted (fired_in (agent_of old history) w)
+fired_stands old history work w made table letters prefs live waves firings retractions sound pend fired renews lives waves_is firings_is retractions_is =
+    let a = agent_of old history in
+    let v = fired_in a w in
+    let program : v.program ≡ a.program = program_stays (before_wave a) (first_wave a) w.fired in
+    let rows : prefs.rows ≡ rows_after old.prefs.rows (numbers_of w.retracted) (rows_made_in v) =
+    ap (λ p. p.rows) renews.rows ∙ (λ k. rows_after old.prefs.rows (pend.retracted_are k) (fired.rows_are k)) in
+    let lives_are : map live_seen live ≡ live_after a.holding.live w.retracted v =
+    lives ∙ (λ k. live_is work.retracted w.retracted a.holding.live pend.retracted_are k ++ fired.live_are k) in
+    let rules : a.program ≡ without_spent w.retracted v.program =
+    (λ k. record a.program { rules = sym (kept_rules w.retracted a.program.rules sound.none_learned) k }) ∙ ap (without_spent w.retracted) (sym program) in
+    λ k. record a {
+      names = record { words = fired.words_are k; letters = fired.letters_are k; last_tag = sym (tag_stays (before_wave a) (first_wave a) w.fired) k };
+      program = rules k;
+      counts = record a.counts {
+        waves = waves_is k;
+        firings = (firings_is ∙ sym fired.last_is) k;
+        retractions = retractions_is k;
+        learned = sym (learned_stays (before_wave a) (first_wave a) w.fired) k;
+      };
+      holding = record a.holding { rows = rows k; live = lives_are k };
+    }
+
+-- settling it is settling what the definition holds then
+pub settles_same : (new : PartsKept) (history : List RecordedFiring) (a : Agent) (gone : List LiveFiring) (v : Wave) → agent_of new history ≡ unsettled a gone v
+    → resettled_now (agent_of new history) ≡ settled_after a gone v
+settles_same new history a gone v stands = ap resettled_now stands
+
+-- ---- what it keeps
+
+pub fired_sound : (old : PartsKept) (table : Texts) (letters : List ℕ) (prefs : PreferenceMemory) (live : List Live) (waves firings retractions : ℕ) (gone : List ℕ) (made : List Preference)
+    → IsSound old → length old.table ≤ length table → RenewsRows old.prefs prefs gone made → AreRowsKnown table made
+    → IsSound (fired_agent old table letters prefs live waves firings retractions)
+fired_sound old table letters prefs live waves firings retractions gone made sound grown renews known = record {
+  one_goal = sound.one_goal;
+  element_limit = sound.element_limit;
+  row_limit = ap (λ p. p.limit) renews.rows ∙ sound.row_limit;
+  few_rows = omega (
+    arith,
+    ap (λ p. p.limit) renews.rows,
+    ap (λ p. length p.rows) renews.rows,
+    renews.room,
+    filter_shorter (λ row. not (is_rejected_by made row)) (with_rows (without_firings old.prefs.rows gone) made),
+  );
+  first_words = omega (arith, sound.first_words, grown);
+  numbered = sound.numbered;
+  numbers_given = sound.numbers_given;
+  none_learned = sound.none_learned;
+  rules_known = are_rules_grown old.table table (map rule_seen old.rules) grown sound.rules_known;
+  elements_known = elements_grown old.table table old.memory.elements grown sound.elements_known;
+  rows_known = subst (AreRowsKnown table) (sym (ap (λ p. p.rows) renews.rows)) (rows_after_known table old.prefs.rows made gone (are_rows_grown old.table table old.prefs.rows grown sound.rows_known) known);
+  inputs_known = triples_grown old.table table old.inputs grown sound.inputs_known;
+}
+
+-- a halt changes nothing that is kept
+pub halted_sound : (a : PartsKept) (halted : Bool) → IsSound a → IsSound (record a { halted = halted })
+halted_sound a halted s = record {
+  one_goal = s.one_goal;
+  element_limit = s.element_limit;
+  row_limit = s.row_limit;
+  few_rows = s.few_rows;
+  first_words = s.first_words;
+  numbered = s.numbered;
+  numbers_given = s.numbers_given;
+  none_learned = s.none_learned;
+  rules_known = s.rules_known;
+  elements_known = s.elements_known;
+  rows_known = s.rows_known;
+  inputs_known = s.inputs_known;
+}

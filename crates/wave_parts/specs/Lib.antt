@@ -1,0 +1,13 @@
+pub mod Active
+pub mod Candidates
+pub mod Carrying
+pub mod Counting
+pub mod Firables
+pub mod FiresAll
+pub mod FiringOutcome
+pub mod Keys
+pub mod Living
+pub mod Resettles
+pub mod Seen
+pub mod Stands
+pub mod WaveParts

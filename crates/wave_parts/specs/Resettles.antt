@@ -1,0 +1,24 @@
+-- An agent whose rows or inputs changed, settled.
+use Rattle.std.specs.Prelude.{◌≡◌, Some, None, Result, Ok, Err}
+use Rattle.defs_soar.specs.Agents.{Agent}
+use Rattle.defs_soar.specs.Cycle.{held_with}
+use Rattle.defs_soar.specs.Limits.{first_passed}
+use Rattle.defs_soar.specs.Resettling.{AgentStep, resettled}
+use Rattle.wave_parts.specs.Stands.{Stands}
+use Rattle.wave_parts.specs.declared.parts.Parts.{Parts as PartsKept}
+use Rattle.soar_settle.specs.declared.changes.Changes.{Changes}
+use Rattle.soar_settle.specs.declared.stop.Stop.{Stop}
+use Rattle.soar_settle.specs.declared.stop.Stop.TheVariants as stop
+
+-- what the state holds now, settled
+abbrev pub resettled_now : Agent → AgentStep
+resettled_now s = resettled s (held_with s s.holding.inputs)
+
+pub record IsResettled (new : PartsKept) (s : AgentStep) : Type 0 where
+  pub stands : Stands new s.agent
+  pub within : first_passed s.totals ≡ None
+
+abbrev pub Resettles : PartsKept → Agent → Result Changes Stop → Type 0
+Resettles new s (Ok changes) = IsResettled new (resettled_now s)
+Resettles new s (Err (stop.Limit which)) = first_passed (resettled_now s).totals ≡ Some which
+Resettles new s (Err stop.NoMemory) = Unit {0}

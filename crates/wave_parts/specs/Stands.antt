@@ -1,0 +1,38 @@
+-- What an agent of the code keeps of a state, part by part. What it does not keep yet is as at the start; of the history nothing is said.
+use Rattle.std.specs.Prelude.{[], map}
+use Rattle.defs_match.specs.Rules.{rule_seen}
+use Rattle.defs_soar.specs.Agents.{Agent, Counts, Queues}
+use Rattle.defs_soar.specs.Standing.{HoldsWords, HoldsLetters, HoldsElements, HoldsLastTag, HoldsGoals, HoldsRows, HoldsInputs, HoldsLive}
+use Rattle.defs_soar.specs.Standing.{HoldsQueues, HoldsRules, HoldsLastRule, HoldsChains, HoldsLearnedNumbers, HoldsCounts}
+use Rattle.defs_soar.specs.Standing.{HoldsSettings, HoldsOutput, HoldsHalt}
+use Rattle.defs_soar.specs.Start.{first_settings}
+use Rattle.input_queue.specs.Seen.{queued_seen}
+use Rattle.wave_parts.specs.Firables.{live_seen}
+use Rattle.wave_parts.specs.declared.parts.Parts.{Parts as PartsKept}
+
+abbrev pub counts_of : PartsKept → Counts
+counts_of a = record { cycles = a.cycles; waves = a.waves; firings = a.firings; retractions = a.retractions; learned = 0 }
+
+-- what waits: changes of the inputs, and random words
+abbrev pub queues_of : PartsKept → Queues
+queues_of a = record { input = map queued_seen a.queue; random = a.random }
+
+-- the parts stand for the state
+pub record Stands (a : PartsKept) (s : Agent) : Type 0 where
+  pub words : HoldsWords a.table s
+  pub letters : HoldsLetters a.letters s
+  pub elements : HoldsElements a.memory.elements s
+  pub last_tag : HoldsLastTag a.memory.last s
+  pub goals : HoldsGoals a.goals s
+  pub rows : HoldsRows a.prefs.rows s
+  pub inputs : HoldsInputs a.inputs s
+  pub live : HoldsLive (map live_seen a.live) s
+  pub queues : HoldsQueues (queues_of a) s
+  pub rules : HoldsRules (map rule_seen a.rules) s
+  pub last_rule : HoldsLastRule a.last_rule s
+  pub chains : HoldsChains [] s
+  pub learned_numbers : HoldsLearnedNumbers 0 0 s
+  pub counts : HoldsCounts (counts_of a) s
+  pub settings : HoldsSettings (first_settings 1) s
+  pub output : HoldsOutput a.output s
+  pub halted : HoldsHalt a.halted s

@@ -1,0 +1,72 @@
+// Carrying out the work of a wave.
+ghost use Rattle.std.specs.Prelude.{◌≡◌, ◌||◌, map, IfOk};
+ghost use Rattle.defs_match.specs.Rules.{rule_seen};
+ghost use Rattle.matching_laws.specs.Telling.{IsTold};
+ghost use Rattle.soar_settle.specs.Known.{AreInstancesKnown};
+ghost use Rattle.wave_parts.specs.Carrying.{CarriesOut};
+ghost use Rattle.wave_parts.specs.Firables.{AreBound};
+ghost use Rattle.wave_parts.specs.Seen.{IsSound};
+
+use crate::counting::count_more;
+use crate::firing::{Fired, fire_all};
+use crate::living::renew_live;
+use crate::parts::Parts;
+use crate::work::Work;
+use soar_settle::{Changes, Stop, renew};
+use soar_sym::Text;
+use std::alloc::Global;
+
+/// What a wave did: what went from working memory and what came, and whether a firing halted.
+#[derive(Drop)]
+pub struct Done {
+    pub changes: Changes,
+    pub halted: bool,
+}
+
+impl Parts {
+    /// Carries the work of a wave out (Soar manual, chapter 2, elaboration cycle). What its firings write goes to `text`.
+    pub fn carry_out(&mut self, alloc: Global, work: &Work, text: &mut Text) -> Result<Done, Stop>
+        requires sound { IsSound self.old }
+        requires bound { AreBound (map rule_seen self.old.rules) work.now.fired }
+        requires known { AreInstancesKnown self.old.table work.now.fired }
+        ensures wave { CarriesOut self.old self.new work.now text.old text.new result }
+        ensures told { IfOk result (λ done. IsTold self.old.memory.elements self.new.memory.elements done.changes) }
+        ensures rules { self.new.rules ≡ self.old.rules }
+        ensures sound { IfOk result (λ _. IsSound self.new) }
+    {
+        let waves = count_more(self.waves, 1)?;
+        let retractions = count_more(self.retractions, work.retracted.len() as u64)?;
+        let fired = fire_all(
+            alloc,
+            &mut self.table,
+            &mut self.letters,
+            &self.goals,
+            &self.rules,
+            &self.memory,
+            &work.fired,
+            self.firings,
+        )?;
+        let Fired {
+            rows,
+            live,
+            text: written,
+            halted,
+        } = fired;
+        let gone = work.retracted.as_slice();
+        renew(&mut self.prefs, gone, rows.as_slice())?;
+        renew_live(&mut self.live, gone, live)?;
+        self.waves = waves;
+        self.retractions = retractions;
+        self.firings = count_more(self.firings, work.fired.len() as u64)?;
+        let changes = self.resettle(alloc)?;
+        self.halted = either(self.halted, halted);
+        text.push_str(written.as_str())?;
+        Ok(Done { changes, halted })
+    }
+}
+
+fn either(a: bool, b: bool) -> bool
+    ensures { result ≡ (a || b) }
+{
+    a || b
+}

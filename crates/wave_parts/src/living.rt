@@ -1,0 +1,48 @@
+// The live firings after a wave.
+ghost use Rattle.std.specs.Prelude.{◌≡◌, ◌++◌, map, OnOk};
+ghost use Rattle.wave_parts.specs.Firables.{live_seen};
+ghost use Rattle.wave_parts.specs.Living.{has_left, still_live};
+
+use crate::live::Live;
+use soar_sym::{List, NoMemory};
+
+/// Takes away the firings that left, and adds those of the wave.
+pub fn renew_live(live: &mut List<Live>, gone: &[u64], fired: List<Live>) -> Result<(), NoMemory>
+    ensures { OnOk result (map live_seen live.new ≡ still_live gone.now (map live_seen live.old) ++ map live_seen fired) }
+{
+    drop_gone(live, gone);
+    append(live, fired)
+}
+
+fn drop_gone(live: &mut List<Live>, gone: &[u64])
+    ensures { map live_seen live.new ≡ still_live gone.now (map live_seen live.old) }
+{
+    let mut at = 0;
+    'live: while at < live.len() {
+        if has_left(gone, &live.as_slice()[at]) {
+            let _ = live.remove(at);
+        } else {
+            at += 1;
+        }
+    }
+}
+
+fn has_left(gone: &[u64], firing: &Live) -> bool
+    ensures { result ≡ has_left gone.now (live_seen firing.now) }
+{
+    'gone: for number in gone {
+        if *number == firing.number {
+            return true;
+        }
+    }
+    false
+}
+
+fn append(live: &mut List<Live>, fired: List<Live>) -> Result<(), NoMemory>
+    ensures { OnOk result (map live_seen live.new ≡ map live_seen live.old ++ map live_seen fired) }
+{
+    'fired: for firing in fired.into_vec() {
+        live.push(firing)?;
+    }
+    Ok(())
+}

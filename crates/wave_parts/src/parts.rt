@@ -1,0 +1,33 @@
+use crate::live::Live;
+use defs_match::Rule;
+use defs_soar::Goal;
+use input_queue::Queued;
+use soar_prefs::Prefs;
+use soar_sym::{Letters, List, SymTable, Triple};
+use soar_wm::Memory;
+
+/// What an agent with the top state alone keeps: its words, working memory and what holds that up, its rules, what
+/// waits for it, and how much it did.
+#[derive(Drop)]
+pub struct Parts {
+    pub table: SymTable,
+    pub letters: Letters,
+    pub memory: Memory,
+    pub prefs: Prefs,
+    pub rules: List<Rule>,
+    pub last_rule: u64,
+    pub goals: List<Goal>,
+    pub inputs: List<Triple>,
+    /// The changes of the inputs that wait for the next input phase, the first of them first.
+    pub queue: List<Queued>,
+    /// The random words that wait for draws, the next of them first.
+    pub random: List<u64>,
+    pub live: List<Live>,
+    pub cycles: u64,
+    pub waves: u64,
+    pub firings: u64,
+    pub retractions: u64,
+    /// What the output link showed in the last output phase.
+    pub output: List<Triple>,
+    pub halted: bool,
+}

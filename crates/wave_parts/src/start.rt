@@ -1,0 +1,134 @@
+// The agent at the start.
+ghost use Rattle.std.specs.Prelude.{◌≡◌, ◌<◌, ◌-◌, ◌^◌, false, [], None, length, IfOk, OnOk};
+ghost use Rattle.defs_soar.specs.Start.{first_agent, first_elements, first_holding, first_letters};
+ghost use Rattle.soar_wm.specs.WorkingMemory.{tag_of, with_triple};
+ghost use Rattle.wave_parts.specs.Seen.{IsSound};
+ghost use Rattle.wave_parts.specs.Stands.{Stands};
+
+use crate::parts::Parts;
+use defs_soar::{Goal, Impasse};
+use soar_prefs::Prefs;
+use soar_sym::{Letters, List, NoMemory, Sym, SymTable, Triple};
+use soar_wm::{AddFault, Memory};
+use std::alloc::Global;
+
+const MOST_ELEMENTS: u32 = 4_000_000;
+
+const MOST_ROWS: u32 = 1_000_000;
+
+const TOP: Sym = Sym::Ident {
+    letter: b'S',
+    number: 1,
+};
+
+const IO: Sym = Sym::Ident {
+    letter: b'I',
+    number: 1,
+};
+
+const INPUT: Sym = Sym::Ident {
+    letter: b'I',
+    number: 2,
+};
+
+const OUTPUT: Sym = Sym::Ident {
+    letter: b'I',
+    number: 3,
+};
+
+impl Parts {
+    /// The top state with its input and output links, and no rule (Soar manual, chapter 2, the top state).
+    pub fn new(alloc: Global) -> Result<Parts, NoMemory>
+        ensures stands { IfOk result (λ parts. Stands parts (first_agent 1)) }
+        ensures sound { IfOk result (λ parts. IsSound parts) }
+    {
+        let table = SymTable::new(alloc)?;
+        let memory = first_memory(alloc)?;
+        let prefs = Prefs::new(alloc, MOST_ROWS)?;
+        let goals = first_goals(alloc)?;
+        Ok(Parts {
+            table,
+            letters: first_letters(),
+            memory,
+            prefs,
+            rules: List::new(alloc),
+            last_rule: 0,
+            goals,
+            inputs: List::new(alloc),
+            queue: List::new(alloc),
+            random: List::new(alloc),
+            live: List::new(alloc),
+            cycles: 0,
+            waves: 0,
+            firings: 0,
+            retractions: 0,
+            output: List::new(alloc),
+            halted: false,
+        })
+    }
+}
+
+/// The numbers of the first three identifiers of letter I and of the first of letter S are given.
+fn first_letters() -> Letters
+    ensures { result ≡ first_letters }
+{
+    let mut letters = Letters::new();
+    letters.starting(b'I', 3);
+    letters.starting(b'S', 1);
+    letters
+}
+
+/// The stack of goals with the top goal alone.
+fn first_goals(alloc: Global) -> Result<List<Goal>, NoMemory>
+    ensures { IfOk result (λ goals. goals ≡ first_holding.goals) }
+{
+    let mut goals = List::new(alloc);
+    goals.push(Goal {
+        id: TOP,
+        impasse: Impasse::Top,
+        items: List::new(alloc),
+        selected: None,
+    })?;
+    Ok(goals)
+}
+
+/// Working memory with the elements of the start.
+fn first_memory(alloc: Global) -> Result<Memory, NoMemory>
+    ensures { IfOk result (λ memory. memory ≡ record { elements = first_elements; limit = 4000000; last = 5 }) }
+{
+    let mut memory = Memory::new(alloc, MOST_ELEMENTS, 0)?;
+    fill(&mut memory)?;
+    Ok(memory)
+}
+
+/// Adds the elements of the start, which have the tags 1 to 5 in a memory without tags.
+fn fill(memory: &mut Memory) -> Result<(), NoMemory>
+    requires { memory.old ≡ record { elements = []; limit = 4000000; last = 0 } }
+    ensures { OnOk result (memory.new ≡ record { elements = first_elements; limit = 4000000; last = 5 }) }
+{
+    put(memory, IO, Sym::Word(3), INPUT, false)?;
+    put(memory, IO, Sym::Word(4), OUTPUT, false)?;
+    put(memory, TOP, Sym::Word(2), IO, true)?;
+    put(memory, TOP, Sym::Word(5), Sym::Word(1), true)?;
+    put(memory, TOP, Sym::Word(6), Sym::Word(0), true)
+}
+
+/// Adds a triple that is new.
+fn put(memory: &mut Memory, id: Sym, attr: Sym, value: Sym, of_state: bool) -> Result<(), NoMemory>
+    requires missing { tag_of (record { id = id; attr = attr; value = value; accept = false }) memory.old.elements ≡ None }
+    requires room { length memory.old.elements < memory.old.limit }
+    requires left { memory.old.last < 2 ^ 32 - 1 }
+    ensures { OnOk result (memory.new ≡ with_triple memory.old (record { id = id; attr = attr; value = value; accept = false }) of_state) }
+{
+    let triple = Triple {
+        id,
+        attr,
+        value,
+        accept: false,
+    };
+    match memory.add(triple, of_state) {
+        Ok(_) => Ok(()),
+        Err(AddFault::NoMemory) => Err(NoMemory),
+        Err(_) => unreachable!(),
+    }
+}
