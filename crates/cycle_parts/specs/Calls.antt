@@ -1,0 +1,63 @@
+-- What the calls by which a session works do to the state, each one step.
+use Rattle.std.specs.Prelude.{◌≡◌, ℕ, suc, ◌+◌, Bool, true, false, not, List, [], ◌∷◌, ◌++◌, filter, Some, None, Result, Ok, Err}
+use Rattle.soar_sym.specs.Letters.{last_of, with_last}
+use Rattle.soar_sym.specs.Words.{IsKnown, Texts}
+use Rattle.soar_sym.specs.declared.symbol.Sym.{Sym}
+use Rattle.soar_sym.specs.declared.symbol.Sym.TheVariants.{Ident}
+use Rattle.soar_sym.specs.declared.symbol.Triple.{Triple}
+use Rattle.soar_rule.specs.Productions.{ProductionOf}
+use Rattle.defs_soar.specs.Agents.{Agent, Queued}
+use Rattle.defs_soar.specs.Cycle.{held_with}
+use Rattle.defs_soar.specs.Limits.{Total, counts_to, first_passed, identifiers_to}
+use Rattle.defs_soar.specs.Resettling.{AgentStep, resettled}
+use Rattle.defs_soar.specs.Values.{triple_eq}
+use Rattle.defs_run.specs.Carrying.{with_production}
+use Rattle.soar_settle.specs.declared.stop.Stop.{Stop}
+use Rattle.soar_settle.specs.declared.stop.Stop.TheVariants as stop
+use Rattle.wave_parts.specs.Seen.{Stepped}
+use Rattle.wave_parts.specs.declared.parts.Parts.{Parts as PartsKept}
+
+abbrev pub IsTripleKnown : Texts → Triple → Type 0
+IsTripleKnown words t = IsKnown words t.id × IsKnown words t.attr × IsKnown words t.value
+
+-- a state, and what getting there drew
+abbrev pub drawn : Agent → List Total → AgentStep
+drawn a totals = record { agent = a; events = []; totals = totals; halted = false }
+
+-- ---- inputs at once
+
+-- with the triple behind the others, or without it
+abbrev pub with_input : Bool → Triple → List Triple → List Triple
+with_input true t inputs = inputs ++ t ∷ []
+with_input false t inputs = filter (λ u. not (triple_eq u t)) inputs
+
+abbrev pub input_step : Bool → Triple → Agent → AgentStep
+input_step adds t a = resettled a (held_with a (with_input adds t a.holding.inputs))
+
+-- ---- queues
+
+abbrev pub queue_step : Bool → Triple → Agent → AgentStep
+queue_step adds t a = drawn (record a { queues = record a.queues { input = a.queues.input ++ record { adds = adds; triple = t } ∷ [] } }) []
+
+abbrev pub random_step : List ℕ → Agent → AgentStep
+random_step words a = drawn (record a { queues = record a.queues { random = a.queues.random ++ words } }) []
+
+-- ---- rules
+
+-- in the place of the production of that name, under the next rule number
+abbrev pub load_step : ProductionOf → Agent → AgentStep
+load_step production a = drawn (record a { program = with_production production a.program }) (counts_to (suc a.program.last_rule) ∷ [])
+
+-- ---- identifiers
+
+abbrev pub next_number : ℕ → Agent → ℕ
+next_number letter a = last_of a.names.letters letter + 1
+
+abbrev pub fresh_step : ℕ → Agent → AgentStep
+fresh_step letter a = drawn (record a { names = record a.names { letters = with_last a.names.letters letter (next_number letter a) } }) (identifiers_to (next_number letter a) ∷ [])
+
+-- each answer, exactly where it comes; only want of memory is free
+abbrev pub GivesFresh : ℕ → Agent → PartsKept → Result Sym Stop → Type 0
+GivesFresh letter a new (Ok symbol) = (symbol ≡ Ident letter (next_number letter a)) × Stepped new (fresh_step letter a)
+GivesFresh letter a new (Err (stop.Limit limit)) = first_passed (fresh_step letter a).totals ≡ Some limit
+GivesFresh letter a new (Err stop.NoMemory) = Unit {0}

@@ -1,0 +1,4 @@
+pub mod Bonds
+pub mod Calls
+pub mod Stepping
+pub mod Waving

