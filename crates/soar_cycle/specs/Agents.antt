@@ -1,0 +1,47 @@
+-- An agent as its callers see it: its parts, whether what it wrote ends in the middle of a line, and whether it stands for a state.
+use Rattle.std.specs.Prelude.{◌≡◌, Bool, List, Result, Ok, Err}
+use Rattle.soar_sym.specs.Words.{Texts}
+use Rattle.soar_wm.specs.declared.element.Element.{Element}
+use Rattle.defs_match.specs.Rules.{RuleOf}
+use Rattle.defs_soar.specs.declared.limit.Which.{Which}
+use Rattle.soar_settle.specs.declared.stop.Stop.{Stop}
+use Rattle.soar_settle.specs.declared.stop.Stop.TheVariants as stop
+use Rattle.wave_parts.specs.Seen.{IsSound}
+use Rattle.wave_parts.specs.declared.parts.Parts.{Parts as PartsKept}
+use Rattle.cycle_parts.specs.Bonds.{Bond}
+use Rattle.soar_cycle.specs.declared.standing.Standing.{Standing}
+use Rattle.soar_cycle.specs.declared.standing.Standing.TheVariants as standing
+
+pub record AgentSeen : Type 0 where
+  pub parts : PartsKept
+  pub mid_line : Bool
+  pub standing : Standing
+
+abbrev pub agent_seen : PartsKept → Bool → Standing → AgentSeen
+agent_seen parts mid_line standing = record { parts = parts; mid_line = mid_line; standing = standing }
+
+-- while it stands for a state, its matcher holds the rules and working memory
+abbrev pub IsBound : List RuleOf → List Element → Bool → PartsKept → Standing → Type 0
+IsBound rules elements failed parts s = s ≡ standing.Stands → Bond rules elements failed parts
+
+-- while it stands for a state, its parts are sound
+abbrev pub IsSoundAgent : AgentSeen → Type 0
+IsSoundAgent a = a.standing ≡ standing.Stands → IsSound a.parts
+
+-- ---- the answers of an agent that stands for no state
+
+-- after want of memory that again; after a limit the same limit again
+abbrev pub IsStopped : {T : Type 0} → Standing → Result T Stop → Type 0
+IsStopped standing.Stands result = Unit {0}
+IsStopped standing.OutOfMemory result = result ≡ Err stop.NoMemory
+IsStopped (standing.PastLimit limit) result = result ≡ Err (stop.Limit limit)
+
+-- what an answer leaves
+abbrev pub standing_after : {T : Type 0} → Standing → Result T Stop → Standing
+standing_after s (Ok done) = s
+standing_after s (Err stop.NoMemory) = standing.OutOfMemory
+standing_after s (Err (stop.Limit limit)) = standing.PastLimit limit
+
+-- the agent with another table
+abbrev pub with_table : AgentSeen → Texts → AgentSeen
+with_table a table = record a { parts = record a.parts { table = table } }
