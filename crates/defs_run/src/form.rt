@@ -1,5 +1,5 @@
 use soar_rule::Production;
-use soar_sym::{Sym, Text};
+use soar_sym::{List, Sym, Text};
 
 /// A symbol, or a label by its name without brackets.
 #[derive(Drop)]
@@ -23,6 +23,10 @@ pub enum Order {
     Load(Production),
     Add(Addition),
     Remove(u64),
+    /// To queue a change of the inputs, which adds an element or removes it.
+    Queue(bool, Addition),
+    /// To queue random words.
+    Random(List<u64>),
     Run(u32),
     Matches,
     /// The elements of an identifier.
