@@ -1,0 +1,140 @@
+ghost use Rattle.std.specs.Prelude.{◌≡◌, false, [], IfOk};
+ghost use Rattle.std.specs.Borrow.{Lends, sem};
+ghost use Rattle.soar_sym.specs.contracts.table.SymTable as table;
+ghost use Rattle.defs_soar.specs.Start.{first_agent};
+ghost use Rattle.defs_soar.specs.Values.{has_triple_among};
+ghost use Rattle.soar_cycle.specs.Agents.{IsSoundAgent, with_table};
+ghost use Rattle.soar_cycle.specs.contracts.agent.Agent as agent;
+ghost use Rattle.wave_parts.specs.Stands.{Stands};
+
+use crate::standing::Standing;
+use cycle_parts::Engine;
+use defs_match::{Matcher, Rule};
+use defs_soar::Goal;
+use soar_sym::{Letters, List, NoMemory, SymTable, Triple, is_triple};
+use soar_wm::Memory;
+use std::alloc::Global;
+use std::marker::Model;
+use wave_parts::Stop;
+
+/// An agent with the top state alone, over any matcher, which holds its rules and working memory.
+#[derive(Drop)]
+pub struct Agent<M: Matcher> {
+    pub(crate) engine: Engine<M>,
+    pub(crate) mid_line: bool,
+    pub(crate) standing: Standing,
+    pub(crate) alloc: Global,
+}
+
+impl<M: Matcher> Model for Agent<M> {
+    ghost use Rattle.soar_cycle.specs.Agents.{AgentSeen, IsBound, agent_seen};
+
+    ghost Value = { AgentSeen };
+
+    ghost view = { λ a. agent_seen a.engine.parts a.mid_line a.standing };
+
+    ghost invariant = { λ a. IsBound (M.rules a.engine.matcher) (M.elements a.engine.matcher) (M.failed a.engine.matcher) a.engine.parts a.standing };
+}
+
+impl<M: Matcher> Agent<M> {
+    /// The top state with its input and output links, and no rule (Soar manual, chapter 2, the top state).
+    pub fn new(alloc: Global, matcher: M) -> Result<Agent<M>, NoMemory>
+        requires works { M.failed matcher ≡ false }
+        requires rules { M.rules matcher ≡ [] }
+        requires elements { M.elements matcher ≡ [] }
+        ensures stands { IfOk result (λ agent. Stands agent.parts (first_agent 1)) }
+        ensures standing { IfOk result (λ agent. agent.standing ≡ Standing.Stands) }
+        ensures mid_line { IfOk result (λ agent. agent.mid_line ≡ false) }
+        ensures sound { IfOk result (λ agent. IsSoundAgent agent) }
+    {
+        let engine = Engine::new(alloc, matcher)?;
+        Ok(Agent {
+            engine,
+            mid_line: false,
+            standing: Standing::Stands,
+            alloc,
+        })
+    }
+
+    /// The words, to which more may be added. What is left there has to begin with the words that were there.
+    pub fn table(&mut self) -> &mut SymTable
+        ensures* { sem 𝓛 (Lends (agent.the_row M.row M.Matcher) table.the_row self.entry result (with_table self.old)) }
+    {
+        &mut self.engine.parts.table
+    }
+
+    /// The words.
+    pub fn symbols(&self) -> &SymTable
+        ensures { result.now ≡ self.now.parts.table }
+    {
+        &self.engine.parts.table
+    }
+
+    /// The last number of each letter.
+    pub fn letters(&self) -> &Letters
+        ensures { result.now ≡ self.now.parts.letters }
+    {
+        &self.engine.parts.letters
+    }
+
+    /// Working memory.
+    pub fn memory(&self) -> &Memory
+        ensures { result.now ≡ self.now.parts.memory }
+    {
+        &self.engine.parts.memory
+    }
+
+    /// The rules, in order of number.
+    pub fn rules(&self) -> &List<Rule>
+        ensures { result.now ≡ self.now.parts.rules }
+    {
+        &self.engine.parts.rules
+    }
+
+    /// The goals, from the top.
+    pub fn goals(&self) -> &List<Goal>
+        ensures { result.now ≡ self.now.parts.goals }
+    {
+        &self.engine.parts.goals
+    }
+
+    /// Whether a triple is an input.
+    pub fn is_input(&self, triple: Triple) -> bool
+        ensures { result ≡ has_triple_among self.now.parts.inputs triple }
+    {
+        self.engine
+            .parts
+            .inputs
+            .as_slice()
+            .iter()
+            .any(|other| is_triple(triple, *other))
+    }
+
+    /// Whether it is halted.
+    pub fn halted(&self) -> bool
+        ensures { result ≡ self.now.parts.halted }
+    {
+        self.engine.parts.halted
+    }
+
+    /// Whether it stands for a state.
+    pub fn standing(&self) -> Standing
+        ensures { result ≡ self.now.standing }
+    {
+        self.standing
+    }
+
+    /// Whether what was written ends in the middle of a line.
+    pub fn mid_line(&self) -> bool
+        ensures { result ≡ self.now.mid_line }
+    {
+        self.mid_line
+    }
+
+    /// Sets whether what was written ends in the middle of a line, once a session has written lines of its own.
+    pub fn set_mid_line(&mut self, on: bool)
+        ensures { self.new ≡ record self.old { mid_line = on } }
+    {
+        self.mid_line = on;
+    }
+}

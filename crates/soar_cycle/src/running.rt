@@ -1,0 +1,81 @@
+// Waves, phases, decisions and cycles (Soar manual, chapter 2, execution cycle).
+ghost use Rattle.std.specs.Prelude.{◌≡◌, false, Err, IfOk};
+ghost use Rattle.defs_soar.specs.Agents.{Agent as AgentOf};
+ghost use Rattle.soar_cycle.specs.Agents.{IsSoundAgent, IsStopped, standing_after};
+ghost use Rattle.wave_parts.specs.Stands.{Stands};
+ghost use Rattle.defs_soar.specs.Cycle.{cycle};
+ghost use Rattle.defs_soar.specs.Decision.{decided_alone};
+ghost use Rattle.defs_soar.specs.Learning.{without_learning};
+ghost use Rattle.cycle_parts.specs.Stepping.{GoesStep};
+ghost use Rattle.cycle_parts.specs.Waving.{WavesFrom, is_proposing};
+ghost use Rattle.soar_cycle.specs.Courses.{Goes, IsEndOf, phase_course, phased};
+
+use crate::agent::Agent;
+use crate::phase::Ended;
+use crate::standing::Standing;
+use cycle_parts::Waved;
+use defs_match::Matcher;
+use soar_sym::Text;
+use trace_lines::Phase;
+use wave_parts::Stop;
+
+impl<M: Matcher> Agent<M> {
+    /// Runs a wave of a phase, and appends what its firings write. Nothing is appended where memory is wanting.
+    pub fn wave(&mut self, phase: Phase, text: &mut Text) -> Result<Waved, Stop>
+        requires sound { IsSoundAgent self.old }
+        ensures step { self.old.standing ≡ Standing.Stands → (s : AgentOf) → Stands self.old.parts s → WavesFrom (is_proposing phase) s self.old.parts self.new.parts self.old.mid_line self.new.mid_line text.old text.new result }
+        ensures standing { self.new.standing ≡ standing_after self.old.standing result }
+        ensures stopped { IsStopped self.old.standing result }
+        ensures sound { IsSoundAgent self.new }
+        ensures unwritten { result ≡ Err Stop.NoMemory → text.new ≡ text.old }
+    {
+        let _ = (phase, text);
+        self.standing = Standing::OutOfMemory;
+        Err(Stop::NoMemory)
+    }
+
+    /// Runs a phase: waves until nothing is pending, a firing halts, or there were a hundred.
+    pub fn phase(&mut self, phase: Phase, text: &mut Text) -> Result<Ended, Stop>
+        requires sound { IsSoundAgent self.old }
+        ensures step { self.old.standing ≡ Standing.Stands → (s : AgentOf) → Stands self.old.parts s → Goes self.old.mid_line (phase_course phase s) self.new.parts self.new.mid_line text.old text.new result }
+        ensures end { self.old.standing ≡ Standing.Stands → (s : AgentOf) → Stands self.old.parts s → IsEndOf (phased phase s) result }
+        ensures standing { self.new.standing ≡ standing_after self.old.standing result }
+        ensures stopped { IsStopped self.old.standing result }
+        ensures sound { IsSoundAgent self.new }
+        ensures unwritten { result ≡ Err Stop.NoMemory → text.new ≡ text.old }
+    {
+        let _ = (phase, text);
+        self.standing = Standing::OutOfMemory;
+        Err(Stop::NoMemory)
+    }
+
+    /// Decides, and tells a selection. True exactly where the limit of goals halted the agent, which makes no substates yet.
+    pub fn decide(&mut self, text: &mut Text) -> Result<bool, Stop>
+        requires sound { IsSoundAgent self.old }
+        ensures step { self.old.standing ≡ Standing.Stands → (s : AgentOf) → Stands self.old.parts s → GoesStep self.old.mid_line (decided_alone s) self.new.parts self.new.mid_line text.old text.new result }
+        ensures limit { IfOk result (λ halted. halted ≡ false) }
+        ensures standing { self.new.standing ≡ standing_after self.old.standing result }
+        ensures stopped { IsStopped self.old.standing result }
+        ensures sound { IsSoundAgent self.new }
+        ensures unwritten { result ≡ Err Stop.NoMemory → text.new ≡ text.old }
+    {
+        let _ = (text);
+        self.standing = Standing::OutOfMemory;
+        Err(Stop::NoMemory)
+    }
+
+    /// Runs a cycle: input, proposal, decision, application, output. True exactly where the agent is halted in the end.
+    pub fn cycle(&mut self, text: &mut Text) -> Result<bool, Stop>
+        requires sound { IsSoundAgent self.old }
+        ensures step { self.old.standing ≡ Standing.Stands → (s : AgentOf) → Stands self.old.parts s → Goes self.old.mid_line (cycle decided_alone without_learning s) self.new.parts self.new.mid_line text.old text.new result }
+        ensures halted { IfOk result (λ halted. halted ≡ self.new.parts.halted) }
+        ensures standing { self.new.standing ≡ standing_after self.old.standing result }
+        ensures stopped { IsStopped self.old.standing result }
+        ensures sound { IsSoundAgent self.new }
+        ensures unwritten { result ≡ Err Stop.NoMemory → text.new ≡ text.old }
+    {
+        let _ = (text);
+        self.standing = Standing::OutOfMemory;
+        Err(Stop::NoMemory)
+    }
+}
