@@ -18,7 +18,7 @@ pub struct Engine<M: Matcher> {
     pub matcher: M,
 }
 
-impl<M: Matcher> Engine<M> {
+impl<M: Matcher + Drop> Engine<M> {
     /// The top state with its input and output links, and no rule.
     pub fn new(alloc: Global, matcher: M) -> Result<Engine<M>, NoMemory>
         requires works { M.failed matcher ≡ false }
@@ -31,7 +31,9 @@ impl<M: Matcher> Engine<M> {
         let _ = (alloc, matcher);
         Err(NoMemory)
     }
+}
 
+impl<M: Matcher> Engine<M> {
     /// The conflict set.
     pub fn conflict(&mut self, alloc: Global) -> Result<List<Instance>, NoMemory>
         requires bond { Bond (M.rules self.old.matcher) (M.elements self.old.matcher) (M.failed self.old.matcher) self.old.parts }

@@ -36,7 +36,7 @@ impl<M: Matcher> Model for Agent<M> {
     ghost invariant = { λ a. IsBound (M.rules a.engine.matcher) (M.elements a.engine.matcher) (M.failed a.engine.matcher) a.engine.parts a.standing };
 }
 
-impl<M: Matcher> Agent<M> {
+impl<M: Matcher + Drop> Agent<M> {
     /// The top state with its input and output links, and no rule (Soar manual, chapter 2, the top state).
     pub fn new(alloc: Global, matcher: M) -> Result<Agent<M>, NoMemory>
         requires works { M.failed matcher ≡ false }
@@ -55,7 +55,9 @@ impl<M: Matcher> Agent<M> {
             alloc,
         })
     }
+}
 
+impl<M: Matcher> Agent<M> {
     /// The words, to which more may be added. What is left there has to begin with the words that were there.
     pub fn table(&mut self) -> &mut SymTable
         ensures* { sem 𝓛 (Lends (agent.the_row M.row M.Matcher) table.the_row self.entry result (with_table self.old)) }
