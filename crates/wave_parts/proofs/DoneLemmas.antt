@@ -1,5 +1,5 @@
 -- A wave that was carried out to its end, or that settling stopped.
-use Rattle.std.proofs.Common.{◌≡◌, ℕ, ◌+◌, ◌≤◌, ◌∙◌, ◌||◌, List, [], ◌∷◌, ◌++◌, map, flat_map, append-nil, Err, None, refl, sym, ap}
+use Rattle.std.proofs.Common.{◌≡◌, ℕ, ◌≤◌, ◌∙◌, ◌||◌, List, [], ◌∷◌, ◌++◌, map, flat_map, append-nil, Err, None, refl, sym, ap}
 use Rattle.soar_wm.specs.declared.element.Element.{Element}
 use Rattle.defs_soar.specs.declared.goal.Goal.{Goal}
 use Rattle.defs_soar.specs.Agents.{LiveFiring, Agent}

@@ -1,12 +1,11 @@
 -- The rows of a wave's firings are fit for a decision, and the firings are of the top goal.
-use Rattle.std.proofs.Common.{◌<◌, ℕ, suc, not, List, [], ◌∷◌, ◌++◌, map, flat_map, Ok, inl, inr, sym, ap, subst, arith}
+use Rattle.std.proofs.Common.{ℕ, suc, not, List, [], ◌∷◌, ◌++◌, map, flat_map, Ok, inl, inr, sym, ap, subst, arith}
 use Rattle.soar_sym.specs.Words.{Texts}
 use Rattle.defs_match.specs.Rules.{rule_seen}
 use Rattle.defs_match.specs.declared.instance.Instance.{Instance}
 use Rattle.defs_soar.specs.Agents.{LiveFiring}
-use Rattle.defs_soar.specs.Laws.{IsIn}
 use Rattle.defs_soar.specs.Pending.{Firable, is_of_operator_kind}
-use Rattle.defs_soar.specs.WaveAtHand.{BeforeWave, Fresh, Wave, all_fresh}
+use Rattle.defs_soar.specs.WaveAtHand.{BeforeWave, Fresh, Wave}
 use Rattle.defs_soar.specs.WaveFirings.{before_wave, first_wave, made_in, with_firing, with_firings}
 use Rattle.defs_soar.specs.Waves.{live_of}
 use Rattle.settling_laws.proofs.MemberLemmas.{filter_within, in_append}

@@ -1,5 +1,5 @@
 -- What settling leaves has only words of the table where what it began with had.
-use Rattle.std.proofs.Common.{◌≡◌, ℕ, zero, suc, ◌+◌, ◌<◌, ◌≤◌, ◌==◌, ◌&&◌, ◌||◌, Bool, true, false, not, cond, List, [], ◌∷◌, ◌++◌, filter, flat_map, length, Option, Some, None, is_some, subst, sym, arith}
+use Rattle.std.proofs.Common.{◌≡◌, ℕ, zero, suc, ◌<◌, ◌≤◌, ◌==◌, ◌&&◌, ◌||◌, Bool, true, false, not, cond, List, [], ◌∷◌, ◌++◌, filter, flat_map, length, Option, Some, None, is_some, subst, sym, arith}
 use Rattle.std.specs.Ordering.{is_lt}
 use Rattle.soar_sym.specs.Order.{triple_cmp}
 use Rattle.soar_sym.specs.Words.{Texts, IsKnown}
