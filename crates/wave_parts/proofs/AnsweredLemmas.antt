@@ -1,18 +1,14 @@
--- The answers of a wave.
-use Rattle.std.proofs.Common.{◌≡◌, ℕ, Bool, true, false, ◌&&◌, List, [], ◌∷◌, map, length, length-append, Ok, Err, refl, sym, ap, arith}
-use Rattle.std.specs.Prelude.{flat_map}
+-- Whether the work of a wave is none.
+use Rattle.std.proofs.Common.{◌≡◌, ℕ, Bool, true, false, ◌&&◌, List, [], ◌∷◌, map, length, length-append, Result, Ok, Err, refl, sym, ap, arith}
+use Rattle.std.specs.Prelude.{flat_map, IfOk}
 use Rattle.std.proofs.lemmas.List.{length-map}
 use Rattle.soar_wm.specs.declared.element.Element.{Element}
 use Rattle.defs_match.specs.Rules.{RuleOf}
 use Rattle.defs_match.specs.declared.instance.Instance.{Instance}
-use Rattle.defs_soar.specs.Agents.{Agent, LiveFiring}
-use Rattle.defs_soar.specs.Pending.{Firable, Work as WorkOf, firable_of, is_none, pending}
-use Rattle.wave_parts.specs.Carrying.{Carries, is_nothing, is_without, waved}
+use Rattle.defs_soar.specs.Agents.{LiveFiring}
+use Rattle.defs_soar.specs.Pending.{Firable, Work as WorkOf, firable_of, is_none}
+use Rattle.wave_parts.specs.Carrying.{is_nothing, is_without}
 use Rattle.wave_parts.specs.Firables.{AreBound, IsPending, firables_for, rules_of}
-use Rattle.wave_parts.specs.Seen.{WavesFrom, Writes, wave_at}
-use Rattle.wave_parts.specs.declared.parts.Parts.{Parts as PartsKept}
-use Rattle.soar_settle.specs.declared.stop.Stop.{Stop}
-use Rattle.soar_settle.specs.declared.stop.Stop.TheVariants as stop
 use Rattle.wave_parts.specs.declared.work.Work.{Work}
 
 -- ---- whether something is pending
@@ -26,7 +22,7 @@ some_fired rules elements (i ∷ instances) bound none =
 none_retracted : (numbers : List ℕ) → numbers ≡ [] → is_without numbers ≡ true
 none_retracted numbers h = ap is_without h
 
-pub something : (rules : List RuleOf) (elements : List Element) (work : Work) (w : WorkOf) → IsPending rules elements work w → AreBound rules work.fired → is_nothing work ≡ false → is_none w ≡ false
+something : (rules : List RuleOf) (elements : List Element) (work : Work) (w : WorkOf) → IsPending rules elements work w → AreBound rules work.fired → is_nothing work ≡ false → is_none w ≡ false
 something rules elements work w pend bound nothing = by w.retracted w.fired pend.retracted_are pend.fired_are
   where
     by : (gone : List LiveFiring) (firables : List Firable) → work.retracted ≡ map (λ l. l.number) gone → flat_map (firables_for rules elements) work.fired ≡ firables
@@ -35,25 +31,9 @@ something rules elements work w pend bound nothing = by w.retracted w.fired pend
     by [] (f ∷ firables) retracted fired = refl
     by (l ∷ gone) firables retracted fired = refl
 
--- ---- each answer
+-- ---- whether nothing is
 
-pub waves_err : (old new : PartsKept) (s : Agent) (before after : List ℕ) (why : Stop) → is_none (pending true s) ≡ false
-    → Carries new before after (wave_at s) (Err why) → WavesFrom old new s (Err why)
-waves_err old new s before after (stop.Limit which) some h = (some, h.passed)
-waves_err old new s before after stop.NoMemory some h = tt
-
-pub writes_err : (new : PartsKept) (s : Agent) (before after : List ℕ) (why : Stop) → Carries new before after (wave_at s) (Err why) → Writes s before after (Err why)
-writes_err new s before after (stop.Limit which) h = h.text
-writes_err new s before after stop.NoMemory h = tt
-
-pub waves_ok : (old new : PartsKept) (s : Agent) (before after : List ℕ) (halted : Bool) → is_none (pending true s) ≡ false
-    → Carries new before after (wave_at s) (Ok halted) → WavesFrom old new s (Ok (waved halted))
-waves_ok old new s before after true some h = (some, h.stepped, sym h.halted_is)
-waves_ok old new s before after false some h = (some, h.stepped, sym h.halted_is)
-
--- ---- whether there is work
-
-pub nothing : (rules : List RuleOf) (elements : List Element) (work : Work) (w : WorkOf) → IsPending rules elements work w → is_nothing work ≡ true → is_none w ≡ true
+nothing : (rules : List RuleOf) (elements : List Element) (work : Work) (w : WorkOf) → IsPending rules elements work w → is_nothing work ≡ true → is_none w ≡ true
 nothing rules elements work w pend h = by work.retracted work.fired w.retracted w.fired pend.retracted_are pend.fired_are h
   where
     by : (numbers : List ℕ) (instances : List Instance) (gone : List LiveFiring) (firables : List Firable) → numbers ≡ map (λ l. l.number) gone → flat_map (firables_for rules elements) instances ≡ firables
@@ -63,9 +43,14 @@ nothing rules elements work w pend h = by work.retracted work.fired w.retracted 
     by [] (i ∷ instances) gone firables retracted fired h = absurd (cc)
     by (n ∷ numbers) instances gone firables retracted fired h = absurd (cc)
 
-pub same_work : (rules : List RuleOf) (elements : List Element) (work : Work) (w : WorkOf) → IsPending rules elements work w → AreBound rules work.fired → is_nothing work ≡ is_none w
+same_work : (rules : List RuleOf) (elements : List Element) (work : Work) (w : WorkOf) → IsPending rules elements work w → AreBound rules work.fired → is_nothing work ≡ is_none w
 same_work rules elements work w pend bound = by (is_nothing work) refl
   where
     by : (b : Bool) → is_nothing work ≡ b → b ≡ is_none w
     by true h = sym (nothing rules elements work w pend h)
     by false h = sym (something rules elements work w pend bound h)
+
+pub same_answer : {E : Type 0} (rules : List RuleOf) (elements : List Element) (w : WorkOf) (r : Result Work E)
+    → IfOk r (λ work. IsPending rules elements work w) → IfOk r (λ work. AreBound rules work.fired) → IfOk r (λ work. is_nothing work ≡ is_none w)
+same_answer rules elements w (Ok work) pend bound = same_work rules elements work w pend bound
+same_answer rules elements w (Err why) pend bound = tt

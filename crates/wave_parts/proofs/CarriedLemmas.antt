@@ -1,16 +1,11 @@
 -- What carrying a wave out answers, where it stops and where it is done.
-use Rattle.std.proofs.Common.{◌≡◌, ℕ, ◌+◌, ◌≤◌, ◌∙◌, Bool, List, [], map, length, Result, Ok, Err, Some, None, refl, sym, ap, subst, arith}
+use Rattle.std.proofs.Common.{◌≡◌, ℕ, ◌+◌, ◌≤◌, ◌∙◌, List, map, length, Result, Ok, Err, Some, None, refl, sym, ap, subst, arith}
 use Rattle.std.proofs.lemmas.List.{length-map}
 use Rattle.soar_sym.specs.Words.{Texts}
-use Rattle.soar_sym.specs.declared.symbol.Sym.TheVariants.{Ident}
 use Rattle.soar_wm.specs.declared.element.Element.{Element}
 use Rattle.defs_match.specs.Rules.{RuleOf, rule_seen}
-use Rattle.defs_soar.specs.declared.goal.Goal.{Goal}
-use Rattle.defs_soar.specs.declared.goal.Impasse.TheVariants as impasse
-use Rattle.defs_soar.specs.declared.limit.Which.TheVariants as which
 use Rattle.defs_soar.specs.declared.preference.Preference.{Preference}
 use Rattle.defs_soar.specs.Agents.{Agent}
-use Rattle.defs_soar.specs.Decision.{new_goal}
 use Rattle.defs_soar.specs.History.{RecordedFiring}
 use Rattle.defs_soar.specs.Learning.{without_learning}
 use Rattle.defs_soar.specs.Limits.{first_passed}
@@ -25,8 +20,9 @@ use Rattle.wave_parts.specs.Counting.{Counts}
 use Rattle.wave_parts.specs.Firables.{IsPending}
 use Rattle.wave_parts.specs.FiresAll.{Begins, FiresAll, HasFired}
 use Rattle.soar_settle.specs.Renewal.{Renews, RenewsRows}
-use Rattle.wave_parts.specs.Seen.{agent_of, IsSound}
+use Rattle.wave_parts.specs.Seen.{agent_of, top_with, IsSound}
 use Rattle.wave_parts.specs.WaveParts.{fired_in, rows_made_in, rows_in_all}
+use Rattle.wave_parts.specs.declared.carrying.Done.{Done}
 use Rattle.wave_parts.specs.declared.parts.Parts.{Parts as PartsKept}
 use Rattle.wave_parts.specs.declared.firing.Fired.{Fired}
 use Rattle.soar_settle.specs.declared.stop.Stop.{Stop}
@@ -43,7 +39,7 @@ abbrev pub StopsAs : AgentStep → Stop → Type 0
 StopsAs s (stop.Limit limit) = first_passed s.totals ≡ Some limit
 StopsAs s stop.NoMemory = Unit {0}
 
-pub carries_not : (new : PartsKept) (text : List ℕ) (s : AgentStep) (r : Result Bool Stop) (why : Stop) → r ≡ Err why → StopsAs s why → Carries new text text s r
+pub carries_not : (new : PartsKept) (text : List ℕ) (s : AgentStep) (r : Result Done Stop) (why : Stop) → r ≡ Err why → StopsAs s why → Carries new text text s r
 carries_not new text s r why is stops = subst (Carries new text text s) (sym is) (by why stops)
   where
     by : (why : Stop) → StopsAs s why → Carries new text text s (Err why)
@@ -51,19 +47,16 @@ carries_not new text s r why is stops = subst (Carries new text text s) (sym is)
     by stop.NoMemory h = tt
 
 -- what carrying out does with each history it does in each state that the agent stands for
-pub of_each_wave : (old new : PartsKept) (work : Work) (before after : List ℕ) (r : Result Bool Stop)
+pub of_each_wave : (old new : PartsKept) (work : Work) (before after : List ℕ) (r : Result Done Stop)
     → ((history : List RecordedFiring) (w : WorkOf) → IsPending (map rule_seen old.rules) old.memory.elements work w → Carries new before after (wave_of without_learning (agent_of old history) w) r)
     → CarriesOut old new work before after r
 of_each_wave old new work before after r =
     of_each_state (λ (s : Agent). (w : WorkOf) → IsPending (map rule_seen old.rules) old.memory.elements work w → Carries new before after (wave_of without_learning s w) r) old
 
-abbrev pub top : Goal
-top = new_goal (Ident 83 1) impasse.Top []
-
 -- ---- counts
 
 pub waves_stop : (old : PartsKept) (history : List RecordedFiring) (w : WorkOf) (why : Stop) → IsSound old → Counts (old.waves + 1) (Err why) → StopsAs (wave_of without_learning (agent_of old history) w) why
-waves_stop old history w (stop.Limit limit) sound c = stops_at_waves (agent_of old history) w top sound.one_goal (omega (arith, c.1)) ∙ ap Some (sym c.0)
+waves_stop old history w (stop.Limit limit) sound c = stops_at_waves (agent_of old history) w (top_with sound.selected) sound.one_goal (omega (arith, c.1)) ∙ ap Some (sym c.0)
 waves_stop old history w stop.NoMemory sound c = tt
 
 pub retracted_length : (rules : List RuleOf) (elements : List Element) (work : Work) (w : WorkOf) → IsPending rules elements work w → length work.retracted ≡ length w.retracted
@@ -72,7 +65,7 @@ retracted_length rules elements work w pend = ap length pend.retracted_are ∙ l
 pub retractions_stop : (old : PartsKept) (history : List RecordedFiring) (work : Work) (w : WorkOf) (n : ℕ) (why : Stop) → IsSound old → IsPending (map rule_seen old.rules) old.memory.elements work w
     → old.waves + 1 ≤ 18446744073709551615 → n ≡ length work.retracted → Counts (old.retractions + n) (Err why) → StopsAs (wave_of without_learning (agent_of old history) w) why
 retractions_stop old history work w n (stop.Limit limit) sound pend few is c =
-    stops_at_retractions (agent_of old history) w top sound.one_goal (omega (arith, few)) (omega (arith, is, c.1, retracted_length _ _ work w pend)) ∙ ap Some (sym c.0)
+    stops_at_retractions (agent_of old history) w (top_with sound.selected) sound.one_goal (omega (arith, few)) (omega (arith, is, c.1, retracted_length _ _ work w pend)) ∙ ap Some (sym c.0)
 retractions_stop old history work w n stop.NoMemory sound pend few is c = tt
 
 pub counted_now : (old : PartsKept) (history : List RecordedFiring) (work : Work) (w : WorkOf) (n : ℕ) → IsPending (map rule_seen old.rules) old.memory.elements work w
@@ -84,7 +77,7 @@ counted_now old history work w n pend few is few_retractions = record {
 
 -- ---- firing
 
-abbrev begins_now : (old : PartsKept) (history : List RecordedFiring) → Begins old.table old.letters old.goals old.memory.elements old.firings (before_wave (agent_of old history)) (first_wave (agent_of old history))
+abbrev pub begins_now : (old : PartsKept) (history : List RecordedFiring) → Begins old.table old.letters old.goals old.memory.elements old.firings (before_wave (agent_of old history)) (first_wave (agent_of old history))
 begins_now old history = record {
   goals_are = refl;
   elements_are = refl;
@@ -103,7 +96,7 @@ pub firing_stop : (old : PartsKept) (history : List RecordedFiring) (work : Work
     → StopsAs (wave_of without_learning (agent_of old history) w) why
 firing_stop old history work w words letters (stop.Limit limit) sound pend counted all =
     let a = agent_of old history in
-    stops_in_firing a w top limit sound.one_goal counted
+    stops_in_firing a w (top_with sound.selected) limit sound.one_goal counted
     (subst (λ firables. first_passed (with_firings (before_wave a) (first_wave a) firables).totals ≡ Some limit) pend.fired_are (all (before_wave a) (first_wave a) (begins_now old history)))
 firing_stop old history work w words letters stop.NoMemory sound pend counted all = tt
 
@@ -143,7 +136,7 @@ pub rows_stop : (old : PartsKept) (history : List RecordedFiring) (work : Work) 
     → made ≡ rows_made_in (fired_in (agent_of old history) w) → first_passed (fired_in (agent_of old history) w).totals ≡ None
     → Renews old.prefs new work.retracted made (Err why) → StopsAs (wave_of without_learning (agent_of old history) w) why
 rows_stop old history work w new made (stop.Limit limit) sound pend counted same within over =
-    stops_at_rows (agent_of old history) w top sound.one_goal counted within (omega (arith, sound.row_limit, over.1, rows_all old history work w made pend same)) ∙ ap Some (sym over.0)
+    stops_at_rows (agent_of old history) w (top_with sound.selected) sound.one_goal counted within (omega (arith, sound.row_limit, over.1, rows_all old history work w made pend same)) ∙ ap Some (sym over.0)
 rows_stop old history work w new made stop.NoMemory sound pend counted same within over = tt
 
 pub rows_fit : (old : PartsKept) (history : List RecordedFiring) (work : Work) (w : WorkOf) (new : PreferenceMemory) (made : List Preference) → IsSound old

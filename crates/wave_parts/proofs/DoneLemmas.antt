@@ -1,5 +1,5 @@
 -- A wave that was carried out to its end, or that settling stopped.
-use Rattle.std.proofs.Common.{◌≡◌, ℕ, ◌+◌, ◌≤◌, ◌∙◌, ◌||◌, List, [], ◌∷◌, ◌++◌, map, flat_map, append-nil, Err, None, refl, sym, ap}
+use Rattle.std.proofs.Common.{◌≡◌, ℕ, ◌≤◌, ◌∙◌, ◌||◌, List, [], ◌∷◌, ◌++◌, map, flat_map, append-nil, Err, None, refl, sym, ap}
 use Rattle.soar_wm.specs.declared.element.Element.{Element}
 use Rattle.defs_soar.specs.declared.goal.Goal.{Goal}
 use Rattle.defs_soar.specs.Agents.{LiveFiring, Agent}
@@ -18,13 +18,13 @@ use Rattle.defs_soar.specs.Waves.{entry_events, retract_event, wave_of}
 use Rattle.wave_parts.specs.Carrying.{Carried}
 use Rattle.wave_parts.specs.FiresAll.{HasFired, texts_of_fresh}
 use Rattle.wave_parts.specs.Resettles.{IsResettled, Resettles, resettled_now}
-use Rattle.wave_parts.specs.Seen.{agent_of, IsSound, written_of}
+use Rattle.wave_parts.specs.Seen.{agent_of, top_with, IsSound, written_of}
 use Rattle.wave_parts.specs.WaveParts.{fired_in, held_after, rows_in_all, settled_after, unsettled}
 use Rattle.wave_parts.specs.declared.parts.Parts.{Parts as PartsKept}
 use Rattle.wave_parts.specs.declared.firing.Fired.{Fired}
 use Rattle.soar_settle.specs.declared.stop.Stop.{Stop}
 use Rattle.soar_settle.specs.declared.stop.Stop.TheVariants as stop
-use Rattle.wave_parts.proofs.CarriedLemmas.{StopsAs, top}
+use Rattle.wave_parts.proofs.CarriedLemmas.{StopsAs}
 use Rattle.wave_parts.proofs.CarryLemmas.{Counted, history_after, halted_is, past_rows, quiet_work, stands_after}
 use Rattle.wave_parts.proofs.FiredWaveLemmas.{tells_texts, unwritten, written_append}
 use Rattle.wave_parts.proofs.StandsLemmas.{stands_for, state_is}
@@ -65,7 +65,7 @@ pub settling_stop : (old mid new : PartsKept) (history : List RecordedFiring) (w
     → Resettles new (agent_of mid history) (Err why) → StopsAs (wave_of without_learning (agent_of old history) w) why
 settling_stop old mid new history w (stop.Limit limit) sound counted within room stands passed =
     let a = agent_of old history in
-    past_rows a w top sound.one_goal counted within room ∙ ap (λ s. first_passed s.totals) (sym (settles_same mid history a w.retracted (fired_in a w) stands)) ∙ passed
+    past_rows a w (top_with sound.selected) sound.one_goal counted within room ∙ ap (λ s. first_passed s.totals) (sym (settles_same mid history a w.retracted (fired_in a w) stands)) ∙ passed
 settling_stop old mid new history w stop.NoMemory sound counted within room stands passed = tt
 
 -- ---- the end
@@ -84,9 +84,9 @@ done old mid new history w count made before after sound counted fired room stan
     record {
       stepped = record {
         stands = stands_for (record new { halted = new.halted || made.halted }) (history_after a w) (halting (wave_of without_learning a w))
-            (stands_after a (agent_of new now.history) w top made.halted sound.one_goal (sym (state_is new now settled.stands) ∙ ap (λ s. s.agent) same) fired.halted_is);
-        within = past_rows a w top sound.one_goal counted fired.within room ∙ ap (λ s. first_passed s.totals) (sym same) ∙ settled.within;
+            (stands_after a (agent_of new now.history) w (top_with sound.selected) made.halted sound.one_goal (sym (state_is new now settled.stands) ∙ ap (λ s. s.agent) same) fired.halted_is);
+        within = past_rows a w (top_with sound.selected) sound.one_goal counted fired.within room ∙ ap (λ s. first_passed s.totals) (sym same) ∙ settled.within;
       };
-      halted_is = fired.halted_is ∙ sym (halted_is a w top sound.one_goal);
-      text = text ∙ ap (λ t. before ++ t) (fired.text_is ∙ sym (wave_written a w top sound.one_goal));
+      halted_is = fired.halted_is ∙ sym (halted_is a w (top_with sound.selected) sound.one_goal);
+      text = text ∙ ap (λ t. before ++ t) (fired.text_is ∙ sym (wave_written a w (top_with sound.selected) sound.one_goal));
     }

@@ -91,6 +91,11 @@ same_front m w f =
     append-nil _ ∙ rows_held m.reach.goals (suc w.last_firing) (is_of_operator_kind m.reach.goals f) (made_in w m f).wishes in
     rw (fresh_push w.entries x, flat_map-append rows_of_fresh (all_fresh w.entries) (x ∷ []), held, map-append live_of (all_fresh w.entries) (x ∷ []), flat_map-append text_of_fresh (all_fresh w.entries) (x ∷ []), append-nil (made_in w m f).text) refl
 
+-- the rows of one firing more stand behind those of the earlier ones
+pub rows_next : (m : BeforeWave) (w : Wave) (f : Firable)
+    → flat_map rows_of_fresh (all_fresh w.entries) ++ rows_made m.reach.goals f (suc w.last_firing) (made_in w m f).wishes ≡ flat_map rows_of_fresh (all_fresh (with_firing m w f).entries)
+rows_next m w f = ap (λ g. g.rows) (same_front m w f)
+
 agrees_by : (over : Bool) (passed : Option Which) (g : Gathered) (w : Wave) → g ≡ front w → first_passed w.totals ≡ or_limit (if over then Some which.Counts else None) passed
     → Agrees (if over then stopped which.Counts else within_limits passed g) w
 agrees_by true passed g w same totals = totals

@@ -1,11 +1,13 @@
 -- Known symbols stay known in a table that grows, and rows that are left or added are known.
-use Rattle.std.proofs.Common.{ℕ, ◌≤◌, Bool, true, false, not, cond, List, [], ◌∷◌, ◌++◌, filter, length}
+use Rattle.std.proofs.Common.{ℕ, ◌≤◌, Bool, true, false, not, cond, List, [], ◌∷◌, ◌++◌, filter, length, Option, Some, None}
 use Rattle.soar_sym.specs.Words.{Texts}
 use Rattle.soar_sym.specs.declared.symbol.Triple.{Triple}
 use Rattle.soar_wm.specs.declared.element.Element.{Element}
+use Rattle.defs_soar.specs.declared.goal.Selection.{Selection}
 use Rattle.defs_soar.specs.declared.preference.Preference.{Preference}
 use Rattle.defs_soar.specs.Preferences.{is_kept_already, with_row, with_rows, is_of_gone, without_firings, is_rejected_by, rows_after}
 use Rattle.soar_settle.specs.Known.{AreElementsKnown, AreRowsKnown, AreTriplesKnown}
+use Rattle.wave_parts.specs.Seen.{IsSelectionKnown}
 use Rattle.wave_parts.proofs.FiringKnown.{known_grown, are_rows_append}
 
 pub elements_grown : (old new : Texts) (elements : List Element) → length old ≤ length new → AreElementsKnown old elements → AreElementsKnown new elements
@@ -17,6 +19,10 @@ pub triples_grown : (old new : Texts) (triples : List Triple) → length old ≤
 triples_grown old new [] grown h = tt
 triples_grown old new (t ∷ triples) grown h =
     ((known_grown old new t.id grown h.0.0, known_grown old new t.attr grown h.0.1, known_grown old new t.value grown h.0.2), triples_grown old new triples grown h.1)
+
+pub selection_grown : (old new : Texts) (selected : Option Selection) → length old ≤ length new → IsSelectionKnown old selected → IsSelectionKnown new selected
+selection_grown old new None grown h = tt
+selection_grown old new (Some selection) grown h = known_grown old new selection.operator grown h
 
 pub rows_filtered : (words : Texts) (p : Preference → Bool) (rows : List Preference) → AreRowsKnown words rows → AreRowsKnown words (filter p rows)
 rows_filtered words p [] h = tt

@@ -1,26 +1,25 @@
 -- What settling leaves has only words of the table where what it began with had.
-use Rattle.std.proofs.Common.{◌≡◌, ℕ, zero, suc, ◌+◌, ◌<◌, ◌≤◌, ◌==◌, ◌&&◌, ◌||◌, Bool, true, false, not, cond, List, [], ◌∷◌, ◌++◌, filter, flat_map, length, is_some, subst, sym, arith}
+use Rattle.std.proofs.Common.{◌≡◌, ℕ, zero, suc, ◌<◌, ◌≤◌, ◌==◌, ◌&&◌, ◌||◌, Bool, true, false, not, cond, List, [], ◌∷◌, ◌++◌, filter, flat_map, length, Option, Some, None, is_some, subst, sym, arith}
 use Rattle.std.specs.Ordering.{is_lt}
 use Rattle.soar_sym.specs.Order.{triple_cmp}
 use Rattle.soar_sym.specs.Words.{Texts, IsKnown}
-use Rattle.soar_sym.specs.declared.symbol.Sym.TheVariants.{Ident}
 use Rattle.soar_sym.specs.declared.symbol.Triple.{Triple}
 use Rattle.soar_rule.specs.Repeat.{until_same}
 use Rattle.soar_rule.specs.Symbols.{AreKnown}
 use Rattle.soar_wm.specs.declared.element.Element.{Element}
 use Rattle.defs_soar.specs.declared.goal.Goal.{Goal}
-use Rattle.defs_soar.specs.declared.goal.Impasse.TheVariants as impasse
+use Rattle.defs_soar.specs.declared.goal.Selection.{Selection}
 use Rattle.defs_soar.specs.declared.preference.PrefKind.TheVariants as kind
 use Rattle.defs_soar.specs.declared.preference.Preference.{Preference}
-use Rattle.defs_soar.specs.Decision.{new_goal}
 use Rattle.defs_soar.specs.Dependencies.{symbols_of_wish}
-use Rattle.defs_soar.specs.Goals.{is_operator_slot, goal_elements}
+use Rattle.defs_soar.specs.Goals.{is_operator_slot, goal_elements, selected_element}
 use Rattle.defs_soar.specs.Held.{held, held_by, held_candidate, held_ordinary, is_rejected, marked_triple_of}
 use Rattle.defs_soar.specs.Levels.{reaches, level_in, is_level_one}
 use Rattle.defs_soar.specs.Settling.{Supports, count_of, one_settling, settled, kept_triples, stays, tagged, new_triples, elements_after}
 use Rattle.defs_soar.specs.Sorted.{with_triple_at, in_order}
 use Rattle.defs_soar.specs.Values.{is_kind}
 use Rattle.soar_settle.specs.Known.{AreElementsKnown, AreRowsKnown, AreTriplesKnown}
+use Rattle.wave_parts.specs.Seen.{IsSelectionKnown, top_with}
 use Rattle.soar_settle.proofs.FilterLemmas.{filter_shorter}
 
 -- ---- lists of triples, rows and elements
@@ -79,12 +78,12 @@ rows_hold words all goals [] h = tt
 rows_hold words all goals (row ∷ rows) h =
     triples_append words (held_by all goals row) (flat_map (held_by all goals) rows) (row_holds words all goals row h.0) (rows_hold words all goals rows h.1)
 
-abbrev pub top_goals : List Goal
-top_goals = new_goal (Ident 83 1) impasse.Top [] ∷ []
+abbrev pub top_goals : Option Selection → List Goal
+top_goals selected = top_with selected ∷ []
 
 -- the links and words of the top goal are the architecture's
-top_known : (words : Texts) → 7 ≤ length words → AreTriplesKnown words (goal_elements top_goals)
-top_known words h =
+top_known : (words : Texts) (selected : Option Selection) → 24 ≤ length words → AreTriplesKnown words (goal_elements (top_goals selected))
+top_known words selected h =
     let i : (65 ≤ 73) × (73 ≤ 90) = (omega arith, omega arith) in
     let s : (65 ≤ 83) × (83 ≤ 90) = (omega arith, omega arith) in
     let at_one : 1 < length words = omega arith in
@@ -96,19 +95,31 @@ top_known words h =
     let at_zero : 0 < length words = omega arith in
     ((i, at_three, i), ((i, at_four, i), ((s, at_two, i), ((s, at_five, at_one), ((s, at_six, at_zero), tt)))))
 
+-- so is the word of the element of a selected operator
+selected_known : (words : Texts) (selected : Option Selection) → 24 ≤ length words → IsSelectionKnown words selected → AreTriplesKnown words (flat_map selected_element (top_goals selected))
+selected_known words None h known = tt
+selected_known words (Some selection) h known =
+    let at_seven : 7 < length words = omega arith in
+    (((omega arith, omega arith), at_seven, known), tt)
+
 -- what stands in the lists that hold triples up
 pub record KnowsSupports (words : Texts) (s : Supports) : Type 0 where
   pub rows_known : AreRowsKnown words s.rows
   pub inputs_known : AreTriplesKnown words s.inputs
 
-held_known : (words : Texts) (s : Supports) → 7 ≤ length words → KnowsSupports words s → AreTriplesKnown words (held s.rows top_goals s.inputs)
-held_known words s first h =
-    triples_append words (goal_elements top_goals) _ (top_known words first)
-    (triples_append words s.inputs _ h.inputs_known (rows_hold words s.rows top_goals s.rows h.rows_known))
+held_known : (words : Texts) (selected : Option Selection) (s : Supports) → 24 ≤ length words → IsSelectionKnown words selected → KnowsSupports words s
+    → AreTriplesKnown words (held s.rows (top_goals selected) s.inputs)
+held_known words selected s first known h =
+    triples_append words (goal_elements (top_goals selected)) _ (top_known words selected first)
+    (triples_append words (flat_map selected_element (top_goals selected)) _ (selected_known words selected first known)
+    (triples_append words s.inputs _ h.inputs_known (rows_hold words s.rows (top_goals selected) s.rows h.rows_known)))
 
-pub kept_known : (words : Texts) (goals : List Goal) (s : Supports) → goals ≡ top_goals → 7 ≤ length words → KnowsSupports words s → AreTriplesKnown words (kept_triples goals s)
-kept_known words goals s top first h = subst (λ gs. AreTriplesKnown words (kept_triples gs s)) (sym top)
-    (triples_filter words (λ t. is_some (level_in top_goals (reaches top_goals (held s.rows top_goals s.inputs)) t.id)) (held s.rows top_goals s.inputs) (held_known words s first h))
+pub kept_known : (words : Texts) (goals : List Goal) (selected : Option Selection) (s : Supports) → goals ≡ top_goals selected → 24 ≤ length words → IsSelectionKnown words selected
+    → KnowsSupports words s → AreTriplesKnown words (kept_triples goals s)
+kept_known words goals selected s top first known h =
+    let all = held s.rows (top_goals selected) s.inputs in
+    subst (λ gs. AreTriplesKnown words (kept_triples gs s)) (sym top)
+    (triples_filter words (λ t. is_some (level_in (top_goals selected) (reaches (top_goals selected) all) t.id)) all (held_known words selected s first known h))
 
 -- ---- what is settled
 

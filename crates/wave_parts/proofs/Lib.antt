@@ -9,6 +9,7 @@ pub mod FiredWaveLemmas
 pub mod FiringAgreement
 pub mod FiringKnown
 pub mod FiringLemmas
+pub mod FitLemmas
 pub mod GrownLemmas
 pub mod KeyLemmas
 pub mod KnownLemmas

@@ -1,5 +1,5 @@
 -- From firings of the top goal nothing goes to higher goals.
-use Rattle.std.proofs.Common.{◌≡◌, ◌∙◌, ℕ, ◌≤◌, Bool, true, false, nat_lt, cond, List, [], ◌∷◌, map, refl, ap, arith}
+use Rattle.std.proofs.Common.{◌≡◌, ◌∙◌, ℕ, ◌≤◌, false, nat_lt, cond, List, [], ◌∷◌, map, refl, ap, arith}
 use Rattle.defs_soar.specs.Events.{by_instance}
 use Rattle.defs_soar.specs.Learning.{results_by_instance, without_learning}
 use Rattle.defs_soar.specs.LearnedFirings.{with_support_by}

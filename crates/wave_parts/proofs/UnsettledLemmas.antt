@@ -4,7 +4,6 @@ use Rattle.std.proofs.lemmas.List.{length-map}
 use Rattle.std.proofs.lemmas.List.Elements.{filter_agree}
 use Rattle.soar_sym.specs.Words.{Texts}
 use Rattle.defs_match.specs.Rules.{RuleOf, rule_seen}
-use Rattle.defs_soar.specs.declared.preference.Preference.{Preference}
 use Rattle.defs_soar.specs.Agents.{LiveFiring, Agent}
 use Rattle.defs_soar.specs.History.{RecordedFiring}
 use Rattle.defs_soar.specs.Pending.{Work as WorkOf}
@@ -14,13 +13,16 @@ use Rattle.defs_soar.specs.WaveAtHand.{Wave}
 use Rattle.defs_soar.specs.WaveFirings.{first_wave, before_wave}
 use Rattle.defs_soar.specs.Waves.{is_retracted, is_spent, without_spent}
 use Rattle.soar_prefs.specs.Memory.{PreferenceMemory}
+use Rattle.soar_choose.specs.Rows.{AreInRange}
+use Rattle.input_queue.specs.Seen.{triple_queued}
+use Rattle.row_laws.specs.Kept.{WaveKeepsRange}
 use Rattle.wave_parts.specs.Firables.{IsPending, live_seen}
 use Rattle.wave_parts.specs.FiresAll.{HasFired}
 use Rattle.soar_settle.specs.Known.{AreRowsKnown}
 use Rattle.wave_parts.specs.Living.{has_left, still_live}
 use Rattle.soar_settle.specs.Renewal.{RenewsRows}
 use Rattle.wave_parts.specs.Resettles.{resettled_now}
-use Rattle.wave_parts.specs.Seen.{AreNoJustifications, IsSound, agent_of}
+use Rattle.wave_parts.specs.Seen.{agent_of, AreAtTop, AreNoJustifications, IsSound}
 use Rattle.wave_parts.specs.WaveParts.{fired_in, live_after, rows_made_in, settled_after, unsettled}
 use Rattle.wave_parts.specs.declared.parts.Parts.{Parts as PartsKept}
 use Rattle.wave_parts.specs.declared.firing.Fired.{Fired}
@@ -29,7 +31,8 @@ use Rattle.wave_parts.specs.declared.work.Work.{Work}
 use Rattle.soar_settle.proofs.FilterLemmas.{filter_shorter}
 use Rattle.wave_parts.proofs.FiredWaveLemmas.{program_stays, learned_stays, tag_stays}
 use Rattle.wave_parts.proofs.FiringKnown.{are_rules_grown, are_rows_grown}
-use Rattle.wave_parts.proofs.GrownLemmas.{elements_grown, triples_grown, rows_after_known}
+use Rattle.wave_parts.proofs.FitLemmas.{renewed_at_top, IsFit}
+use Rattle.wave_parts.proofs.GrownLemmas.{elements_grown, selection_grown, triples_grown, rows_after_known}
 
 -- ---- rules
 
@@ -104,10 +107,12 @@ settles_same new history a gone v stands = ap resettled_now stands
 
 -- ---- what it keeps
 
-pub fired_sound : (old : PartsKept) (table : Texts) (letters : List ℕ) (prefs : PreferenceMemory) (live : List Live) (waves firings retractions : ℕ) (gone : List ℕ) (made : List Preference)
-    → IsSound old → length old.table ≤ length table → RenewsRows old.prefs prefs gone made → AreRowsKnown table made
+pub fired_sound : (old : PartsKept) (table : Texts) (letters : List ℕ) (prefs : PreferenceMemory) (live : List Live) (waves firings retractions : ℕ) (gone : List ℕ) (made : Fired)
+    → WaveKeepsRange → IsSound old → length old.table ≤ length table → RenewsRows old.prefs prefs gone made.rows
+    → map live_seen live ≡ still_live gone (map live_seen old.live) ++ map live_seen made.live → AreRowsKnown table made.rows → IsFit made
     → IsSound (fired_agent old table letters prefs live waves firings retractions)
-fired_sound old table letters prefs live waves firings retractions gone made sound grown renews known = record {
+fired_sound old table letters prefs live waves firings retractions gone made keeps sound grown renews lives known fit = record {
+  selected = sound.selected;
   one_goal = sound.one_goal;
   element_limit = sound.element_limit;
   row_limit = ap (λ p. p.limit) renews.rows ∙ sound.row_limit;
@@ -116,25 +121,33 @@ fired_sound old table letters prefs live waves firings retractions gone made sou
     ap (λ p. p.limit) renews.rows,
     ap (λ p. length p.rows) renews.rows,
     renews.room,
-    filter_shorter (λ row. not (is_rejected_by made row)) (with_rows (without_firings old.prefs.rows gone) made),
+    filter_shorter (λ row. not (is_rejected_by made.rows row)) (with_rows (without_firings old.prefs.rows gone) made.rows),
   );
+  rows_in_range = subst AreInRange (sym (ap (λ p. p.rows) renews.rows)) (keeps old.prefs.rows gone made.rows sound.rows_in_range fit.rows_in_range);
+  live_at_top = subst AreAtTop (sym lives) (renewed_at_top gone (map live_seen old.live) (map live_seen made.live) sound.live_at_top fit.at_top);
   first_words = omega (arith, sound.first_words, grown);
   numbered = sound.numbered;
   numbers_given = sound.numbers_given;
   none_learned = sound.none_learned;
   rules_known = are_rules_grown old.table table (map rule_seen old.rules) grown sound.rules_known;
   elements_known = elements_grown old.table table old.memory.elements grown sound.elements_known;
-  rows_known = subst (AreRowsKnown table) (sym (ap (λ p. p.rows) renews.rows)) (rows_after_known table old.prefs.rows made gone (are_rows_grown old.table table old.prefs.rows grown sound.rows_known) known);
+  rows_known = subst (AreRowsKnown table) (sym (ap (λ p. p.rows) renews.rows)) (rows_after_known table old.prefs.rows made.rows gone (are_rows_grown old.table table old.prefs.rows grown sound.rows_known) known);
   inputs_known = triples_grown old.table table old.inputs grown sound.inputs_known;
+  queue_known = triples_grown old.table table (map triple_queued old.queue) grown sound.queue_known;
+  output_known = triples_grown old.table table old.output grown sound.output_known;
+  selection_known = selection_grown old.table table sound.selected grown sound.selection_known;
 }
 
 -- a halt changes nothing that is kept
 pub halted_sound : (a : PartsKept) (halted : Bool) → IsSound a → IsSound (record a { halted = halted })
 halted_sound a halted s = record {
+  selected = s.selected;
   one_goal = s.one_goal;
   element_limit = s.element_limit;
   row_limit = s.row_limit;
   few_rows = s.few_rows;
+  rows_in_range = s.rows_in_range;
+  live_at_top = s.live_at_top;
   first_words = s.first_words;
   numbered = s.numbered;
   numbers_given = s.numbers_given;
@@ -143,4 +156,7 @@ halted_sound a halted s = record {
   elements_known = s.elements_known;
   rows_known = s.rows_known;
   inputs_known = s.inputs_known;
+  queue_known = s.queue_known;
+  output_known = s.output_known;
+  selection_known = s.selection_known;
 }

@@ -75,7 +75,7 @@ pub record IsSound (a : PartsKept) : Type 0 where
   pub few_rows : length a.prefs.rows ≤ a.prefs.limit
   pub rows_in_range : AreInRange a.prefs.rows
   pub live_at_top : AreAtTop (map live_seen a.live)
-  pub first_words : 7 ≤ length a.table
+  pub first_words : 24 ≤ length a.table
   pub numbered : AreNumbered (map rule_seen a.rules)
   pub numbers_given : AreUpTo a.last_rule (map rule_seen a.rules)
   pub none_learned : AreNoJustifications (map rule_seen a.rules)

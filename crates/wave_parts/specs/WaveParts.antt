@@ -1,5 +1,5 @@
 -- The parts of a wave, one after the other, as the code goes through them.
-use Rattle.std.specs.Prelude.{ℕ, ◌+◌, not, List, [], ◌++◌, map, flat_map, filter, length}
+use Rattle.std.specs.Prelude.{ℕ, not, List, [], ◌++◌, map, flat_map, filter, length}
 use Rattle.defs_soar.specs.declared.preference.Preference.{Preference}
 use Rattle.defs_soar.specs.Agents.{LiveFiring, Agent}
 use Rattle.defs_soar.specs.Pending.{Work}

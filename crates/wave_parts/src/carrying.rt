@@ -12,6 +12,7 @@ use crate::firing::{Fired, fire_all};
 use crate::living::renew_live;
 use crate::parts::Parts;
 use crate::work::Work;
+use row_laws::rows_fit_decisions;
 use soar_settle::{Changes, Stop, renew};
 use soar_sym::Text;
 use std::alloc::Global;
@@ -34,6 +35,7 @@ impl Parts {
         ensures rules { self.new.rules ≡ self.old.rules }
         ensures sound { IfOk result (λ _. IsSound self.new) }
     {
+        rows_fit_decisions();
         let waves = count_more(self.waves, 1)?;
         let retractions = count_more(self.retractions, work.retracted.len() as u64)?;
         let fired = fire_all(

@@ -7,6 +7,7 @@ ghost use Rattle.wave_parts.specs.Stands.{Stands};
 
 use crate::parts::Parts;
 use matching_laws::changes_are_told;
+use row_laws::rows_fit_decisions;
 use soar_settle::{Changes, Stop, retag, settle};
 use std::alloc::Global;
 
@@ -21,6 +22,7 @@ impl Parts {
         ensures sound { IfOk result (λ _. IsSound self.new) }
     {
         changes_are_told();
+        rows_fit_decisions();
         let kept = settle(alloc, &self.goals, &mut self.prefs, &mut self.inputs)?;
         retag(alloc, &self.table, &self.goals, &kept, &mut self.memory)
     }

@@ -14,8 +14,10 @@ use Rattle.wave_parts.proofs.work.pending.Goals as goal
 pub ready-requires : goal.ready-requires
 ready-requires c =
     let seen = map rule_seen c.as_slice-rules.result.now in
+    let elements = c.args.memory.now.elements in
     let numbered = subst (λ rules. AreNumbered (map rule_seen rules)) (sym c.as_slice-rules.ensures) c.requires.numbered in
-    record { bound = subst (AreBound seen) (sym c.in_ok-instances.ensures) (bound_conflict seen c.as_slice.result.now numbered) }
+    let is : c.args.instances ≡ conflict seen elements = c.requires.conflict ∙ ap (λ rules. conflict (map rule_seen rules) elements) (sym c.as_slice-rules.ensures) in
+    record { bound = subst (AreBound seen) (sym is) (bound_conflict seen elements numbered) }
 
 pub returns : goal.returns
 returns c =
@@ -24,21 +26,19 @@ returns c =
     let goals = c.args.goals.now in
     let live = map live_seen c.args.live.now in
     let fires = fires_now c.args.proposing in
-    let now : c.in_ok-instances.instances ≡ conflict rules elements =
-    c.in_ok-instances.ensures
-    ∙ ap₂ (λ rs es. conflict (map rule_seen rs) es) c.as_slice-rules.ensures (c.as_slice.ensures ∙ c.in_ok-elements.ensures.elements) in
+    let now = c.requires.conflict in
     let seen = map live_seen c.as_slice-live.result.now in
     let gone =
-    c.as_slice-4.ensures ∙ c.in_ok-gone.ensures
-    ∙ ap (map gone_of) (gone_agree c.as_slice-2.result.now c.in_ok-matched.matched c.in_ok-matched.ensures seen)
-    ∙ ap₂ (λ is ls. map gone_of (filter (λ l. not (is_listed is l.instance)) (map live_seen ls))) (c.as_slice-2.ensures ∙ now) c.as_slice-live.ensures in
+    c.as_slice-3.ensures ∙ c.in_ok-gone.ensures
+    ∙ ap (map gone_of) (gone_agree c.as_slice.result.now c.in_ok-matched.matched c.in_ok-matched.ensures seen)
+    ∙ ap₂ (λ is ls. map gone_of (filter (λ l. not (is_listed is l.instance)) (map live_seen ls))) (c.as_slice.ensures ∙ now) c.as_slice-live.ensures in
     let ready =
     c.in_ok-ready.ensures
-    ∙ ready_agree c.args.proposing (map rule_seen c.as_slice-rules.result.now) elements goals seen c.in_ok-living.living c.in_ok-living.ensures c.in_ok-instances.instances
-    ∙ ap₂ (λ rs ls. filter (fires (map rule_seen rs) elements goals (map live_seen ls)) c.in_ok-instances.instances) c.as_slice-rules.ensures c.as_slice-live.ensures
+    ∙ ready_agree c.args.proposing (map rule_seen c.as_slice-rules.result.now) elements goals seen c.in_ok-living.living c.in_ok-living.ensures c.args.instances
+    ∙ ap₂ (λ rs ls. filter (fires (map rule_seen rs) elements goals (map live_seen ls)) c.args.instances) c.as_slice-rules.ensures c.as_slice-live.ensures
     ∙ ap (filter (fires rules elements goals live)) now in
     let active =
-    ap (λ gs. active_of gs elements c.as_slice-4.result.now c.in_ok-ready.ready) c.as_slice-3.ensures
+    ap (λ gs. active_of gs elements c.as_slice-3.result.now c.in_ok-ready.ready) c.as_slice-2.ensures
     ∙ ap₂ (active_of goals elements) gone ready in
     let result = c.of_active_level.result in
     let all : IfOk result (Promised c.args.proposing rules elements goals live c.requires.numbered) =
