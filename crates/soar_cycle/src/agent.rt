@@ -27,9 +27,13 @@ pub struct Agent<M: Matcher> {
 }
 
 impl<M: Matcher> Model for Agent<M> {
+    ghost use Rattle.std.specs.Coded.{codes};
+    ghost use Rattle.defs_match.specs.contracts.rule.Rule as rule;
     ghost use Rattle.soar_cycle.specs.Agents.{AgentSeen, IsBound, agent_seen};
 
     ghost Value = { AgentSeen };
+
+    ghost coded = { Prim.hlevel (codes, rule.the_row.coded) };
 
     ghost view = { λ a. agent_seen a.engine.parts a.mid_line a.standing };
 

@@ -29,7 +29,7 @@ impl<M: Matcher> Agent<M> {
         ensures sound { IsSoundAgent self.new }
         ensures unwritten { result ≡ Err Stop.NoMemory → text.new ≡ text.old }
     {
-        let _ = (phase, text);
+        let _ = (phase, text.len());
         self.standing = Standing::OutOfMemory;
         Err(Stop::NoMemory)
     }
@@ -44,7 +44,7 @@ impl<M: Matcher> Agent<M> {
         ensures sound { IsSoundAgent self.new }
         ensures unwritten { result ≡ Err Stop.NoMemory → text.new ≡ text.old }
     {
-        let _ = (phase, text);
+        let _ = (phase, text.len());
         self.standing = Standing::OutOfMemory;
         Err(Stop::NoMemory)
     }
@@ -59,7 +59,7 @@ impl<M: Matcher> Agent<M> {
         ensures sound { IsSoundAgent self.new }
         ensures unwritten { result ≡ Err Stop.NoMemory → text.new ≡ text.old }
     {
-        let _ = (text);
+        let _ = text.len();
         self.standing = Standing::OutOfMemory;
         Err(Stop::NoMemory)
     }
@@ -74,7 +74,7 @@ impl<M: Matcher> Agent<M> {
         ensures sound { IsSoundAgent self.new }
         ensures unwritten { result ≡ Err Stop.NoMemory → text.new ≡ text.old }
     {
-        let _ = (text);
+        let _ = text.len();
         self.standing = Standing::OutOfMemory;
         Err(Stop::NoMemory)
     }
