@@ -1,9 +1,8 @@
 -- An agent as its callers see it: its parts, whether what it wrote ends in the middle of a line, and whether it stands for a state.
-use Rattle.std.specs.Prelude.{◌≡◌, Bool, List, Result, Ok, Err}
+use Rattle.std.specs.Prelude.{◌≡◌, Bool, List, Option, Some, None, Result, Ok, Err}
 use Rattle.soar_sym.specs.Words.{Texts}
 use Rattle.soar_wm.specs.declared.element.Element.{Element}
 use Rattle.defs_match.specs.Rules.{RuleOf}
-use Rattle.defs_soar.specs.declared.limit.Which.{Which}
 use Rattle.soar_settle.specs.declared.stop.Stop.{Stop}
 use Rattle.soar_settle.specs.declared.stop.Stop.TheVariants as stop
 use Rattle.wave_parts.specs.Seen.{IsSound}
@@ -30,11 +29,14 @@ IsSoundAgent a = a.standing ≡ standing.Stands → IsSound a.parts
 
 -- ---- the answers of an agent that stands for no state
 
--- after want of memory that again; after a limit the same limit again
+-- what it answers: after want of memory that again, after a limit the same limit again
+abbrev pub stop_of : Standing → Option Stop
+stop_of standing.Stands = None
+stop_of standing.OutOfMemory = Some stop.NoMemory
+stop_of (standing.PastLimit limit) = Some (stop.Limit limit)
+
 abbrev pub IsStopped : {T : Type 0} → Standing → Result T Stop → Type 0
-IsStopped standing.Stands result = Unit {0}
-IsStopped standing.OutOfMemory result = result ≡ Err stop.NoMemory
-IsStopped (standing.PastLimit limit) result = result ≡ Err (stop.Limit limit)
+IsStopped s result = (why : Stop) → stop_of s ≡ Some why → result ≡ Err why
 
 -- what an answer leaves
 abbrev pub standing_after : {T : Type 0} → Standing → Result T Stop → Standing

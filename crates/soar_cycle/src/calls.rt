@@ -1,5 +1,5 @@
 // The calls by which a session works. Each changes the part of the state that it names.
-ghost use Rattle.std.specs.Prelude.{◌≡◌, ◌≤◌, false, map, true, IfOk};
+ghost use Rattle.std.specs.Prelude.{◌≡◌, ◌≤◌, false, map, true, Ok, Err, IfOk, MatchResult};
 ghost use Rattle.defs_soar.specs.Agents.{Agent as AgentOf};
 ghost use Rattle.soar_cycle.specs.Agents.{IsSoundAgent, IsStopped, standing_after};
 ghost use Rattle.wave_parts.specs.Stands.{Stands};
@@ -14,10 +14,10 @@ ghost use Rattle.cycle_parts.specs.Calls.{GivesFresh, IsTripleKnown, input_step,
 ghost use Rattle.cycle_parts.specs.Stepping.{QuietStep};
 
 use crate::agent::Agent;
-use crate::standing::Standing;
+use crate::standing::{Standing, standing_after};
 use defs_match::{Instance, Matcher};
 use soar_rule::Production;
-use soar_sym::{List, Sym, Triple};
+use soar_sym::{List, NoMemory, Sym, Triple};
 use wave_parts::Stop;
 
 impl<M: Matcher> Agent<M> {
@@ -33,9 +33,12 @@ impl<M: Matcher> Agent<M> {
         ensures sound { IsSoundAgent self.new }
         ensures mid_line { self.new.mid_line ≡ self.old.mid_line }
     {
-        let _ = (production);
-        self.standing = Standing::OutOfMemory;
-        Err(Stop::NoMemory)
+        if let Some(stop) = self.standing.stop() {
+            return Err(stop);
+        }
+        let answer = self.engine.load(production);
+        self.standing = standing_after(self.standing, &answer);
+        answer
     }
 
     /// Adds a triple to the inputs, or takes it out, and settles. It writes nothing.
@@ -48,9 +51,12 @@ impl<M: Matcher> Agent<M> {
         ensures sound { IsSoundAgent self.new }
         ensures mid_line { self.new.mid_line ≡ self.old.mid_line }
     {
-        let _ = (adds, triple);
-        self.standing = Standing::OutOfMemory;
-        Err(Stop::NoMemory)
+        if let Some(stop) = self.standing.stop() {
+            return Err(stop);
+        }
+        let answer = self.engine.input_now(self.alloc, adds, triple);
+        self.standing = standing_after(self.standing, &answer);
+        answer
     }
 
     /// Queues a change of the inputs for the next input phase: the triple joins them, or leaves.
@@ -63,9 +69,12 @@ impl<M: Matcher> Agent<M> {
         ensures sound { IsSoundAgent self.new }
         ensures mid_line { self.new.mid_line ≡ self.old.mid_line }
     {
-        let _ = (adds, triple);
-        self.standing = Standing::OutOfMemory;
-        Err(Stop::NoMemory)
+        if let Some(stop) = self.standing.stop() {
+            return Err(stop);
+        }
+        let answer = self.engine.queue(adds, triple);
+        self.standing = standing_after(self.standing, &answer);
+        answer
     }
 
     /// Puts random words behind those that wait for draws.
@@ -77,9 +86,12 @@ impl<M: Matcher> Agent<M> {
         ensures sound { IsSoundAgent self.new }
         ensures mid_line { self.new.mid_line ≡ self.old.mid_line }
     {
-        let _ = (words);
-        self.standing = Standing::OutOfMemory;
-        Err(Stop::NoMemory)
+        if let Some(stop) = self.standing.stop() {
+            return Err(stop);
+        }
+        let answer = self.engine.random(words.as_slice());
+        self.standing = standing_after(self.standing, &answer);
+        answer
     }
 
     /// Gives a new identifier of a letter, `A` to `Z`.
@@ -95,9 +107,12 @@ impl<M: Matcher> Agent<M> {
         ensures sound { IsSoundAgent self.new }
         ensures mid_line { self.new.mid_line ≡ self.old.mid_line }
     {
-        let _ = (letter);
-        self.standing = Standing::OutOfMemory;
-        Err(Stop::NoMemory)
+        if let Some(stop) = self.standing.stop() {
+            return Err(stop);
+        }
+        let answer = self.engine.fresh(letter);
+        self.standing = standing_after(self.standing, &answer);
+        answer
     }
 
     /// The conflict set, in order of rule number and then of tags.
@@ -110,7 +125,21 @@ impl<M: Matcher> Agent<M> {
         ensures sound { IsSoundAgent self.new }
         ensures mid_line { self.new.mid_line ≡ self.old.mid_line }
     {
-        self.standing = Standing::OutOfMemory;
-        Err(Stop::NoMemory)
+        if let Some(stop) = self.standing.stop() {
+            return Err(stop);
+        }
+        let answer = as_stop(self.engine.conflict(self.alloc));
+        self.standing = standing_after(self.standing, &answer);
+        answer
+    }
+}
+
+/// Want of memory is all that a matcher may answer.
+fn as_stop(answer: Result<List<Instance>, NoMemory>) -> Result<List<Instance>, Stop>
+    ensures { MatchResult answer (λ instances. result ≡ Ok instances) (λ _. result ≡ Err Stop.NoMemory) }
+{
+    match answer {
+        Ok(instances) => Ok(instances),
+        Err(NoMemory) => Err(Stop::NoMemory),
     }
 }

@@ -1,4 +1,8 @@
+ghost use Rattle.std.specs.Prelude.{◌≡◌};
+ghost use Rattle.soar_cycle.specs.Agents.{standing_after, stop_of};
+
 use defs_soar::Which;
+use wave_parts::Stop;
 
 /// Whether an agent stands for a state of the definitions.
 #[derive(Clone, Copy, PartialEq, Eq)]
@@ -11,4 +15,28 @@ pub enum Standing {
 
     /// A step would have passed a limit, and it answers that from then on.
     PastLimit(Which),
+}
+
+impl Standing {
+    /// What an agent answers that stands for no state.
+    pub fn stop(self) -> Option<Stop>
+        ensures { result ≡ stop_of self }
+    {
+        match self {
+            Standing::Stands => None,
+            Standing::OutOfMemory => Some(Stop::NoMemory),
+            Standing::PastLimit(limit) => Some(Stop::Limit(limit)),
+        }
+    }
+}
+
+/// What an answer leaves.
+pub fn standing_after<T>(standing: Standing, answer: &Result<T, Stop>) -> Standing
+    ensures { result ≡ standing_after standing answer.now }
+{
+    match answer {
+        Ok(_) => standing,
+        Err(Stop::NoMemory) => Standing::OutOfMemory,
+        Err(Stop::Limit(limit)) => Standing::PastLimit(*limit),
+    }
 }
