@@ -1,1 +1,4 @@
 pub mod CallLemmas
+pub mod CourseLemmas
+pub mod GoingLemmas
+pub mod PhaseLemmas

@@ -1,2 +1,4 @@
 pub mod Agents
 pub mod Courses
+pub mod Going
+pub mod Telling
