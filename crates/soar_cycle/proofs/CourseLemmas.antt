@@ -164,7 +164,7 @@ goes_then mid middle new_mid c d old new before between after (Err (stop.Limit l
 goes_then mid middle new_mid c d old new before between after (Err stop.NoMemory) first goes = tt
 
 -- where the course stopped, further steps change nothing
-pub stopped_more : {T S : Type 0} (mid new_mid : Bool) (c d : Course) (more : List Said) (old new : PartsKept) (before after : List ℕ) (why : Stop) → d.steps ≡ c.steps ++ more
-    → Goes {T = T} mid c old new_mid before after (Err why) → Goes {T = S} mid d new new_mid before after (Err why)
-stopped_more mid new_mid c d more old new before after (stop.Limit limit) are goes = passed_more mid new_mid c d more before after limit are goes
-stopped_more mid new_mid c d more old new before after stop.NoMemory are goes = tt
+pub stopped_more : (S T : Type 0) (mid new_mid : Bool) (c d : Course) (more : List Said) (old new : PartsKept) (before after : List ℕ) (why : Stop) → d.steps ≡ c.steps ++ more
+    → Goes {T = S} mid c old new_mid before after (Err why) → Goes {T = T} mid d new new_mid before after (Err why)
+stopped_more S T mid new_mid c d more old new before after (stop.Limit limit) are goes = passed_more mid new_mid c d more before after limit are goes
+stopped_more S T mid new_mid c d more old new before after stop.NoMemory are goes = tt

@@ -1,4 +1,5 @@
 pub mod CallLemmas
 pub mod CourseLemmas
+pub mod CycleLemmas
 pub mod GoingLemmas
 pub mod PhaseLemmas
