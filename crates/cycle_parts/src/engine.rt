@@ -7,6 +7,7 @@ ghost use Rattle.wave_parts.specs.Seen.{IsSound};
 ghost use Rattle.wave_parts.specs.Stands.{Stands};
 
 use defs_match::{Instance, Matcher};
+use crate::taking::take_in;
 use soar_sym::{List, NoMemory};
 use std::alloc::Global;
 use wave_parts::Parts;
@@ -18,9 +19,9 @@ pub struct Engine<M: Matcher> {
     pub matcher: M,
 }
 
-impl<M: Matcher> Engine<M> {
+impl<M: Matcher + Drop> Engine<M> {
     /// The top state with its input and output links, and no rule.
-    pub fn new(alloc: Global, matcher: M) -> Result<Engine<M>, NoMemory>
+    pub fn new(alloc: Global, mut matcher: M) -> Result<Engine<M>, NoMemory>
         requires works { M.failed matcher ≡ false }
         requires rules { M.rules matcher ≡ [] }
         requires elements { M.elements matcher ≡ [] }
@@ -28,10 +29,15 @@ impl<M: Matcher> Engine<M> {
         ensures sound { IfOk result (λ engine. IsSound engine.parts) }
         ensures bond { IfOk result (λ engine. Bond (M.rules engine.matcher) (M.elements engine.matcher) (M.failed engine.matcher) engine.parts) }
     {
-        let _ = (alloc, matcher);
-        Err(NoMemory)
+        let parts = Parts::new(alloc)?;
+        let elements = parts.memory.all(alloc)?;
+        take_in(&mut matcher, elements.as_slice())?;
+        Ok(Engine { parts, matcher })
     }
 
+}
+
+impl<M: Matcher> Engine<M> {
     /// The conflict set.
     pub fn conflict(&mut self, alloc: Global) -> Result<List<Instance>, NoMemory>
         requires bond { Bond (M.rules self.old.matcher) (M.elements self.old.matcher) (M.failed self.old.matcher) self.old.parts }
