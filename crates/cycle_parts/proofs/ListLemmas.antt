@@ -1,9 +1,5 @@
--- One item more, or less, of a list that a loop goes through.
-use Rattle.std.proofs.Common.{◌≡◌, ℕ, zero, suc, ◌+◌, ◌<◌, Bool, true, false, cond, List, [], ◌∷◌, ◌++◌, length, map, filter, take, drop, remove, get_or, refl, sym, ap, ◌∙◌, arith, add-one, drop-cons}
-
--- the item at a place, and those behind it
-pub drop_item : {A : Type 0} (xs : List A) (i : ℕ) (x : A) → i < length xs → x ≡ get_or xs i x → drop i xs ≡ x ∷ drop (i + 1) xs
-drop_item xs i x within at = drop-cons xs i x within ∙ rw (← at, add-one i) refl
+-- One item less of a list that a loop goes through.
+use Rattle.std.proofs.Common.{◌≡◌, ℕ, zero, suc, ◌<◌, Bool, false, cond, List, [], ◌∷◌, ◌++◌, length, map, filter, take, drop, remove, get_or, refl, sym, ap, ◌∙◌, arith}
 
 pub map_remove : {A B : Type 0} (f : A → B) (xs : List A) (i : ℕ) → map f (remove xs i) ≡ remove (map f xs) i
 map_remove f [] zero = refl

@@ -6,8 +6,8 @@ ghost use Rattle.cycle_parts.specs.Bonds.{Bond};
 ghost use Rattle.wave_parts.specs.Seen.{IsSound};
 ghost use Rattle.wave_parts.specs.Stands.{Stands};
 
-use defs_match::{Instance, Matcher};
 use crate::taking::take_in;
+use defs_match::{Instance, Matcher};
 use soar_sym::{List, NoMemory};
 use std::alloc::Global;
 use wave_parts::Parts;
@@ -34,7 +34,6 @@ impl<M: Matcher + Drop> Engine<M> {
         take_in(&mut matcher, elements.as_slice())?;
         Ok(Engine { parts, matcher })
     }
-
 }
 
 impl<M: Matcher> Engine<M> {

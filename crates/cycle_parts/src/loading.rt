@@ -11,8 +11,8 @@ ghost use Rattle.cycle_parts.specs.Stepping.{QuietStep};
 ghost use Rattle.wave_parts.specs.Seen.{IsSound};
 ghost use Rattle.wave_parts.specs.Stands.{Stands};
 
-use crate::engine::Engine;
 use crate::dropping::drop_named;
+use crate::engine::Engine;
 use defs_match::{Matcher, Rule};
 use soar_rule::Production;
 use wave_parts::{Stop, count_more};

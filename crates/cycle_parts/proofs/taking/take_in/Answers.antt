@@ -1,4 +1,4 @@
-use Rattle.std.proofs.Common.{◌≡◌, ◌+◌, drop, ap, sym, subst, ◌∙◌}
+use Rattle.std.proofs.Common.{◌+◌, drop, ap, sym, subst, ◌∙◌}
 use Rattle.matching_laws.specs.Telling.{AreInsertable, with_each}
 use Rattle.cycle_parts.proofs.TakingLemmas.{next_is_new, next_joins}
 use Rattle.cycle_parts.proofs.taking.take_in.Goals as goal

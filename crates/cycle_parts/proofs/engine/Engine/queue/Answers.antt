@@ -1,4 +1,3 @@
-use Rattle.std.proofs.Common.{◌≡◌}
 use Rattle.cycle_parts.proofs.SoundLemmas.{sound_queued}
 use Rattle.cycle_parts.proofs.engine.Engine.queue.Goals as goal
 
