@@ -3,6 +3,7 @@
 #![tactic(auto)]
 
 mod deciding;
+mod dropping;
 mod engine;
 mod fresh;
 mod input_phase;
@@ -11,7 +12,9 @@ mod loading;
 mod output_phase;
 mod queues;
 mod settling;
+mod taking;
 mod telling;
+mod triples;
 mod waving;
 
 pub use engine::Engine;

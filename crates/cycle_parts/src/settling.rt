@@ -18,6 +18,7 @@ impl<M: Matcher> Engine<M> {
         requires sound { IsSound self.old.parts }
         requires bond { Bond (M.rules self.old.matcher) (M.elements self.old.matcher) (M.failed self.old.matcher) self.old.parts }
         ensures settled { (s : AgentOf) → Stands self.old.parts s → QuietStep (resettled_now s) self.new.parts result }
+        ensures table { self.new.parts.table ≡ self.old.parts.table }
         ensures sound { OnOk result (IsSound self.new.parts) }
         ensures bond { OnOk result (Bond (M.rules self.new.matcher) (M.elements self.new.matcher) (M.failed self.new.matcher) self.new.parts) }
     {
