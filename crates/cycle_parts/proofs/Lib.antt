@@ -1,5 +1,7 @@
 pub mod EventLemmas
+pub mod InputLemmas
 pub mod QuietLemmas
+pub mod SoundLemmas
 pub mod SteppingLemmas
 pub mod TextLemmas
 pub mod WavingLemmas
