@@ -10,7 +10,7 @@ use Rattle.defs_run.specs.Carrying.{is_named}
 use Rattle.wave_parts.specs.Seen.{AreUpTo, IsSound}
 use Rattle.wave_parts.specs.declared.parts.Parts.{Parts as PartsKept}
 use Rattle.cycle_parts.proofs.NumberLemmas.{none_numbered, with_last_rule}
-use Rattle.cycle_parts.proofs.SoundLemmas.{up_to_filter}
+use Rattle.cycle_parts.proofs.LoadedLemmas.{up_to_filter}
 
 -- those that do not have the name
 abbrev pub unnamed : Sym → List RuleOf → List RuleOf

@@ -23,7 +23,7 @@ impl<M: Matcher> Engine<M> {
         ensures sound { OnOk result (IsSound self.new.parts) }
         ensures bond { OnOk result (Bond (M.rules self.new.matcher) (M.elements self.new.matcher) (M.failed self.new.matcher) self.new.parts) }
     {
-        let _ = (alloc, out, mid_line);
+        let _ = (alloc, out.len(), *mid_line);
         Err(Stop::NoMemory)
     }
 }

@@ -8,6 +8,7 @@ ghost use Rattle.wave_parts.specs.Seen.{IsSound};
 ghost use Rattle.wave_parts.specs.Stands.{Stands};
 
 use crate::engine::Engine;
+use crate::telling::tell;
 use defs_match::Matcher;
 use std::alloc::Global;
 use wave_parts::Stop;
@@ -22,7 +23,8 @@ impl<M: Matcher> Engine<M> {
         ensures sound { OnOk result (IsSound self.new.parts) }
         ensures bond { OnOk result (Bond (M.rules self.new.matcher) (M.elements self.new.matcher) (M.failed self.new.matcher) self.new.parts) }
     {
-        let _ = alloc;
-        Err(Stop::NoMemory)
+        let changes = self.parts.resettle(alloc)?;
+        tell(&mut self.matcher, &changes)?;
+        Ok(())
     }
 }

@@ -1,7 +1,7 @@
 use Rattle.std.proofs.Common.{sym, subst}
 use Rattle.soar_settle.specs.Known.{AreTriplesKnown}
-use Rattle.cycle_parts.proofs.InputLemmas.{settled_inputs}
-use Rattle.cycle_parts.proofs.SoundLemmas.{input_known, sound_with_inputs}
+use Rattle.cycle_parts.proofs.InputNowLemmas.{settled_inputs}
+use Rattle.cycle_parts.proofs.LoadedLemmas.{input_known, sound_with_inputs}
 use Rattle.cycle_parts.proofs.engine.Engine.input_now.Goals as goal
 
 pub resettle-requires-clause-sound : goal.resettle-requires-clause-sound
