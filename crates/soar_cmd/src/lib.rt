@@ -6,7 +6,6 @@ mod fault;
 mod form;
 mod operand;
 mod order;
-mod plain;
 mod read;
 mod refused;
 mod word;

@@ -7,9 +7,8 @@ ghost use Rattle.soar_rule.specs.Symbols.{AreKnown};
 ghost use Rattle.soar_lex.specs.Answers.{IsCut};
 ghost use Rattle.defs_text.specs.Lexing.{Spelled, lexed};
 ghost use Rattle.defs_read.specs.PrintingConditions.{name_at};
-ghost use Rattle.defs_run.specs.Present.{judged};
 ghost use Rattle.defs_run.specs.Stages.{Reading};
-ghost use Rattle.defs_run.specs.WholeReading.{unless_faulty};
+ghost use Rattle.defs_run.specs.WholeReading.{checked, unless_faulty};
 ghost use Rattle.soar_cmd.specs.Answers.{GrowsOnly, IsCommandRead, IsJudged, fault_of};
 ghost use Rattle.soar_cmd.specs.declared.fault.CmdFault.TheVariants as faults;
 
@@ -71,7 +70,7 @@ pub fn of_reading(fault: ReadFault) -> CmdFault
 /// The refusal of a production with what its check found.
 pub fn of_check(production: &Production, fault: CheckFault) -> CmdFault
     requires { IsChecked (production_seen production.now) (Err fault) }
-    ensures { (words : Texts) → 0 < length words → AreKnown words production.now.vars → IsJudged words (judged words (production_seen production.now)) (Err result) }
+    ensures { (words : Texts) → 0 < length words → AreKnown words production.now.vars → IsJudged words (checked words (production_seen production.now)) (Err result) }
 {
     match fault {
         CheckFault::NoState => refused(20),

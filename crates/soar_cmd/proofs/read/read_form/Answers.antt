@@ -1,14 +1,13 @@
-use Rattle.std.proofs.Common.{◌≤◌, ◌^◌, ◌∙◌, List, ℕ, length, sym, subst, arith}
+use Rattle.std.proofs.Common.{◌∙◌, List, ℕ, sym, subst}
 use Rattle.defs_text.specs.Lexing.{Lexed, lexed}
 use Rattle.defs_read.specs.Sayings.{AreTokensKnown}
-use Rattle.defs_run.specs.Present.{judged, or_not_built, order_by, read_order}
-use Rattle.defs_run.specs.WholeReading.{read_tokens}
+use Rattle.defs_run.specs.Present.{or_not_built, order_by, read_order}
 use Rattle.soar_sym.specs.Words.{Texts}
 use Rattle.soar_lex.specs.Answers.{CutWhole}
 use Rattle.soar_cmd.specs.Answers.{IsJudged}
 use Rattle.soar_cmd.specs.Asked.{form_seen}
-use Rattle.soar_cmd.proofs.CutLemmas.{cut_few, cut_known, cut_spelled, fault_more, gained_more}
-use Rattle.soar_cmd.proofs.ReadingLemmas.{judged_read, order_grows, tokens_grow, whole_read}
+use Rattle.soar_cmd.proofs.CutLemmas.{cut_known, cut_spelled, fault_more, gained_more}
+use Rattle.soar_cmd.proofs.ReadingLemmas.{judged_read, order_grows, whole_read}
 use Rattle.soar_cmd.proofs.read.read_form.Goals as goal
 
 pub built_order-requires : goal.built_order-requires
