@@ -12,7 +12,7 @@ use Rattle.defs_read.specs.Grammar.{Tree}
 use Rattle.defs_read.specs.Readers.{Stop}
 use Rattle.defs_read.specs.ReadingActions.{tree_of}
 use Rattle.defs_read.specs.Sayings.{sayings}
-use Rattle.soar_lex.specs.Answers.{Gained, CutWhole}
+use Rattle.soar_lex.specs.Answers.{Gained}
 use Rattle.soar_read.specs.Answers.{IsRead, ReadAs, RefusedAs, SpentAs, meaning, stop_of, place_left as place_behind}
 use Rattle.soar_read.specs.declared.fault.ReadFault.{ReadFault}
 use Rattle.soar_read.specs.declared.fault.ReadFault.TheVariants as read
@@ -46,11 +46,11 @@ abbrev read_by_fault : Texts → (Texts → List Spelled → Reading) → Lexed 
 read_by_fault words f l o = elim o as (λ _. Reading) [ Some e ↦ record { words = words; order = Err (of_lexing e) } | None ↦ f words l.tokens ]
 
 -- a whole text
-pub whole_read : (old between new : Texts) (f : Texts → List Spelled → Reading) (l : Lexed) (tokens : List Token) (result : Result OrderRead CmdFault) → CutWhole old between l tokens
+pub whole_read : (old between new : Texts) (f : Texts → List Spelled → Reading) (l : Lexed) (result : Result OrderRead CmdFault) → l.fault ≡ None → Gained old between l
     → IsCommandRead new (f between l.tokens) result → IsCommandRead new (unless_faulty old l f) result
-whole_read old between new f l tokens result cut is =
+whole_read old between new f l result none gained is =
     subst (λ (r : Reading). IsCommandRead new r result)
-    (ap (λ words. f words l.tokens) cut.gained.words ∙ ap (read_by_fault (words_after old l.tokens) f l) (sym cut.fault)) is
+    (ap (λ words. f words l.tokens) gained.words ∙ ap (read_by_fault (words_after old l.tokens) f l) (sym none)) is
 
 -- a text with a fault
 pub faulty_read : (old new : Texts) (f : Texts → List Spelled → Reading) (l : Lexed) (e : Fault) (number place : ℕ) → (l.fault ≡ Some e) × Gained old new l

@@ -1,5 +1,5 @@
 -- The order that a read command asks for, as the definitions have it.
-use Rattle.std.specs.Prelude.{ℕ, Bool, true, false, ◌||◌, List, Option, Some, None, if◌then◌else◌, codes}
+use Rattle.std.specs.Prelude.{ℕ, Bool, true, false, ◌||◌, List, [], ◌∷◌, Option, Some, None, option_map, if◌then◌else◌, codes}
 use Rattle.std.specs.Str.{bytes_eq}
 use Rattle.defs_run.specs.CommandForms.{alone, input_order, number_order, tag_order, triple_order}
 use Rattle.soar_rule.specs.Productions.{production_seen}
@@ -48,3 +48,17 @@ is_listing text = bytes_eq text (codes "--wm") || (bytes_eq text (codes "--rules
 -- `add` or `remove`, as whether something is added
 abbrev pub adds_by : List ℕ → Option Bool
 adds_by text = if bytes_eq text (codes "add") then Some true else if bytes_eq text (codes "remove") then Some false else None
+
+-- ---- random words
+
+-- the numbers, where each is one
+abbrev pub all_numbers : List (Option ℕ) → Option (List ℕ)
+all_numbers [] = Some []
+all_numbers (Some n ∷ numbers) = option_map (λ ns. n ∷ ns) (all_numbers numbers)
+all_numbers (None ∷ numbers) = None
+
+-- those of tokens, of which the first is the command's word
+abbrev pub numbers_order : List (Option ℕ) → Option Order
+numbers_order [] = None
+numbers_order (word ∷ []) = None
+numbers_order (word ∷ n ∷ numbers) = option_map random (all_numbers (n ∷ numbers))

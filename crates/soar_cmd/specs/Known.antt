@@ -39,7 +39,7 @@ pub record IsAdditionKnown (words : Texts) (addition : Addition) : Type 0 where
   pub attr : IsAttributeKnown words addition.attr
   pub value : IsOperandKnown words addition.value
 
--- a production to load is no justification, and in match order
+-- a production to load is no justification, and can be matched as it stands
 abbrev pub IsOrderKnown : Texts → Order → Type 0
 IsOrderKnown words (Load production) =
     AreKnown words (symbols_of (production_seen production)) × (is_justification production.kind ≡ false) × (can_be_matched (production_seen production) ≡ true)

@@ -6,6 +6,7 @@ mod fault;
 mod form;
 mod operand;
 mod order;
+mod random;
 mod read;
 mod refused;
 mod word;

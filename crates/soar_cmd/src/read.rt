@@ -10,16 +10,18 @@ ghost use Rattle.defs_soar.specs.Pending.{is_justification};
 ghost use Rattle.defs_run.specs.Present.{or_not_built, order_by, read_order, read_present, read_random};
 ghost use Rattle.defs_run.specs.WholeReading.{checked, read_sp, read_tokens, unless_faulty};
 ghost use Rattle.soar_cmd.specs.Answers.{IsCommandRead, IsJudged};
-ghost use Rattle.soar_cmd.specs.Asked.{form_seen};
+ghost use Rattle.soar_cmd.specs.Asked.{form_seen, numbers_order};
 ghost use Rattle.soar_cmd.specs.Known.{AreSpelledIn, IsOrderKnown};
 
 use crate::fault::CmdFault;
 use crate::form::{Form, form_of};
 use crate::order::order_by;
+use crate::random::random_order;
 use crate::refused::{of_check, of_lexing, of_reading, refused};
 use crate::word::{first_run, is_word};
 use defs_run::Order;
 use defs_text::Token;
+use random_words::lex_random;
 use rule_check::check;
 use rule_laws::checked_is_in_order;
 use soar_edge::Command;
@@ -133,6 +135,8 @@ fn built_order(
     }
 }
 
+// ---- random words
+
 /// Reads the command that queues random words.
 fn read_random(alloc: Global, table: &mut SymTable, text: &List<u8>) -> Result<Order, CmdFault>
     requires { length text.now ≤ 2 ^ 26 }
@@ -140,5 +144,19 @@ fn read_random(alloc: Global, table: &mut SymTable, text: &List<u8>) -> Result<O
     ensures known { IfOk result (λ order. IsOrderKnown table.new order) }
     ensures grown { length table.old ≤ length table.new }
 {
-    Err(CmdFault::NoMemory)
+    match lex_random(alloc, table, text) {
+        Ok(numbers) => built_random(alloc, numbers.as_slice()),
+        Err(fault) => Err(of_lexing(fault)),
+    }
+}
+
+/// The order of the numbers of tokens, where it is built.
+fn built_random(alloc: Global, numbers: &[Option<u64>]) -> Result<Order, CmdFault>
+    ensures judged { (words : Texts) → IsJudged words (or_not_built (numbers_order numbers.now)) result }
+    ensures known { (words : Texts) → IfOk result (λ order. IsOrderKnown words order) }
+{
+    match random_order(alloc, numbers)? {
+        Some(order) => Ok(order),
+        None => Err(refused(18)),
+    }
 }

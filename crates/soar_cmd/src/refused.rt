@@ -1,11 +1,11 @@
 // Why a command is refused: its number, and what is shown.
-ghost use Rattle.std.specs.Prelude.{◌≡◌, ◌<◌, ℕ, Err, List as ListOf, length};
+ghost use Rattle.std.specs.Prelude.{◌≡◌, ◌<◌, Err, List as ListOf, length};
 ghost use Rattle.soar_sym.specs.Words.{Texts};
 ghost use Rattle.soar_rule.specs.Checked.{IsChecked};
 ghost use Rattle.soar_rule.specs.Productions.{production_seen};
 ghost use Rattle.soar_rule.specs.Symbols.{AreKnown};
 ghost use Rattle.soar_lex.specs.Answers.{IsCut};
-ghost use Rattle.defs_text.specs.Lexing.{Spelled, lexed};
+ghost use Rattle.defs_text.specs.Lexing.{Lexed, Spelled};
 ghost use Rattle.defs_read.specs.PrintingConditions.{name_at};
 ghost use Rattle.defs_run.specs.Stages.{Reading};
 ghost use Rattle.defs_run.specs.WholeReading.{checked, unless_faulty};
@@ -40,8 +40,8 @@ pub fn refused_at(number: u32, place: u32) -> CmdFault
 
 /// What stops the reading of a text with a fault.
 pub fn of_lexing(fault: LexFault) -> CmdFault
-    ensures { (old new : Texts) (bytes : ListOf ℕ) (f : Texts → ListOf Spelled → Reading) → IsCut old new (lexed bytes) (Err fault) → GrowsOnly f
-        → IsCommandRead new (unless_faulty old (lexed bytes) f) (Err result) }
+    ensures { (old new : Texts) (text : Lexed) (f : Texts → ListOf Spelled → Reading) → IsCut old new text (Err fault) → GrowsOnly f
+        → IsCommandRead new (unless_faulty old text f) (Err result) }
 {
     match fault {
         LexFault::BadByte(place) => refused_at(12, place),

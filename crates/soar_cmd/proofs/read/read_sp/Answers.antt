@@ -21,7 +21,7 @@ returns-in-Ok-clause-reading c =
     let between : Texts = c.lex.new.table in
     let l : Lexed = lexed c.args.text.now in
     let cut : CutWhole old between l c.in-Ok.tokens = c.in-Ok.ensures in
-    whole_read old between c.read_tokens.new.table (read_tokens checked) l c.in-Ok.tokens c.read_tokens.result cut
+    whole_read old between c.read_tokens.new.table (read_tokens checked) l c.read_tokens.result cut.fault cut.gained
     (c.read_tokens.ensures.reading l.tokens cut.tokens_are (cut_spelled old between l c.in-Ok.tokens cut))
 
 pub returns-in-Ok-clause-grown : goal.returns-in-Ok-clause-grown
@@ -30,7 +30,7 @@ returns-in-Ok-clause-grown c =
     omega (arith, c.read_tokens.ensures.grown, gained_more c.args.table.now c.lex.new.table (lexed c.args.text.now) cut.gained)
 
 pub returns-in-Err-clause-reading : goal.returns-in-Err-clause-reading
-returns-in-Err-clause-reading c = c.of_lexing.ensures c.args.table.now c.lex.new.table c.args.text.now (read_tokens checked) c.in-Err.ensures (tokens_grow checked)
+returns-in-Err-clause-reading c = c.of_lexing.ensures c.args.table.now c.lex.new.table (lexed c.args.text.now) (read_tokens checked) c.in-Err.ensures (tokens_grow checked)
 
 pub returns-in-Err-clause-grown : goal.returns-in-Err-clause-grown
 returns-in-Err-clause-grown c = fault_more c.args.table.now c.lex.new.table (lexed c.args.text.now) c.in-Err.fault c.in-Err.ensures
