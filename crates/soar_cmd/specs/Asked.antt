@@ -21,9 +21,12 @@ operand_seen (operand.Label name) = is_label name
 abbrev pub asked_with : (Operand → Operand → Operand → Order) → Addition → Order
 asked_with ask addition = ask (operand_seen addition.id) (operand_seen addition.attr) (operand_seen addition.value)
 
+abbrev pub addition_seen : Addition → Order
+addition_seen addition = asked_with add_wme addition
+
 abbrev pub order_seen : OrderRead → Order
 order_seen (read.Load production) = load (production_seen production)
-order_seen (read.Add addition) = asked_with add_wme addition
+order_seen (read.Add addition) = addition_seen addition
 order_seen (read.Remove tag) = remove_wme tag
 order_seen (read.Queue adds addition) = asked_with (queue adds) addition
 order_seen (read.Random words) = random words
