@@ -1,13 +1,14 @@
 -- A cycle, phase by phase.
-use Rattle.std.proofs.Common.{◌≡◌, ℕ, ◌∙◌, Bool, true, false, List, [], ◌∷◌, ◌++◌, append-nil, append_assoc, Some, None, Result, Ok, Err, refl, sym, ap, subst}
+use Rattle.std.proofs.Common.{◌≡◌, ℕ, suc, ◌∙◌, Bool, true, false, List, [], ◌∷◌, ◌++◌, append-nil, append_assoc, Some, None, Result, Ok, Err, refl, sym, ap, subst}
 use Rattle.defs_soar.specs.Agents.{Agent}
-use Rattle.defs_soar.specs.Cycle.{after_input, after_output, begun, cut_line, cycle, then_course, then_output, then_phase, told_alone, unless_halted}
+use Rattle.defs_soar.specs.Cycle.{after_input, after_output, begun, cut_line, cycle, held_with, then_application, then_course, then_decision, then_output, then_phase, told_alone, unless_halted, with_changes}
 use Rattle.defs_soar.specs.Decision.{decided_alone}
-use Rattle.defs_soar.specs.Events.{Part, begins, is_cut}
+use Rattle.defs_soar.specs.Events.{Part, application_phase, begins, input_phase, is_cut, proposal_phase}
 use Rattle.defs_soar.specs.Learning.{without_learning}
 use Rattle.defs_soar.specs.Limits.{first_passed}
 use Rattle.defs_soar.specs.Phases.{Course, Phased, Said, phase, said_by, still, then_step}
-use Rattle.defs_soar.specs.Resettling.{AgentStep}
+use Rattle.defs_soar.specs.Resettling.{AgentStep, resettled}
+use Rattle.defs_soar.specs.Trimming.{Remains}
 use Rattle.defs_soar.specs.Trace.{Written, line_text, pieces_of, rendered}
 use Rattle.soar_settle.specs.declared.stop.Stop.{Stop}
 use Rattle.soar_settle.specs.declared.stop.Stop.TheVariants as stop
@@ -16,8 +17,10 @@ use Rattle.trace_lines.specs.declared.halting.Phase.{Phase}
 use Rattle.trace_lines.specs.declared.halting.Phase.TheVariants.{Application, Proposal}
 use Rattle.wave_parts.specs.Stands.{Stands}
 use Rattle.wave_parts.specs.declared.parts.Parts.{Parts as PartsKept}
-use Rattle.cycle_parts.specs.Stepping.{GoesStep, QuietStep, watch}
+use Rattle.cycle_parts.specs.Stepping.{GoesStep, QuietStep, step_written, watch}
 use Rattle.cycle_parts.specs.Waving.{is_proposing}
+use Rattle.cycle_parts.proofs.EventLemmas.{said_alone}
+use Rattle.cycle_parts.proofs.QuietLemmas.{settling_mute}
 use Rattle.soar_cycle.specs.Courses.{Goes, Passed, Went, front_said, limit_in, phase_course, phased}
 use Rattle.soar_cycle.specs.Cycling.{GoesOn, with_application, with_decision, with_input, with_proposals}
 use Rattle.soar_cycle.specs.Going.{GoesPhase}
@@ -172,6 +175,48 @@ pub cycle_is : (s : Agent) → cycle decided_alone without_learning s ≡ whole 
 unfolding cycle
 cycle_is s = refl
 
-pub input_on : {T : Type 0} (old new : PartsKept) (mid_line : Bool) (text : List ℕ) (result : Result T Stop) → ((s : Agent) → Stands old s → GoesStep mid_line (after_input s) new mid_line text text result)
+-- input writes nothing
+quiet_input : (mid : Bool) (s : Agent) → step_written mid (after_input s) ≡ nothing mid
+unfolding after_input pieces_of
+quiet_input mid s =
+    let next : Agent = record s { counts = record s.counts { cycles = suc s.counts.cycles; learned = 0 }; queues = record s.queues { input = [] } } in
+    let held : Remains = held_with next (with_changes s.holding.inputs s.queues.input) in
+    said_alone next.names.words mid (begins input_phase ∷ []) [] (resettled next held).events (record { quiet = tt; silent = refl }, tt) (settling_mute next held)
+
+quiet_goes : {T : Type 0} (s : Agent) (new : PartsKept) (mid : Bool) (text : List ℕ) (result : Result T Stop) → QuietStep (after_input s) new result → GoesStep mid (after_input s) new mid text text result
+quiet_goes s new mid text (Ok done) stepped = record {
+  stepped = stepped;
+  text = sym (append-nil text) ∙ ap (λ (w : Written). text ++ w.text) (sym (quiet_input mid s));
+  mid_line = ap (λ (w : Written). w.mid_line) (sym (quiet_input mid s));
+}
+quiet_goes s new mid text (Err (stop.Limit limit)) passed = record { passed = passed; text = refl; mid_line = refl }
+quiet_goes s new mid text (Err stop.NoMemory) passed = tt
+
+pub input_on : {T : Type 0} (old new : PartsKept) (mid_line : Bool) (text : List ℕ) (result : Result T Stop) → ((s : Agent) → Stands old s → QuietStep (after_input s) new result)
     → GoesOn with_input old new mid_line mid_line text text result
-input_on old new mid_line text result goes = step_on after_input old new mid_line mid_line text text result goes
+input_on old new mid_line text result goes = step_on after_input old new mid_line mid_line text text result (λ s stands. quiet_goes s new mid_line text result (goes s stands))
+
+-- ---- what an error leaves
+
+pub other_answer : (S T : Type 0) (f : Course → Course) (old new : PartsKept) (old_mid new_mid : Bool) (between after : List ℕ) (why : Stop)
+    → GoesOn {T = S} f old new old_mid new_mid between after (Err why) → GoesOn {T = T} f old new old_mid new_mid between after (Err why)
+other_answer S T f old new old_mid new_mid between after (stop.Limit limit) goes mid c before went = goes mid c before went
+other_answer S T f old new old_mid new_mid between after stop.NoMemory goes mid c before went = tt
+
+-- after a phase that stopped, the others change nothing
+pub stopped_on : (S T : Type 0) (f g : Course → Course) → Extends g → (mid : Bool) (c : Course) (old new : PartsKept) (old_mid new_mid : Bool) (before between after : List ℕ) (why : Stop)
+    → Went mid c old old_mid before between → GoesOn {T = S} f old new old_mid new_mid between after (Err why) → Goes {T = T} mid (g (f c)) new new_mid before after (Err why)
+stopped_on S T f g extends mid c old new old_mid new_mid before between after why went goes =
+    let more = extends (f c) in stopped_more S T mid new_mid (f c) (g (f c)) more.0 new new before after why more.1 (goes mid c before went)
+
+pub after_output_extends : Extends then_output
+after_output_extends = step_extends after_output
+
+pub after_decision : Extends (λ c. then_output (with_application c))
+after_decision = extends_then with_application then_output (unless_extends (then_application without_learning) (phase_extends application_phase false)) after_output_extends
+
+pub after_proposals : Extends (λ c. then_output (with_application (with_decision c)))
+after_proposals = extends_then with_decision (λ c. then_output (with_application c)) (unless_extends (then_decision decided_alone) (step_extends decided_alone)) after_decision
+
+pub after_inputs : Extends (λ c. then_output (with_application (with_decision (with_proposals c))))
+after_inputs = extends_then with_proposals (λ c. then_output (with_application (with_decision c))) (phase_extends proposal_phase true) after_proposals

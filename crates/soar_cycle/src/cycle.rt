@@ -32,7 +32,7 @@ pub fn run_cycle<M: Matcher>(
     ensures sound { OnOk result (IsSound engine.new.parts) }
     ensures bond { OnOk result (Bond (M.rules engine.new.matcher) (M.elements engine.new.matcher) (M.failed engine.new.matcher) engine.new.parts) }
 {
-    take_input(engine, alloc, out, mid_line)?;
+    take_input(engine, alloc, out, *mid_line)?;
     propose(engine, alloc, out, mid_line)?;
     decide(engine, alloc, out, mid_line)?;
     apply(engine, alloc, out, mid_line)?;
@@ -40,19 +40,20 @@ pub fn run_cycle<M: Matcher>(
     Ok(engine.parts.halted)
 }
 
+/// Nothing is said of it.
 fn take_input<M: Matcher>(
     engine: &mut Engine<M>,
     alloc: Global,
     out: &Text,
-    mid_line: &bool,
+    mid_line: bool,
 ) -> Result<(), Stop>
     requires sound { IsSound engine.old.parts }
     requires bond { Bond (M.rules engine.old.matcher) (M.elements engine.old.matcher) (M.failed engine.old.matcher) engine.old.parts }
-    ensures course { GoesOn with_input engine.old.parts engine.new.parts mid_line.now mid_line.now out.now out.now result }
+    ensures course { GoesOn with_input engine.old.parts engine.new.parts mid_line mid_line out.now out.now result }
     ensures sound { OnOk result (IsSound engine.new.parts) }
     ensures bond { OnOk result (Bond (M.rules engine.new.matcher) (M.elements engine.new.matcher) (M.failed engine.new.matcher) engine.new.parts) }
 {
-    let _ = (out, mid_line);
+    let _ = (out.len(), mid_line);
     engine.take_input(alloc)
 }
 
