@@ -1,5 +1,6 @@
 pub mod EventLemmas
 pub mod InputLemmas
+pub mod OperatorLemmas
 pub mod OutputLemmas
 pub mod QuietLemmas
 pub mod SoundLemmas

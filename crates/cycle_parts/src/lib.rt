@@ -10,6 +10,7 @@ mod inputs;
 mod loading;
 mod output_phase;
 mod queues;
+mod selecting;
 mod settling;
 mod telling;
 mod waving;
