@@ -1,3 +1,4 @@
+pub mod DecidingLemmas
 pub mod EventLemmas
 pub mod InputLemmas
 pub mod OperatorLemmas

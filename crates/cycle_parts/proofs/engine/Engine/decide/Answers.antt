@@ -1,24 +1,41 @@
-use Rattle.std.proofs.Common.{rules, ◌≡◌, OnOk, ℕ, ◌+◌, ◌-◌, ◌*◌, ◌<◌, ◌≤◌, length, ◌/◌, ◌%◌, Bool, true, false, nat_eq, nat_lt, List, [], ◌∷◌, ◌++◌, slice_index_or, slice_set, bit_and, bit_or, Fits, w8, w32, w64, Bor, MutBor}
-use Rattle.defs_soar.specs.Agents.{Agent as AgentOf}
-use Rattle.defs_soar.specs.Decision.{decided_alone}
-use Rattle.cycle_parts.specs.Bonds.{Bond}
-use Rattle.cycle_parts.specs.Stepping.{GoesStep}
-use Rattle.wave_parts.specs.Seen.{IsSound}
+use Rattle.std.proofs.Common.{sym, subst}
+use Rattle.std.proofs.lemmas.Result.{err_from_is_err_and}
+use Rattle.defs_soar.specs.Agents.{Agent}
+use Rattle.soar_decide.specs.Outcomes.{outcome_seen}
+use Rattle.soar_settle.specs.declared.stop.Stop.{Stop}
+use Rattle.wave_parts.specs.Resettles.{resettled_now}
+use Rattle.wave_parts.specs.Seen.{IsSound, Stepped}
 use Rattle.wave_parts.specs.Stands.{Stands}
+use Rattle.cycle_parts.specs.Deciding.{IsSaidKnown}
+use Rattle.cycle_parts.proofs.DecidingLemmas.{decides, decides_not, sound_after, steps_from, stops_from, table_after}
 use Rattle.cycle_parts.proofs.engine.Engine.decide.Goals as goal
 
--- src/deciding.rt:32:9
 pub resettle-requires-clause-sound : goal.resettle-requires-clause-sound
-resettle-requires-clause-sound g c = ?
+resettle-requires-clause-sound g c =
+    subst IsSound (sym c.take_outcome.ensures) (sound_after c.args.self.now.parts (outcome_seen c.in_ok-outcome.outcome) c.requires.sound c.in_ok-outcome.ensures.known)
 
--- src/deciding.rt:32:9
 pub returns-in_err-resettle-clause-step : goal.returns-in_err-resettle-clause-step
-returns-in_err-resettle-clause-step g c = ?
+returns-in_err-resettle-clause-step g c =
+    let a = c.args.self.now.parts in
+    let o = outcome_seen c.in_ok-outcome.outcome in
+    let p = err_from_is_err_and c.from_residual-in_err-resettle.result c.from_residual-in_err-resettle.ensures.1 in
+    rw (p.1, p.2)
+    (decides_not a c.resettle.new.self.parts o c.args.mid_line.now c.args.out.now c.in_err-resettle.field-0.0 c.decisions_follow_outcomes.ensures.kept c.requires.sound c.in_ok-outcome.ensures.outcome
+    (stops_from c.take_outcome.new.parts _ c.resettle.new.self.parts c.in_err-resettle.field-0.0 c.take_outcome.ensures c.in_err-resettle.ensures.settled))
 
--- src/deciding.rt:33:9
 pub say_selected-requires : goal.say_selected-requires
-say_selected-requires g c = ?
+say_selected-requires g c =
+    let a = c.args.self.now.parts in
+    let o = outcome_seen c.in_ok-outcome.outcome in
+    let new = c.resettle.new.self.parts in
+    let steps = steps_from c.take_outcome.new.parts _ new c.take_outcome.ensures c.in_ok-resettle.ensures.settled in
+    subst (λ words. IsSaidKnown words c.in_ok-selected.selected) (sym (table_after a new o steps)) c.in_ok-selected.ensures.known
 
--- src/deciding.rt:21:5
 pub returns-clause-step : goal.returns-clause-step
-returns-clause-step g c = ?
+returns-clause-step g c =
+    let a = c.args.self.now.parts in
+    let o = outcome_seen c.in_ok-outcome.outcome in
+    let new = c.resettle.new.self.parts in
+    let steps = steps_from c.take_outcome.new.parts _ new c.take_outcome.ensures c.in_ok-resettle.ensures.settled in
+    decides a new o _ c.args.mid_line.now c.say_selected.new.mid_line c.args.out.now c.say_selected.new.out c.decisions_follow_outcomes.ensures.kept c.requires.sound c.in_ok-outcome.ensures.outcome
+    c.in_ok-selected.ensures.line steps c.in_ok-say_selected.ensures
