@@ -1,12 +1,9 @@
 -- The decision of parts with one goal: what it settles, and its line.
-use Rattle.std.proofs.Common.{◌≡◌, ◌∙◌, ℕ, Bool, true, false, not, List, [], ◌∷◌, ◌++◌, map, filter, append-nil, Option, Some, None, Result, Ok, Err, refl, sym, ap, subst}
-use Rattle.soar_sym.specs.Words.{Texts}
-use Rattle.soar_wm.specs.declared.element.Element.{Element}
-use Rattle.defs_match.specs.Rules.{RuleOf}
+use Rattle.std.proofs.Common.{◌≡◌, ◌∙◌, ℕ, Bool, true, false, not, List, [], ◌∷◌, ◌++◌, map, filter, Option, Some, None, Err, refl, sym, ap, subst}
 use Rattle.defs_soar.specs.declared.goal.Goal.{Goal}
 use Rattle.defs_soar.specs.declared.goal.Selection.{Selection}
 use Rattle.defs_soar.specs.Agents.{Agent}
-use Rattle.defs_soar.specs.Decision.{decided_alone, is_removal, view_of, with_decision}
+use Rattle.defs_soar.specs.Decision.{decided_alone, is_removal, with_decision}
 use Rattle.defs_soar.specs.Events.{Event, begins, decision}
 use Rattle.defs_soar.specs.History.{RecordedFiring}
 use Rattle.defs_soar.specs.Limits.{first_passed}
@@ -106,7 +103,7 @@ unfolding pieces_of
 went_at b new history line said mid new_mid before after same steps says =
     let stepped = steps (agent_of b history) (stands_at b history) in
     let written : step_written mid (with_decision line (resettled_now (agent_of b history))) ≡ rendered 1 mid (pieces_of new.table said) =
-        settled_said b history mid line ∙ ap (λ words. rendered 1 mid (pieces_of words line)) (sym (table_stays b new steps)) ∙ ap (λ events. rendered 1 mid (pieces_of new.table events)) (sym same) in
+    settled_said b history mid line ∙ ap (λ words. rendered 1 mid (pieces_of words line)) (sym (table_stays b new steps)) ∙ ap (λ events. rendered 1 mid (pieces_of new.table events)) (sym same) in
     record {
       stepped = record { stands = stepped.stands; within = stepped.within };
       text = says.0 ∙ ap (λ (w : Written). before ++ w.text) (sym written);

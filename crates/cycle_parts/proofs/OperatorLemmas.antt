@@ -1,5 +1,5 @@
 -- An operator that a decision selects is a value of a row, so it is a symbol of the table.
-use Rattle.std.proofs.Common.{◌≡◌, ℕ, zero, suc, Bool, true, false, ◌&&◌, ◌||◌, cond, not, List, [], ◌∷◌, map, filter, Option, Some, None, Result, Ok, Err, subst, sym}
+use Rattle.std.proofs.Common.{◌≡◌, ℕ, zero, suc, Bool, true, false, ◌&&◌, ◌||◌, cond, not, List, [], ◌∷◌, filter, Option, Some, None, Result, Ok, Err, subst, sym}
 use Rattle.std.specs.List.{All}
 use Rattle.std.specs.Prelude.{IfOk}
 use Rattle.std.specs.Ordering.{is_lt}
@@ -20,11 +20,10 @@ use Rattle.defs_soar.specs.declared.preference.PrefKind.TheVariants as kind
 use Rattle.defs_soar.specs.declared.preference.Preference.{Preference}
 use Rattle.defs_soar.specs.Architecture.{operator_word}
 use Rattle.defs_soar.specs.Choice.{all_indifferent, all_scored, among, among_candidates, among_unbeaten, best_of, candidates, choice_of, has_kind, if_some, is_beaten, unbeaten, values_of, with_required, without_worst}
-use Rattle.defs_soar.specs.Draw.{drawn}
 use Rattle.defs_soar.specs.Sorted.{with_symbol}
 use Rattle.defs_soar.specs.Values.{is_kind}
-use Rattle.defs_soar.specs.Verdicts.{Verdict, are_left, drawn_from, is_impasse, uses_word, value_at, verdict_of}
-use Rattle.defs_soar.specs.Walk.{View, is_among_left, verdict_at}
+use Rattle.defs_soar.specs.Verdicts.{drawn_from, uses_word, value_at, verdict_of}
+use Rattle.defs_soar.specs.Walk.{View, is_among_left}
 use Rattle.soar_choose.specs.Rows.{AreKnown}
 use Rattle.soar_decide.specs.Outcomes.{operator_rows, outcome_at, outcome_of, selected_at, outcome_seen, selects, stays, Outcome}
 use Rattle.soar_decide.specs.declared.outcome.Outcome.{Outcome as OutcomeKept}
@@ -32,7 +31,6 @@ use Rattle.soar_settle.specs.Known.{AreElementsKnown}
 use Rattle.trace_lines.specs.Names.{IsValueKnown}
 use Rattle.cycle_parts.specs.Deciding.{IsOutcomeKnown}
 use Rattle.wave_parts.specs.Seen.{IsSelectionKnown}
-use Rattle.wave_parts.specs.declared.parts.Parts.{Parts as PartsKept}
 
 pub values_known : (words : Texts) (elements : List Element) → AreElementsKnown words elements → All (IsValueKnown words) elements
 values_known words [] known = All-nil (IsValueKnown words)

@@ -1,5 +1,5 @@
 -- A decision of parts with one goal: what it comes to, what is said of it, and the parts afterwards. No public clause cites this module.
-use Rattle.std.specs.Prelude.{Bool, true, false, List, [], ◌∷◌, drop, Option, Some, None, if◌then◌else◌, IfSome}
+use Rattle.std.specs.Prelude.{List, [], ◌∷◌, drop, Option, Some, None, if◌then◌else◌, IfSome}
 use Rattle.soar_sym.specs.Words.{Texts, IsKnown}
 use Rattle.defs_soar.specs.declared.choice.Mode.TheVariants as mode
 use Rattle.defs_soar.specs.declared.goal.Goal.{Goal}

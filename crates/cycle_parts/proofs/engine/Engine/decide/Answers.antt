@@ -1,11 +1,7 @@
 use Rattle.std.proofs.Common.{sym, subst}
 use Rattle.std.proofs.lemmas.Result.{err_from_is_err_and}
-use Rattle.defs_soar.specs.Agents.{Agent}
 use Rattle.soar_decide.specs.Outcomes.{outcome_seen}
-use Rattle.soar_settle.specs.declared.stop.Stop.{Stop}
-use Rattle.wave_parts.specs.Resettles.{resettled_now}
-use Rattle.wave_parts.specs.Seen.{IsSound, Stepped}
-use Rattle.wave_parts.specs.Stands.{Stands}
+use Rattle.wave_parts.specs.Seen.{IsSound}
 use Rattle.cycle_parts.specs.Deciding.{IsSaidKnown}
 use Rattle.cycle_parts.proofs.DecidingLemmas.{decides, decides_not, sound_after, steps_from, stops_from, table_after}
 use Rattle.cycle_parts.proofs.engine.Engine.decide.Goals as goal
