@@ -1,7 +1,6 @@
 -- The input phase: what it draws, and what it settles.
 use Rattle.std.proofs.Common.{◌≡◌, ◌∙◌, ℕ, suc, ◌+◌, ◌≤◌, ◌<◌, nat_lt, List, [], ◌∷◌, map, None, Some, Result, Ok, Err, cond, true, false, refl, sym, ap, subst, arith, add-one}
 use Rattle.soar_sym.specs.declared.symbol.Triple.{Triple}
-use Rattle.defs_soar.specs.declared.limit.Which.{Which}
 use Rattle.defs_soar.specs.declared.limit.Which.TheVariants as which
 use Rattle.defs_soar.specs.Agents.{Agent}
 use Rattle.defs_soar.specs.Cycle.{after_input, with_changes}

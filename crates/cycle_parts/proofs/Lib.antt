@@ -1,3 +1,4 @@
+pub mod DecidingLemmas
 pub mod EventLemmas
 pub mod InputLemmas
 pub mod InputNowLemmas
@@ -5,6 +6,7 @@ pub mod ListLemmas
 pub mod LoadLemmas
 pub mod LoadedLemmas
 pub mod NumberLemmas
+pub mod OperatorLemmas
 pub mod OutputLemmas
 pub mod QuietLemmas
 pub mod SoundLemmas

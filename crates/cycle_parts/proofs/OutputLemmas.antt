@@ -54,7 +54,7 @@ halt_said words gone new mid mid_between new_mid before between after changes ha
     let said = text_of_line (piece_of words halts) in
     let whole = ap (written words mid) (sym (append_assoc (map shows_no_longer gone) (map shows new) (halts ∷ []))) ∙ halt_last words mid changed in
     let text : after ≡ before ++ (first.text ++ line_text first.mid_line said) =
-        halt.0 ∙ (λ i. changes.0 i ++ line_text (changes.1 i) said) ∙ append_assoc before first.text (line_text first.mid_line said) in
+    halt.0 ∙ (λ i. changes.0 i ++ line_text (changes.1 i) said) ∙ append_assoc before first.text (line_text first.mid_line said) in
     (text ∙ ap (λ (w : Written). before ++ w.text) (sym whole), halt.1 ∙ ap (λ (w : Written). w.mid_line) (sym whole))
 
 -- ---- the step

@@ -2,7 +2,7 @@
 use Rattle.std.proofs.Common.{ℕ, nat_lt, Bool, true, false, cond, List, [], ◌∷◌, ◌++◌, map, flat_map, refl}
 use Rattle.soar_wm.specs.declared.element.Element.{Element}
 use Rattle.defs_soar.specs.Agents.{Agent, LiveFiring}
-use Rattle.defs_soar.specs.Events.{by_instance, Event, removes, makes_wish, drops, goes, comes}
+use Rattle.defs_soar.specs.Events.{by_instance, removes, makes_wish, drops, goes, comes}
 use Rattle.defs_soar.specs.Learning.{results_by_instance, without_learning}
 use Rattle.defs_soar.specs.LearnedFirings.{with_support_by}
 use Rattle.defs_soar.specs.Pending.{Firable, Work}

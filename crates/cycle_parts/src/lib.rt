@@ -11,6 +11,7 @@ mod inputs;
 mod loading;
 mod output_phase;
 mod queues;
+mod selecting;
 mod settling;
 mod taking;
 mod telling;

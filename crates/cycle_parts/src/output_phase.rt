@@ -35,7 +35,13 @@ impl<M: Matcher> Engine<M> {
     {
         let now = output_of(alloc, &self.parts.memory, &self.parts.goals)?;
         let changes = output_changes(alloc, &self.parts.table, &self.parts.output, &now)?;
-        say_output(&self.parts.table, &changes, self.parts.halted, out, mid_line)?;
+        say_output(
+            &self.parts.table,
+            &changes,
+            self.parts.halted,
+            out,
+            mid_line,
+        )?;
         self.parts.output = now;
         Ok(())
     }
@@ -53,7 +59,13 @@ fn say_output(
     requires new { AreTriplesKnown table.now changes.now.new }
     ensures { OnOk result (SaysLines table.now (map shows_no_longer changes.now.gone ++ (map shows changes.now.new ++ (if halted then halts ∷ [] else []))) mid_line.old out.old mid_line.new out.new) }
 {
-    say_outputs(table, changes.gone.as_slice(), changes.new.as_slice(), out, mid_line)?;
+    say_outputs(
+        table,
+        changes.gone.as_slice(),
+        changes.new.as_slice(),
+        out,
+        mid_line,
+    )?;
     if halted {
         say_halt(out, mid_line)?;
     }

@@ -177,7 +177,7 @@ cycle_is s = refl
 
 -- input writes nothing
 quiet_input : (mid : Bool) (s : Agent) → step_written mid (after_input s) ≡ nothing mid
-unfolding after_input pieces_of
+unfolding after_input pieces_of resettled
 quiet_input mid s =
     let next : Agent = record s { counts = record s.counts { cycles = suc s.counts.cycles; learned = 0 }; queues = record s.queues { input = [] } } in
     let held : Remains = held_with next (with_changes s.holding.inputs s.queues.input) in

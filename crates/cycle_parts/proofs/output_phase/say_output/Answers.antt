@@ -18,6 +18,6 @@ returns-in_ok-say_halt c =
     let between = c.say_outputs.new.out in
     let mid_between = c.say_outputs.new.mid_line in
     let changes = subst (λ (events : List Event). SaysLines words events c.args.mid_line.now c.args.out.now mid_between between)
-        (λ i. map shows_no_longer (c.as_slice.ensures i) ++ map shows (c.as_slice-2.ensures i)) c.in_ok-say_outputs.ensures.ok in
+    (λ i. map shows_no_longer (c.as_slice.ensures i) ++ map shows (c.as_slice-2.ensures i)) c.in_ok-say_outputs.ensures.ok in
     subst (λ halted. SaysLines words (lines_of gone new halted) c.args.mid_line.now c.args.out.now c.say_halt.new.mid_line c.say_halt.new.out) (sym c.if-halted.true)
     (halt_said words gone new c.args.mid_line.now mid_between c.say_halt.new.mid_line c.args.out.now between c.say_halt.new.out changes c.in_ok-say_halt.ensures.ok)

@@ -1,7 +1,7 @@
 use Rattle.std.proofs.Common.{◌∙◌, [], Err, Ok, sym, subst}
 use Rattle.std.proofs.lemmas.Result.{err_from_is_err_and}
 use Rattle.wave_parts.specs.Carrying.{CarriesOut}
-use Rattle.cycle_parts.specs.Waving.{WavesFrom, is_proposing}
+use Rattle.cycle_parts.specs.Waving.{is_proposing}
 use Rattle.cycle_parts.proofs.WavingLemmas.{waves, waves_not}
 use Rattle.cycle_parts.proofs.engine.Engine.wave.Goals as goal
 
