@@ -1,4 +1,4 @@
--- Lines in a row, elements of which some are left out, and the end of a text.
+-- Lines in a row, and elements of which some are left out.
 use Rattle.std.proofs.Common.{◌≡◌, ℕ, suc, ◌-◌, ◌==◌, Bool, true, false, not, cond, List, [], ◌∷◌, ◌++◌, length, map, filter, Some, refl, ap, subst, ◌∙◌, arith, append_assoc}
 use Rattle.std.specs.Prelude.{if◌then◌else◌, codes, slice_get}
 use Rattle.soar_sym.specs.Words.{Texts}
@@ -40,13 +40,3 @@ elements_filter p words (e ∷ elements) known = by (p e) (elements_filter p wor
     by : (b : Bool) → AreElementsKnown words (filter p elements) → AreElementsKnown words (cond b (e ∷ filter p elements) (filter p elements))
     by true later = (known.0, later)
     by false later = later
-
--- ---- the end of a text
-
--- the last byte decides
-pub mid_last : (mid : Bool) (bytes : List ℕ) (b : ℕ) → slice_get bytes (length bytes - 1) ≡ Some b → is_mid_after mid bytes ≡ not (b == 10)
-mid_last mid [] b e = absurd (cc)
-mid_last mid (x ∷ []) b e = let same : x ≡ b = cc in ap (λ y. not (y == 10)) same
-mid_last mid (x ∷ y ∷ bytes) b e =
-    let before : length (x ∷ y ∷ bytes) - 1 ≡ suc (length (y ∷ bytes) - 1) = omega arith in
-    mid_last (not (x == 10)) (y ∷ bytes) b (subst (λ n. slice_get (x ∷ y ∷ bytes) n ≡ Some b) before e)

@@ -3,6 +3,5 @@ pub mod Labels
 pub mod Lettered
 pub mod Lookups
 pub mod Reasons
-pub mod Rules
 pub mod Saying
 pub mod Stopping

@@ -4,7 +4,7 @@ ghost use Rattle.soar_sym.specs.Equality.{symbol_eq};
 ghost use Rattle.soar_wm.specs.WorkingMemory.{element_of, has_triple, tag_of, triple_of};
 ghost use Rattle.defs_soar.specs.Goals.{plain_triple};
 
-use crate::triples::Slot;
+use crate::slot::Slot;
 use soar_sym::{List, NoMemory, Sym, Triple, is_symbol};
 use soar_wm::{Element, Memory};
 use std::alloc::Global;
@@ -64,9 +64,10 @@ fn is_numbered(element: Element, slot: Slot, letter: u8, number: u64) -> bool
         && !element.accept
 }
 
-/// Whether a symbol is the identifier of a letter and a number.
-fn is_identifier(symbol: Sym, letter: u8, number: u64) -> bool
-    ensures { result ≡ symbol_eq symbol (Sym.Ident letter number) }
+/// Whether a symbol is the identifier of a letter and a number, which may be beyond the last that there is.
+pub fn is_identifier(symbol: Sym, letter: u8, number: u64) -> bool
+    ensures symbol { result ≡ symbol_eq symbol (Sym.Ident letter number) }
+    ensures turned { result ≡ symbol_eq (Sym.Ident letter number) symbol }
 {
     match symbol {
         Sym::Ident {

@@ -3,19 +3,17 @@ ghost use Rattle.std.specs.Prelude.{◌≡◌, [], ◌++◌, ◌∷◌, if◌the
 ghost use Rattle.soar_sym.specs.Words.{IsKnown};
 ghost use Rattle.soar_rule.specs.Productions.{production_seen};
 ghost use Rattle.soar_rule.specs.Symbols.{AreKnown, symbols_of};
-ghost use Rattle.defs_match.specs.Conflict.{conflict};
 ghost use Rattle.defs_match.specs.Rules.{rule_seen};
 ghost use Rattle.soar_wm.specs.WorkingMemory.{elements_of};
 ghost use Rattle.defs_read.specs.Printing.{production_text};
 ghost use Rattle.defs_soar.specs.Texts.{tagged_text};
-ghost use Rattle.defs_soar.specs.Trace.{is_mid_after, line_text};
+ghost use Rattle.defs_soar.specs.Trace.{line_text};
 ghost use Rattle.defs_run.specs.Listing.{element_lines, no_matches};
 ghost use Rattle.soar_settle.specs.Known.{AreElementsKnown, AreRulesKnown};
 ghost use Rattle.session_parts.specs.Saying.{Says, instance_line, match_lines};
 
 use crate::rules::rule_name;
 use defs_match::{Instance, Rule};
-use match_direct::conflict;
 use soar_rule::Production;
 use soar_show::{show_element, show_instance, show_production};
 use soar_sym::{List, NoMemory, Sym, SymTable, Text};
@@ -40,36 +38,11 @@ fn begin_line(out: &mut Text, mid_line: bool) -> Result<(), AllocError>
     if mid_line { out.push('\n') } else { Ok(()) }
 }
 
-/// Whether text ends in the middle of a line behind more bytes.
-pub fn is_mid_after(mid_line: bool, bytes: &[u8]) -> bool
-    ensures { result ≡ is_mid_after mid_line bytes.now }
-{
-    match bytes.last() {
-        Some(byte) => *byte != b'\n',
-        None => mid_line,
-    }
-}
-
-/// Says the conflict set of rules and elements, or that there are no matches.
+/// Says a conflict set, or that there are no matches.
 pub fn say_matches(
     table: &SymTable,
     rules: &List<Rule>,
-    memory: &Memory,
-    out: &mut Text,
-    mid_line: &mut bool,
-) -> Result<(), NoMemory>
-    requires { AreRulesKnown table.now (map rule_seen rules.now) }
-    ensures { OnOk result (Says (match_lines table.now (map rule_seen rules.now) (conflict (map rule_seen rules.now) memory.now.elements)) mid_line.old out.old mid_line.new out.new) }
-{
-    let elements = memory.all(out.allocator())?;
-    let instances = conflict(out.allocator(), rules.as_slice(), elements.as_slice())?;
-    say_conflict_set(table, rules.as_slice(), instances.as_slice(), out, mid_line)
-}
-
-fn say_conflict_set(
-    table: &SymTable,
-    rules: &[Rule],
-    instances: &[Instance],
+    instances: &List<Instance>,
     out: &mut Text,
     mid_line: &mut bool,
 ) -> Result<(), NoMemory>
@@ -79,7 +52,7 @@ fn say_conflict_set(
     if instances.is_empty() {
         return say_line(out, mid_line, "no matches");
     }
-    say_instances(table, rules, instances, out, mid_line)
+    say_instances(table, rules.as_slice(), instances.as_slice(), out, mid_line)
 }
 
 fn say_instances(

@@ -1,5 +1,5 @@
 // Identifiers of commands that there are not, or that no goal reaches.
-ghost use Rattle.std.specs.Prelude.{◌≡◌, true, Some, None, IfOk, map, if◌then◌else◌};
+ghost use Rattle.std.specs.Prelude.{◌≡◌, Some, None, IfOk, map, if◌then◌else◌};
 ghost use Rattle.soar_sym.specs.Words.{IsKnown};
 ghost use Rattle.soar_wm.specs.WorkingMemory.{tag_of, triple_of};
 ghost use Rattle.defs_text.specs.Symbols.{symbol_text};
@@ -16,8 +16,8 @@ ghost use Rattle.session_parts.specs.Lookups.{session_with};
 use crate::elements::{tag_of_numbered, triples_of};
 use crate::labels::{label_in, letter_from};
 use crate::lookup::Lookup;
+use crate::slot::Slot;
 use crate::texts::symbol_text;
-use crate::triples::Slot;
 use defs_run::{Addition, Operand};
 use defs_soar::is_goal;
 use soar_levels::Levels;
@@ -25,16 +25,21 @@ use soar_sym::{Letters, NoMemory, Sym, SymTable, Text};
 use std::alloc::Global;
 
 impl Lookup<'_> {
-    /// The text of the first identifier of an addition that there is not; the first has to be reached by a goal, too.
-    pub fn first_unknown(&self, addition: &Addition) -> Result<Option<Text>, NoMemory>
+    /// The text of the first identifier of an addition that there is not. Where it is asked for, a goal has to reach the
+    /// first one, too.
+    pub fn first_unknown(
+        &self,
+        reached: bool,
+        addition: &Addition,
+    ) -> Result<Option<Text>, NoMemory>
         requires { IsAdditionKnown self.now.table.now addition.now }
         ensures { (s : Session) →
-            IfOk result (λ text. text ≡ first_unknown true (session_with self.now s) (operand_seen addition.now.id) (operand_seen addition.now.attr) (operand_seen addition.now.value)) }
+            IfOk result (λ text. text ≡ first_unknown reached (session_with self.now s) (operand_seen addition.now.id) (operand_seen addition.now.attr) (operand_seen addition.now.value)) }
     {
         if let Some(text) = self.unknown_in(&addition.id)? {
             return Ok(Some(text));
         }
-        if let Some(text) = self.unreached_in(&addition.id)? {
+        if let Some(text) = self.unreached_where(reached, &addition.id)? {
             return Ok(Some(text));
         }
         if let Some(text) = self.unknown_in(&addition.attr)? {
@@ -53,6 +58,19 @@ impl Lookup<'_> {
                 unless_given(self.alloc, self.table, self.letters, *symbol)
             }
             Operand::Label(_) => Ok(None),
+        }
+    }
+
+    /// The text of an operand that no goal reaches, where it is asked for.
+    fn unreached_where(&self, reached: bool, operand: &Operand) -> Result<Option<Text>, NoMemory>
+        requires { IsOperandKnown self.now.table.now operand.now }
+        ensures { (s : Session) →
+            IfOk result (λ text. text ≡ (if reached then unreached_in (session_with self.now s) (operand_seen operand.now) else None)) }
+    {
+        if reached {
+            self.unreached_in(operand)
+        } else {
+            Ok(None)
         }
     }
 

@@ -10,13 +10,14 @@ use Rattle.defs_run.specs.Inputs.{Carried}
 use Rattle.defs_run.specs.Present.{run_present}
 use Rattle.defs_run.specs.Runs.{replied_by}
 use Rattle.defs_run.specs.Sessions.{Session, Reply}
-use Rattle.soar_cycle.specs.Phasing.{limit_in}
-use Rattle.soar_cycle.specs.Seen.{IsSound, agent_of}
 use Rattle.soar_settle.specs.declared.stop.Stop.{Stop}
 use Rattle.soar_settle.specs.declared.stop.Stop.TheVariants as stop
-use Rattle.soar_agent.specs.Courses.{Went, front_said}
-use Rattle.soar_agent.specs.States.{session_of}
-use Rattle.soar_agent.specs.Steps.{Obeys, watch}
+use Rattle.wave_parts.specs.Seen.{agent_of}
+use Rattle.cycle_parts.specs.Stepping.{watch}
+use Rattle.soar_cycle.specs.Agents.{AgentSeen}
+use Rattle.soar_cycle.specs.Courses.{Went, front_said, limit_in}
+use Rattle.soar_agent.specs.States.{IsReady, session_of}
+use Rattle.soar_agent.specs.Steps.{Obeys}
 use Rattle.soar_agent.specs.Telling.{front_told, limit_told}
 use Rattle.soar_agent.specs.Writing.{step_text}
 use Rattle.soar_agent.specs.declared.outcome.Outcome.{Outcome}
@@ -33,27 +34,33 @@ pub record IsSame (first second : Reply) : Type 0 where
   pub front : (mid : Bool) → front_told watch mid first.told ≡ front_told watch mid second.told
 
 -- nothing was appended, and what is still to do for the reply is so many cycles
-pub record AsksToRun (mid : Bool) (reply : Reply) (new : SessionKept) (before after : List ℕ) (count : ℕ) : Type 0 where
+pub record AsksToRun {M : Type 0} (mid : Bool) (reply : Reply) (new : SessionKept M) (before after : List ℕ) (count : ℕ) : Type 0 where
   pub history : List RecordedFiring
-  pub comes : IsSame reply (followed (session_of new history) (run_present count (agent_of new.agent history)))
+  pub comes : IsSame reply (followed (session_of new history) (run_present count (agent_of new.agent.parts history)))
   pub text : after ≡ before
-  pub mid_line : new.mid_line ≡ mid
-  pub kept : IsSound new.agent
+  pub mid_line : new.agent.mid_line ≡ mid
+  pub kept : IsReady new.agent
 
 -- each answer, exactly where it comes; only want of memory is free
-abbrev pub Outcomes : Bool → Reply → SessionKept → List ℕ → List ℕ → Result Outcome Stop → Type 0
+abbrev pub Outcomes : {M : Type 0} → Bool → Reply → SessionKept M → List ℕ → List ℕ → Result Outcome Stop → Type 0
 Outcomes mid reply new before after (Ok outcome.Done) = Obeys mid reply new before after (Ok false)
 Outcomes mid reply new before after (Ok outcome.Refused) = Obeys mid reply new before after (Ok true)
 Outcomes mid reply new before after (Ok (outcome.Run count)) = AsksToRun mid reply new before after count
 Outcomes mid reply new before after (Err why) = Obeys mid reply new before after (Err why)
 
+-- of a command that asks for no cycles, refused or not
+abbrev pub outcome_by : Result Bool Stop → Result Outcome Stop
+outcome_by (Ok true) = Ok outcome.Refused
+outcome_by (Ok false) = Ok outcome.Done
+outcome_by (Err why) = Err why
+
 -- an order of a command on the line of a number
-abbrev pub CarriesOut : SessionKept → SessionKept → List ℕ → ℕ → (Session → Carried) → List ℕ → List ℕ → Result Outcome Stop → Type 0
+abbrev pub CarriesOut : {M : Type 0} → SessionKept M → SessionKept M → List ℕ → ℕ → (Session → Carried) → List ℕ → List ℕ → Result Outcome Stop → Type 0
 CarriesOut old new from line carried before after result = (history : List RecordedFiring) → let s = session_of old history in
-    Outcomes old.mid_line (replied_by from line s (carried s)) new before after result
+    Outcomes old.agent.mid_line (replied_by from line s (carried s)) new before after result
 
 -- at a limit the line of that is appended too, and nothing where there is no memory
-abbrev pub Commands : Session → Reply → SessionKept → List ℕ → List ℕ → Result Outcome Stop → Type 0
+abbrev pub Commands : {M : Type 0} → Session → Reply → SessionKept M → List ℕ → List ℕ → Result Outcome Stop → Type 0
 Commands s reply new before after (Ok answer) = Outcomes s.mid_line reply new before after (Ok answer)
 Commands s reply new before after (Err (stop.Limit limit)) = (limit_told reply.told ≡ Some limit) × (after ≡ before ++ step_text s reply)
 Commands s reply new before after (Err stop.NoMemory) = after ≡ before
@@ -61,8 +68,8 @@ Commands s reply new before after (Err stop.NoMemory) = after ≡ before
 -- ---- a cycle
 
 -- so it is with the course of a cycle
-abbrev pub Cycled : Bool → Course → SessionKept → List ℕ → List ℕ → Result (Unit {0}) Stop → Type 0
-Cycled mid c new before after (Ok done) = Went mid c new before after
+abbrev pub Cycled : {T : Type 0} → Bool → Course → AgentSeen → List ℕ → List ℕ → Result T Stop → Type 0
+Cycled mid c new before after (Ok done) = Went mid c new.parts new.mid_line before after
 Cycled mid c new before after (Err (stop.Limit limit)) =
     (limit_in c.steps ≡ Some limit) × (after ≡ before ++ ((front_said mid c.steps).text ++ line_text (front_said mid c.steps).mid_line (limit_text limit)))
 Cycled mid c new before after (Err stop.NoMemory) = after ≡ before

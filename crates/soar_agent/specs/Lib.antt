@@ -1,10 +1,9 @@
 pub mod Adding
 pub mod Carries
 pub mod Commands
-pub mod Courses
 pub mod Labels
+pub mod Queueing
 pub mod States
 pub mod Steps
 pub mod Telling
-pub mod Triples
 pub mod Writing

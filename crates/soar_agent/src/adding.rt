@@ -4,23 +4,24 @@ ghost use Rattle.soar_sym.specs.Words.{IsKnown};
 ghost use Rattle.defs_soar.specs.History.{RecordedFiring};
 ghost use Rattle.defs_run.specs.Carrying.{carried_out};
 ghost use Rattle.defs_run.specs.Inputs.{added, first_unknown, spelled};
+ghost use Rattle.defs_run.specs.Orders.{add_wme};
 ghost use Rattle.defs_run.specs.Present.{run_present};
-ghost use Rattle.soar_cycle.specs.Seen.{IsSound};
-ghost use Rattle.soar_cmd.specs.Asked.{addition_seen, operand_seen};
+ghost use Rattle.soar_cmd.specs.Asked.{operand_seen};
 ghost use Rattle.soar_cmd.specs.Known.{IsAdditionKnown, IsOperandKnown};
+ghost use Rattle.cycle_parts.specs.Calls.{IsTripleKnown};
 ghost use Rattle.soar_agent.specs.Adding.{adds_by, adds_labelled, adds_to, adds_triple, makes_labelled};
-ghost use Rattle.soar_agent.specs.Carries.{Carries, Replies};
-ghost use Rattle.soar_agent.specs.States.{session_of};
-ghost use Rattle.soar_agent.specs.Triples.{IsTripleKnown};
+ghost use Rattle.soar_agent.specs.Carries.{Carries, RepliesNothing};
+ghost use Rattle.soar_agent.specs.States.{IsReady, session_of};
 
 use crate::state::Session;
+use defs_match::Matcher;
 use defs_run::{Addition, Operand};
 use defs_soar::is_operator_slot;
 use session_parts::{Origin, Reason, Slot, label_in};
 use soar_cycle::Stop;
 use soar_sym::{Text, Triple};
 
-impl Session {
+impl<M: Matcher> Session<M> {
     /// Adds an element to the inputs.
     pub fn add(
         &mut self,
@@ -28,11 +29,12 @@ impl Session {
         addition: Addition,
         out: &mut Text,
     ) -> Result<bool, Stop>
-        requires sound { IsSound self.old.agent }
-        requires known { IsAdditionKnown self.old.agent.table addition }
-        ensures { Carries self.old self.new origin.now.source.now origin.now.line (carried_out run_present (addition_seen addition)) out.old out.new result }
+        requires ready { IsReady self.old.agent }
+        requires known { IsAdditionKnown self.old.agent.parts.table addition }
+        ensures { Carries self.old self.new origin.now.source.now origin.now.line
+            (carried_out run_present (add_wme (operand_seen addition.id) (operand_seen addition.attr) (operand_seen addition.value))) out.old out.new result }
     {
-        match self.lookup(out.allocator()).first_unknown(&addition)? {
+        match self.lookup(out.allocator()).first_unknown(true, &addition)? {
             Some(text) => self.refuse(origin, &Reason::UnknownIdentifier(text.as_str()), out),
             None => self.add_given(origin, addition, out),
         }
@@ -45,8 +47,8 @@ impl Session {
         addition: Addition,
         out: &mut Text,
     ) -> Result<bool, Stop>
-        requires sound { IsSound self.old.agent }
-        requires known { IsAdditionKnown self.old.agent.table addition }
+        requires ready { IsReady self.old.agent }
+        requires known { IsAdditionKnown self.old.agent.parts.table addition }
         requires given { (history : ListOf RecordedFiring) →
             first_unknown true (session_of self.old history) (operand_seen addition.id) (operand_seen addition.attr) (operand_seen addition.value) ≡ None }
         ensures { Carries self.old self.new origin.now.source.now origin.now.line
@@ -65,13 +67,13 @@ impl Session {
         value: Operand,
         out: &mut Text,
     ) -> Result<bool, Stop>
-        requires sound { IsSound self.old.agent }
-        requires id { IsKnown self.old.agent.table slot.id }
-        requires attr { IsKnown self.old.agent.table slot.attr }
-        requires value { IsOperandKnown self.old.agent.table value }
+        requires ready { IsReady self.old.agent }
+        requires id { IsKnown self.old.agent.parts.table slot.id }
+        requires attr { IsKnown self.old.agent.parts.table slot.attr }
+        requires value { IsOperandKnown self.old.agent.parts.table value }
         ensures { Carries self.old self.new origin.now.source.now origin.now.line (adds_to slot.id slot.attr (operand_seen value)) out.old out.new result }
     {
-        if is_operator_slot(self.agent.goals.as_slice(), slot.id, slot.attr) {
+        if is_operator_slot(self.agent.goals().as_slice(), slot.id, slot.attr) {
             self.refuse(origin, &Reason::ReservedAttribute, out)
         } else {
             self.add_value(origin, slot, value, out)
@@ -86,10 +88,10 @@ impl Session {
         value: Operand,
         out: &mut Text,
     ) -> Result<bool, Stop>
-        requires sound { IsSound self.old.agent }
-        requires id { IsKnown self.old.agent.table slot.id }
-        requires attr { IsKnown self.old.agent.table slot.attr }
-        requires value { IsOperandKnown self.old.agent.table value }
+        requires ready { IsReady self.old.agent }
+        requires id { IsKnown self.old.agent.parts.table slot.id }
+        requires attr { IsKnown self.old.agent.parts.table slot.attr }
+        requires value { IsOperandKnown self.old.agent.parts.table value }
         ensures { Carries self.old self.new origin.now.source.now origin.now.line (adds_by slot.id slot.attr (operand_seen value)) out.old out.new result }
     {
         match value {
@@ -108,13 +110,13 @@ impl Session {
         triple: Triple,
         out: &mut Text,
     ) -> Result<bool, Stop>
-        requires sound { IsSound self.old.agent }
-        requires known { IsTripleKnown self.old.agent.table triple }
+        requires ready { IsReady self.old.agent }
+        requires known { IsTripleKnown self.old.agent.parts.table triple }
         ensures { Carries self.old self.new origin.now.source.now origin.now.line (adds_triple triple) out.old out.new result }
     {
-        match self.agent.memory.find(triple) {
+        match self.agent.memory().find(triple) {
             Some(tag) => self.refuse(origin, &Reason::AlreadyThere(tag), out),
-            None => self.put_input(triple, out),
+            None => self.change_inputs(true, triple),
         }
     }
 
@@ -126,9 +128,9 @@ impl Session {
         name: Text,
         out: &mut Text,
     ) -> Result<bool, Stop>
-        requires sound { IsSound self.old.agent }
-        requires id { IsKnown self.old.agent.table slot.id }
-        requires attr { IsKnown self.old.agent.table slot.attr }
+        requires ready { IsReady self.old.agent }
+        requires id { IsKnown self.old.agent.parts.table slot.id }
+        requires attr { IsKnown self.old.agent.parts.table slot.attr }
         ensures { Carries self.old self.new origin.now.source.now origin.now.line (adds_labelled slot.id slot.attr name) out.old out.new result }
     {
         match self
@@ -136,19 +138,19 @@ impl Session {
             .tag_of_next(slot, name.as_str())?
         {
             Some(tag) => self.refuse(origin, &Reason::AlreadyThere(tag), out),
-            None => self.put_labelled(slot, name, out),
+            None => self.put_labelled(slot, name),
         }
     }
 
     /// Makes a label, and puts the triple with it behind the inputs.
-    fn put_labelled(&mut self, slot: Slot, name: Text, out: &Text) -> Result<bool, Stop>
-        requires sound { IsSound self.old.agent }
-        requires id { IsKnown self.old.agent.table slot.id }
-        requires attr { IsKnown self.old.agent.table slot.attr }
-        ensures { Replies self.old self.new (makes_labelled slot.id slot.attr name) out.now out.now result }
+    fn put_labelled(&mut self, slot: Slot, name: Text) -> Result<bool, Stop>
+        requires ready { IsReady self.old.agent }
+        requires id { IsKnown self.old.agent.parts.table slot.id }
+        requires attr { IsKnown self.old.agent.parts.table slot.attr }
+        ensures { RepliesNothing self.old self.new (makes_labelled slot.id slot.attr name) result }
     {
         match self.make_label(name) {
-            Ok(value) => self.put_input(slot.with(value), out),
+            Ok(value) => self.change_inputs(true, slot.with(value)),
             Err(stop) => Err(stop),
         }
     }

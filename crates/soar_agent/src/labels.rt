@@ -7,24 +7,27 @@ ghost use Rattle.defs_soar.specs.History.{RecordedFiring};
 ghost use Rattle.soar_cmd.specs.Asked.{operand_seen};
 ghost use Rattle.soar_cmd.specs.Known.{IsOperandKnown};
 ghost use Rattle.session_parts.specs.Labels.{label_seen, symbol_in};
-ghost use Rattle.soar_agent.specs.Labels.{Makes, OnlyNames};
-ghost use Rattle.soar_agent.specs.States.{session_of};
+ghost use Rattle.soar_agent.specs.Labels.{Makes};
+ghost use Rattle.soar_agent.specs.States.{IsReady, session_of};
 
 use crate::state::Session;
+use defs_match::Matcher;
 use defs_run::Operand;
-use defs_soar::Which;
 use session_parts::{Label, label_in, letter_from};
 use soar_cycle::Stop;
 use soar_sym::{Sym, Text};
 
-impl Session {
+impl<M: Matcher> Session<M> {
     /// The symbol that an operand stands for. A label that is used for the first time becomes a new identifier.
     pub fn resolve(&mut self, operand: Operand) -> Result<Sym, Stop>
-        requires { IsOperandKnown self.old.agent.table operand }
+        requires ready { IsReady self.old.agent }
+        requires known { IsOperandKnown self.old.agent.parts.table operand }
         ensures symbol { (history : ListOf RecordedFiring) → Makes self.new (resolved (session_of self.old history) (operand_seen operand)) history result }
-        ensures known { IfOk result (λ symbol. IsKnown self.new.agent.table symbol) }
+        ensures known { IfOk result (λ symbol. IsKnown self.new.agent.parts.table symbol) }
         ensures standing { (symbol : SymOf) → symbol_in (map label_seen self.old.labels) (operand_seen operand) ≡ Some symbol → (result ≡ Ok symbol) × (self.new ≡ self.old) }
-        ensures rest { OnlyNames self.old self.new }
+        ensures table { IfOk result (λ _. self.new.agent.parts.table ≡ self.old.agent.parts.table) }
+        ensures ready { IfOk result (λ _. IsReady self.new.agent) }
+        ensures mid_line { self.new.agent.mid_line ≡ self.old.agent.mid_line }
     {
         match operand {
             Operand::Symbol(symbol) => Ok(symbol),
@@ -37,17 +40,20 @@ impl Session {
 
     /// Makes a label, which stands for the next identifier of its letter.
     pub fn make_label(&mut self, name: Text) -> Result<Sym, Stop>
+        requires { IsReady self.old.agent }
         ensures symbol { (history : ListOf RecordedFiring) → Makes self.new (labelled (session_of self.old history) name None) history result }
-        ensures known { IfOk result (λ symbol. IsKnown self.new.agent.table symbol) }
-        ensures rest { OnlyNames self.old self.new }
+        ensures known { IfOk result (λ symbol. IsKnown self.new.agent.parts.table symbol) }
+        ensures table { IfOk result (λ _. self.new.agent.parts.table ≡ self.old.agent.parts.table) }
+        ensures ready { IfOk result (λ _. IsReady self.new.agent) }
+        ensures mid_line { self.new.agent.mid_line ≡ self.old.agent.mid_line }
     {
         let letter = letter_from(name.as_str().as_bytes());
-        match self.agent.letters.next(letter) {
+        match self.agent.fresh(letter) {
             Ok(symbol) => {
                 self.labels.push(Label { name, symbol })?;
                 Ok(symbol)
             }
-            Err(_) => Err(Stop::Limit(Which::Identifiers)),
+            Err(stop) => Err(stop),
         }
     }
 }

@@ -8,13 +8,15 @@ mod listing;
 mod loading;
 mod lookup;
 mod outcome;
+mod queueing;
 mod refusing;
 mod removing;
 mod running;
 mod session;
+mod standing;
 mod state;
 
 pub use outcome::Outcome;
 pub use session_parts::Label;
-pub use soar_cycle::Stop;
+pub use soar_cycle::{Standing, Stop};
 pub use state::Session;

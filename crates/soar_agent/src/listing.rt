@@ -6,31 +6,37 @@ ghost use Rattle.defs_run.specs.Listing.{conflict_lines, element_lines};
 ghost use Rattle.defs_run.specs.Orders.{print_id, print_name};
 ghost use Rattle.defs_run.specs.Present.{run_present};
 ghost use Rattle.defs_run.specs.Sessions.{says};
-ghost use Rattle.soar_cycle.specs.Seen.{IsSound};
 ghost use Rattle.soar_cmd.specs.Asked.{operand_seen};
 ghost use Rattle.soar_cmd.specs.Known.{IsOperandKnown};
 ghost use Rattle.soar_agent.specs.Carries.{Carries, Replies};
+ghost use Rattle.soar_agent.specs.States.{IsReady};
 
 use crate::state::Session;
+use defs_match::Matcher;
 use defs_run::Operand;
 use session_parts::{Origin, Reason, rule_named, say_elements_of, say_matches, say_production};
 use soar_cycle::Stop;
 use soar_sym::{Sym, Text};
 
-impl Session {
+impl<M: Matcher> Session<M> {
     /// Says the conflict set.
     pub fn list_matches(&mut self, out: &mut Text) -> Result<bool, Stop>
-        requires { IsSound self.old.agent }
+        requires { IsReady self.old.agent }
         ensures { Replies self.old self.new (λ s. says s (conflict_lines s.agent)) out.old out.new result }
     {
-        let agent = &self.agent;
+        // an agent that stands for a state meets no limit here
+        let Ok(instances) = self.agent.conflict() else {
+            return Err(Stop::NoMemory);
+        };
+        let mut mid_line = self.agent.mid_line();
         say_matches(
-            &agent.table,
-            &agent.rules,
-            &agent.memory,
+            self.agent.symbols(),
+            self.agent.rules(),
+            &instances,
             out,
-            &mut self.mid_line,
+            &mut mid_line,
         )?;
+        self.agent.set_mid_line(mid_line);
         Ok(false)
     }
 
@@ -41,8 +47,8 @@ impl Session {
         id: Operand,
         out: &mut Text,
     ) -> Result<bool, Stop>
-        requires sound { IsSound self.old.agent }
-        requires known { IsOperandKnown self.old.agent.table id }
+        requires ready { IsReady self.old.agent }
+        requires known { IsOperandKnown self.old.agent.parts.table id }
         ensures { Carries self.old self.new origin.now.source.now origin.now.line (carried_out run_present (print_id (operand_seen id))) out.old out.new result }
     {
         match self.lookup(out.allocator()).unknown_in(&id)? {
@@ -52,8 +58,8 @@ impl Session {
     }
 
     fn list_given(&mut self, id: Operand, out: &mut Text) -> Result<bool, Stop>
-        requires sound { IsSound self.old.agent }
-        requires known { IsOperandKnown self.old.agent.table id }
+        requires ready { IsReady self.old.agent }
+        requires known { IsOperandKnown self.old.agent.parts.table id }
         ensures { Replies self.old self.new (λ s. lists_elements s (operand_seen id)) out.old out.new result }
     {
         match self.resolve(id) {
@@ -63,11 +69,13 @@ impl Session {
     }
 
     fn list_symbol(&mut self, id: Sym, out: &mut Text) -> Result<bool, Stop>
-        requires { IsSound self.old.agent }
+        requires { IsReady self.old.agent }
         ensures { Replies self.old self.new (λ s. says s (element_lines s.agent.names.words (elements_of id s.agent.holding.elements))) out.old out.new result }
     {
         let agent = &self.agent;
-        say_elements_of(&agent.table, &agent.memory, id, out, &mut self.mid_line)?;
+        let mut mid_line = agent.mid_line();
+        say_elements_of(agent.symbols(), agent.memory(), id, out, &mut mid_line)?;
+        self.agent.set_mid_line(mid_line);
         Ok(false)
     }
 
@@ -78,13 +86,15 @@ impl Session {
         name: Sym,
         out: &mut Text,
     ) -> Result<bool, Stop>
-        requires sound { IsSound self.old.agent }
-        requires known { IsKnown self.old.agent.table name }
+        requires ready { IsReady self.old.agent }
+        requires known { IsKnown self.old.agent.parts.table name }
         ensures { Carries self.old self.new origin.now.source.now origin.now.line (carried_out run_present (print_name name)) out.old out.new result }
     {
-        match rule_named(self.agent.rules.as_slice(), name) {
+        match rule_named(self.agent.rules().as_slice(), name) {
             Some(rule) => {
-                say_production(&self.agent.table, &rule.production, out, &mut self.mid_line)?;
+                let mut mid_line = self.agent.mid_line();
+                say_production(self.agent.symbols(), &rule.production, out, &mut mid_line)?;
+                self.agent.set_mid_line(mid_line);
                 Ok(false)
             }
             None => self.refuse(origin, &Reason::NoProduction(name), out),

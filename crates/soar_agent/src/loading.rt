@@ -1,33 +1,30 @@
 // Loading a production.
-ghost use Rattle.std.specs.Prelude.{◌≡◌, false};
+ghost use Rattle.std.specs.Prelude.{◌≡◌, false, true};
+ghost use Rattle.soar_rule.specs.AsItStands.{can_be_matched};
 ghost use Rattle.soar_rule.specs.Productions.{production_seen};
 ghost use Rattle.soar_rule.specs.Symbols.{AreKnown, symbols_of};
 ghost use Rattle.defs_run.specs.Carrying.{loaded};
 ghost use Rattle.defs_soar.specs.Pending.{is_justification};
-ghost use Rattle.soar_cycle.specs.Seen.{IsSound};
-ghost use Rattle.soar_agent.specs.Carries.{Replies};
+ghost use Rattle.soar_agent.specs.Carries.{RepliesNothing};
+ghost use Rattle.soar_agent.specs.States.{IsReady};
 
 use crate::state::Session;
-use defs_soar::Which;
-use session_parts::put_rule;
+use defs_match::Matcher;
 use soar_cycle::Stop;
 use soar_rule::Production;
-use soar_sym::Text;
 
-impl Session {
+impl<M: Matcher> Session<M> {
     /// Loads a production under the next rule number, in the place of that of its name.
-    pub fn load(&mut self, production: Production, out: &Text) -> Result<bool, Stop>
-        requires sound { IsSound self.old.agent }
-        requires known { AreKnown self.old.agent.table (symbols_of (production_seen production)) }
+    pub fn load(&mut self, production: Production) -> Result<bool, Stop>
+        requires ready { IsReady self.old.agent }
+        requires known { AreKnown self.old.agent.parts.table (symbols_of (production_seen production)) }
         requires unlearned { is_justification production.kind ≡ false }
-        ensures { Replies self.old self.new (loaded (production_seen production)) out.now out.now result }
+        requires matchable { can_be_matched (production_seen production) ≡ true }
+        ensures { RepliesNothing self.old self.new (loaded (production_seen production)) result }
     {
-        let _ = out;
-        if self.agent.last_rule == u64::MAX {
-            return Err(Stop::Limit(Which::Counts));
+        match self.agent.load(production) {
+            Ok(()) => Ok(false),
+            Err(stop) => Err(stop),
         }
-        put_rule(&mut self.agent.rules, self.agent.last_rule + 1, production)?;
-        self.agent.last_rule += 1;
-        Ok(false)
     }
 }

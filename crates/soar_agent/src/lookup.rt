@@ -5,23 +5,24 @@ ghost use Rattle.session_parts.specs.Lookups.{session_with};
 ghost use Rattle.soar_agent.specs.States.{session_of};
 
 use crate::state::Session;
+use defs_match::Matcher;
 use session_parts::Lookup;
 use std::alloc::Global;
 
-impl Session {
+impl<M: Matcher> Session<M> {
     pub fn lookup(&self, alloc: Global) -> Lookup<'_>
-        ensures table { result.table.now ≡ self.now.agent.table }
-        ensures letters { result.letters.now ≡ self.now.agent.letters }
-        ensures elements { result.memory.now.elements ≡ self.now.agent.memory.elements }
+        ensures table { result.table.now ≡ self.now.agent.parts.table }
+        ensures letters { result.letters.now ≡ self.now.agent.parts.letters }
+        ensures elements { result.memory.now.elements ≡ self.now.agent.parts.memory.elements }
         ensures session { (history : ListOf RecordedFiring) → session_with result (session_of self.now history) ≡ session_of self.now history }
     {
         Lookup {
             alloc,
-            table: &self.agent.table,
-            letters: &self.agent.letters,
+            table: self.agent.symbols(),
+            letters: self.agent.letters(),
             labels: &self.labels,
-            goals: &self.agent.goals,
-            memory: &self.agent.memory,
+            goals: self.agent.goals(),
+            memory: self.agent.memory(),
         }
     }
 }

@@ -1,8 +1,5 @@
-ghost use Rattle.std.specs.Prelude.{ℕ, Bool, List as ListOf};
-ghost use Rattle.defs_run.specs.Sessions.{Reply};
-ghost use Rattle.soar_agent.specs.Commands.{Outcomes};
-ghost use Rattle.soar_agent.specs.Steps.{Obeys};
-ghost use Rattle.soar_agent.specs.declared.state.Session.{Session as SessionKept};
+ghost use Rattle.std.specs.Prelude.{◌≡◌};
+ghost use Rattle.soar_agent.specs.Commands.{outcome_by};
 
 use soar_cycle::Stop;
 
@@ -16,7 +13,7 @@ pub enum Outcome {
 
 /// The outcome of a command that asks for no cycles, which was refused or not.
 pub fn outcome_of(answer: Result<bool, Stop>) -> Result<Outcome, Stop>
-    ensures { (mid : Bool) (reply : Reply) (new : SessionKept) (before after : ListOf ℕ) → Obeys mid reply new before after answer → Outcomes mid reply new before after result }
+    ensures { result ≡ outcome_by answer }
 {
     match answer {
         Ok(true) => Ok(Outcome::Refused),

@@ -1,25 +1,26 @@
-// Running a cycle.
-ghost use Rattle.std.specs.Prelude.{◌≡◌, ℕ, Bool, List as ListOf, true, IfOk};
-ghost use Rattle.defs_soar.specs.Cycle.{cut_line};
-ghost use Rattle.defs_soar.specs.Events.{proposal_phase};
+// Running cycles.
+ghost use Rattle.std.specs.Prelude.{◌≡◌, List as ListOf, IfOk};
+ghost use Rattle.defs_soar.specs.Cycle.{cycle};
+ghost use Rattle.defs_soar.specs.Decision.{decided_alone};
 ghost use Rattle.defs_soar.specs.History.{RecordedFiring};
 ghost use Rattle.defs_soar.specs.Learning.{without_learning};
-ghost use Rattle.defs_soar.specs.Phases.{Course, phase};
 ghost use Rattle.defs_run.specs.Carrying.{carried_out};
 ghost use Rattle.defs_run.specs.Orders.{run_cycles};
-ghost use Rattle.defs_run.specs.Present.{cycle, run_present};
-ghost use Rattle.soar_cycle.specs.Seen.{IsSound, agent_of};
+ghost use Rattle.defs_run.specs.Present.{run_present};
+ghost use Rattle.wave_parts.specs.Seen.{agent_of};
+ghost use Rattle.soar_cycle.specs.Agents.{standing_after};
 ghost use Rattle.soar_agent.specs.Commands.{CarriesOut, Cycled};
-ghost use Rattle.soar_agent.specs.Courses.{Goes, GoesPhase, Went};
+ghost use Rattle.soar_agent.specs.States.{IsReady, IsSoundSession, StaysStopped};
 
 use crate::outcome::{Outcome, outcome_of};
+use crate::standing::standing_after;
 use crate::state::Session;
-use defs_soar::Which;
-use session_parts::{Origin, Reason, is_mid_after, say_line, say_stop};
-use soar_cycle::Stop;
+use defs_match::Matcher;
+use session_parts::{Origin, Reason, say_stop};
+use soar_cycle::{Standing, Stop};
 use soar_sym::Text;
 
-impl Session {
+impl<M: Matcher> Session<M> {
     /// Asks for so many cycles, unless the agent is halted.
     pub fn ask_to_run(
         &mut self,
@@ -27,76 +28,51 @@ impl Session {
         count: u32,
         out: &mut Text,
     ) -> Result<Outcome, Stop>
-        requires { IsSound self.old.agent }
+        requires { IsReady self.old.agent }
         ensures { CarriesOut self.old self.new origin.now.source.now origin.now.line (carried_out run_present (run_cycles count)) out.old out.new result }
     {
-        if self.agent.halted {
+        if self.agent.halted() {
             return outcome_of(self.refuse(origin, &Reason::Halted, out));
         }
         Ok(Outcome::Run(count))
     }
 
     /// Runs a cycle, and appends what it says. At a limit that is what comes before, and the line of the limit;
-    /// nothing where there is no memory.
-    pub fn cycle(&mut self, text: &mut Text) -> Result<(), Stop>
-        requires { IsSound self.old.agent }
-        ensures course { (history : ListOf RecordedFiring) → Cycled self.old.mid_line (cycle (agent_of self.old.agent history)) self.new text.old text.new result }
+    /// nothing where there is no memory. True exactly where the agent is halted in the end.
+    pub fn cycle(&mut self, text: &mut Text) -> Result<bool, Stop>
+        requires { IsSoundSession self.old }
+        ensures course { self.old.standing ≡ Standing.Stands → (history : ListOf RecordedFiring) →
+            Cycled self.old.agent.mid_line (cycle decided_alone without_learning (agent_of self.old.agent.parts history)) self.new.agent text.old text.new result }
+        ensures halted { IfOk result (λ halted. halted ≡ self.new.agent.parts.halted) }
         ensures labels { self.new.labels ≡ self.old.labels }
-        ensures sound { IfOk result (λ _. IsSound self.new.agent) }
+        ensures standing { self.new.standing ≡ standing_after self.old.standing result }
+        ensures stopped { StaysStopped self.old.standing text.old text.new result }
+        ensures sound { IsSoundSession self.new }
+    {
+        let standing = self.standing;
+        if let Some(stop) = standing.stop() {
+            return Err(stop);
+        }
+        let answer = self.run_cycle(text);
+        self.standing = standing_after(standing, &answer);
+        answer
+    }
+
+    fn run_cycle(&mut self, text: &mut Text) -> Result<bool, Stop>
+        requires { IsReady self.old.agent }
+        ensures course { (history : ListOf RecordedFiring) →
+            Cycled self.old.agent.mid_line (cycle decided_alone without_learning (agent_of self.old.agent.parts history)) self.new.agent text.old text.new result }
+        ensures halted { IfOk result (λ halted. halted ≡ self.new.agent.parts.halted) }
+        ensures labels { self.new.labels ≡ self.old.labels }
+        ensures ready { IfOk result (λ _. IsReady self.new.agent) }
     {
         let mut said = Text::new(text.allocator());
-        match self.run_cycle(&mut said) {
-            Ok(()) => {
+        match self.agent.cycle(&mut said) {
+            Ok(halted) => {
                 text.push_str(said.as_str())?;
-                Ok(())
+                Ok(halted)
             }
-            Err(stop) => Err(say_stop(stop, self.mid_line, &mut said, text)),
+            Err(stop) => Err(say_stop(stop, self.agent.mid_line(), &mut said, text)),
         }
-    }
-
-    /// Runs a cycle: the proposal phase, which is counted.
-    fn run_cycle(&mut self, out: &mut Text) -> Result<(), Stop>
-        requires { IsSound self.old.agent }
-        ensures course { (history : ListOf RecordedFiring) → Goes self.old.mid_line (cycle (agent_of self.old.agent history)) self.new out.old out.new result }
-        ensures labels { self.new.labels ≡ self.old.labels }
-        ensures sound { IfOk result (λ _. IsSound self.new.agent) }
-    {
-        if self.agent.cycles == u64::MAX {
-            return Err(Stop::Limit(Which::Counts));
-        }
-        self.agent.cycles += 1;
-        match self.propose(out) {
-            Ok(cut) => self.say_cut(cut, out),
-            Err(stop) => Err(stop),
-        }
-    }
-
-    /// Says that the phase was cut, where it was.
-    fn say_cut(&mut self, cut: bool, out: &mut Text) -> Result<(), Stop>
-        requires { IsSound self.old.agent }
-        ensures course { (mid_line : Bool) (c : Course) (before : ListOf ℕ) → Went mid_line c self.old before out.old → Goes mid_line (cut_line proposal_phase cut c) self.new before out.new result }
-        ensures labels { self.new.labels ≡ self.old.labels }
-        ensures sound { IfOk result (λ _. IsSound self.new.agent) }
-    {
-        if cut {
-            say_line(out, &mut self.mid_line, "cut proposal")?;
-            Ok(())
-        } else {
-            Ok(())
-        }
-    }
-
-    /// Runs the proposal phase, and tells whether it was cut.
-    fn propose(&mut self, out: &mut Text) -> Result<bool, Stop>
-        requires { IsSound self.old.agent }
-        ensures phase { (history : ListOf RecordedFiring) → GoesPhase self.old.mid_line (phase without_learning true (agent_of self.old.agent history)) self.new out.old out.new result }
-        ensures labels { self.new.labels ≡ self.old.labels }
-        ensures sound { IfOk result (λ _. IsSound self.new.agent) }
-    {
-        let mut text = Text::new(out.allocator());
-        let cut = self.agent.propose(out.allocator(), &mut text);
-        out.push_str(text.as_str())?;
-        self.mid_line = is_mid_after(self.mid_line, text.as_str().as_bytes());
-        cut
     }
 }

@@ -1,4 +1,4 @@
-ghost use Rattle.std.specs.Prelude.{◌≡◌, ◌≤◌, ◌^◌, [], List as ListOf, IfOk, length};
+ghost use Rattle.std.specs.Prelude.{◌≡◌, ◌≤◌, ◌^◌, [], false, List as ListOf, IfOk, length};
 ghost use Rattle.defs_soar.specs.History.{RecordedFiring};
 ghost use Rattle.defs_run.specs.Carrying.{carried_out};
 ghost use Rattle.defs_run.specs.Present.{present_stage, run_present};
@@ -6,41 +6,68 @@ ghost use Rattle.defs_run.specs.Runs.{obeyed};
 ghost use Rattle.defs_run.specs.Sessions.{first_session};
 ghost use Rattle.soar_cmd.specs.Asked.{order_seen};
 ghost use Rattle.soar_cmd.specs.Known.{IsOrderKnown};
-ghost use Rattle.soar_cycle.specs.Seen.{IsSound};
+ghost use Rattle.soar_cycle.specs.Agents.{standing_after};
 ghost use Rattle.soar_agent.specs.Commands.{CarriesOut, Commands, Outcomes};
-ghost use Rattle.soar_agent.specs.States.{session_of};
+ghost use Rattle.soar_agent.specs.States.{IsReady, IsSoundSession, StaysStopped, session_of};
 
 use crate::outcome::{Outcome, outcome_of};
+use crate::standing::standing_after;
 use crate::state::Session;
+use defs_match::Matcher;
 use defs_run::Order;
 use defs_soar::Which;
 use session_parts::{Origin, Reason, say_stop};
 use soar_cmd::{CmdFault, read_command};
-use soar_cycle::{Agent, Stop};
+use soar_cycle::{Agent, Standing, Stop};
 use soar_edge::Command;
 use soar_sym::{List, NoMemory, Text};
 use std::alloc::Global;
 
-impl Session {
+impl<M: Matcher + Drop> Session<M> {
     /// The top state with its input and output links, and no rule.
-    pub fn new(alloc: Global) -> Result<Session, NoMemory>
+    pub fn new(alloc: Global, matcher: M) -> Result<Session<M>, NoMemory>
+        requires works { M.failed matcher ≡ false }
+        requires rules { M.rules matcher ≡ [] }
+        requires elements { M.elements matcher ≡ [] }
         ensures stands { IfOk result (λ s. session_of s [] ≡ first_session 1) }
-        ensures sound { IfOk result (λ s. IsSound s.agent) }
+        ensures standing { IfOk result (λ s. s.standing ≡ Standing.Stands) }
+        ensures sound { IfOk result (λ s. IsSoundSession s) }
     {
         Ok(Session {
-            agent: Agent::new(alloc)?,
+            agent: Agent::new(alloc, matcher)?,
             labels: List::new(alloc),
-            mid_line: false,
+            standing: Standing::Stands,
         })
     }
+}
 
+impl<M: Matcher> Session<M> {
     /// Carries a command of a source out, all but the cycles that it asks for, and appends what it says. At a limit
     /// that is what comes before, and the line of the limit; nothing where there is no memory.
     pub fn command(&mut self, c: &Command, source: &str, text: &mut Text) -> Result<Outcome, Stop>
         requires short { length c.now.text ≤ 2 ^ 26 }
-        requires sound { IsSound self.old.agent }
-        ensures { (history : ListOf RecordedFiring) → let s = session_of self.old history in
+        requires sound { IsSoundSession self.old }
+        ensures command { self.old.standing ≡ Standing.Stands → (history : ListOf RecordedFiring) → let s = session_of self.old history in
             Commands s (obeyed present_stage source.now c.now.line c.now.text s) self.new text.old text.new result }
+        ensures standing { self.new.standing ≡ standing_after self.old.standing result }
+        ensures stopped { StaysStopped self.old.standing text.old text.new result }
+        ensures sound { IsSoundSession self.new }
+    {
+        let standing = self.standing;
+        if let Some(stop) = standing.stop() {
+            return Err(stop);
+        }
+        let answer = self.answer(c, source, text);
+        self.standing = standing_after(standing, &answer);
+        answer
+    }
+
+    fn answer(&mut self, c: &Command, source: &str, text: &mut Text) -> Result<Outcome, Stop>
+        requires short { length c.now.text ≤ 2 ^ 26 }
+        requires ready { IsReady self.old.agent }
+        ensures command { (history : ListOf RecordedFiring) → let s = session_of self.old history in
+            Commands s (obeyed present_stage source.now c.now.line c.now.text s) self.new text.old text.new result }
+        ensures ready { IfOk result (λ _. IsReady self.new.agent) }
     {
         let mut said = Text::new(text.allocator());
         match self.obey(c, source, &mut said) {
@@ -48,28 +75,28 @@ impl Session {
                 text.push_str(said.as_str())?;
                 Ok(outcome)
             }
-            Err(stop) => Err(say_stop(stop, self.mid_line, &mut said, text)),
+            Err(stop) => Err(say_stop(stop, self.agent.mid_line(), &mut said, text)),
         }
     }
 
     /// Carries a command out.
     fn obey(&mut self, c: &Command, source: &str, out: &mut Text) -> Result<Outcome, Stop>
         requires short { length c.now.text ≤ 2 ^ 26 }
-        requires sound { IsSound self.old.agent }
+        requires ready { IsReady self.old.agent }
         ensures { (history : ListOf RecordedFiring) → let s = session_of self.old history in
-            Outcomes self.old.mid_line (obeyed present_stage source.now c.now.line c.now.text s) self.new out.old out.new result }
+            Outcomes self.old.agent.mid_line (obeyed present_stage source.now c.now.line c.now.text s) self.new out.old out.new result }
     {
         let origin = &Origin {
             source,
             line: c.line,
         };
-        match read_command(out.allocator(), &mut self.agent.table, c) {
+        match read_command(out.allocator(), self.agent.table(), c) {
             Ok(order) => {
-                let _within = self.agent.table.word_count();
+                let _within = self.agent.symbols().word_count();
                 self.carry_out(origin, order, out)
             }
             Err(CmdFault::Refused { number, shown }) => {
-                let _within = self.agent.table.word_count();
+                let _within = self.agent.symbols().word_count();
                 outcome_of(self.refuse(origin, &Reason::Read(number, shown), out))
             }
             Err(CmdFault::WordsSpent) => Err(Stop::Limit(Which::Words)),
@@ -84,14 +111,16 @@ impl Session {
         order: Order,
         out: &mut Text,
     ) -> Result<Outcome, Stop>
-        requires sound { IsSound self.old.agent }
-        requires known { IsOrderKnown self.old.agent.table order }
+        requires ready { IsReady self.old.agent }
+        requires known { IsOrderKnown self.old.agent.parts.table order }
         ensures { CarriesOut self.old self.new origin.now.source.now origin.now.line (carried_out run_present (order_seen order)) out.old out.new result }
     {
         match order {
-            Order::Load(production) => outcome_of(self.load(production, out)),
+            Order::Load(production) => outcome_of(self.load(production)),
             Order::Add(addition) => outcome_of(self.add(origin, addition, out)),
             Order::Remove(tag) => outcome_of(self.remove(origin, tag, out)),
+            Order::Queue(adds, addition) => outcome_of(self.queue(origin, adds, addition, out)),
+            Order::Random(words) => outcome_of(self.put_random(&words)),
             Order::Run(count) => self.ask_to_run(origin, count, out),
             Order::Matches => outcome_of(self.list_matches(out)),
             Order::Print(id) => outcome_of(self.list_elements(origin, id, out)),

@@ -1,12 +1,13 @@
+use defs_match::Matcher;
 use session_parts::Label;
-use soar_cycle::Agent;
+use soar_cycle::{Agent, Standing};
 use soar_sym::List;
 
-/// The state of a run between two commands: the agent, the labels that stand for identifiers, and whether what was
-/// written ends in the middle of a line.
+/// The state of a run between two commands: the agent, the labels that stand for identifiers, and whether the session
+/// stands for a state.
 #[derive(Drop)]
-pub struct Session {
-    pub agent: Agent,
+pub struct Session<M: Matcher> {
+    pub agent: Agent<M>,
     pub labels: List<Label>,
-    pub mid_line: bool,
+    pub standing: Standing,
 }

@@ -1,6 +1,0 @@
-use Rattle.std.proofs.Common.{sym}
-use Rattle.session_parts.proofs.SaidLemmas.{mid_last}
-use Rattle.session_parts.proofs.said.is_mid_after.Goals as goal
-
-pub returns-in-Some : goal.returns-in-Some
-returns-in-Some c = sym (mid_last c.args.mid_line c.args.bytes.now c.in-Some.byte.now (sym c.in-Some.ensures.value))

@@ -1,0 +1,117 @@
+// What waits for the agent: changes of the inputs, and random words.
+ghost use Rattle.std.specs.Prelude.{◌≡◌, List as ListOf, IfOk};
+ghost use Rattle.defs_run.specs.Carrying.{carried_out};
+ghost use Rattle.defs_run.specs.Inputs.{queued, spelled, with_queued, with_random};
+ghost use Rattle.defs_run.specs.Orders.{queue};
+ghost use Rattle.defs_run.specs.Present.{run_present};
+ghost use Rattle.defs_soar.specs.History.{RecordedFiring};
+ghost use Rattle.soar_cmd.specs.Asked.{operand_seen};
+ghost use Rattle.soar_cmd.specs.Known.{IsAdditionKnown};
+ghost use Rattle.cycle_parts.specs.Calls.{IsTripleKnown};
+ghost use Rattle.soar_agent.specs.Carries.{Carries, RepliesNothing};
+ghost use Rattle.soar_agent.specs.Labels.{Spells};
+ghost use Rattle.soar_agent.specs.Queueing.{queues_triple};
+ghost use Rattle.soar_agent.specs.States.{IsReady, session_of};
+
+use crate::state::Session;
+use defs_match::Matcher;
+use defs_run::Addition;
+use session_parts::{Origin, Reason, Slot};
+use soar_cycle::Stop;
+use soar_sym::{List, Text, Triple};
+
+impl<M: Matcher> Session<M> {
+    /// Queues a change of the inputs for the next input phase.
+    pub fn queue(
+        &mut self,
+        origin: &Origin<'_>,
+        adds: bool,
+        addition: Addition,
+        out: &mut Text,
+    ) -> Result<bool, Stop>
+        requires ready { IsReady self.old.agent }
+        requires known { IsAdditionKnown self.old.agent.parts.table addition }
+        ensures { Carries self.old self.new origin.now.source.now origin.now.line
+            (carried_out run_present (queue adds (operand_seen addition.id) (operand_seen addition.attr) (operand_seen addition.value))) out.old out.new result }
+    {
+        match self
+            .lookup(out.allocator())
+            .first_unknown(false, &addition)?
+        {
+            Some(text) => self.refuse(origin, &Reason::UnknownIdentifier(text.as_str()), out),
+            None => self.queue_given(origin, adds, addition, out),
+        }
+    }
+
+    /// Queues a change whose identifiers there are, unless its attribute is reserved.
+    fn queue_given(
+        &mut self,
+        origin: &Origin<'_>,
+        adds: bool,
+        addition: Addition,
+        out: &mut Text,
+    ) -> Result<bool, Stop>
+        requires ready { IsReady self.old.agent }
+        requires known { IsAdditionKnown self.old.agent.parts.table addition }
+        ensures { Carries self.old self.new origin.now.source.now origin.now.line
+            (λ s. queued adds (spelled s (operand_seen addition.id) (operand_seen addition.attr) (operand_seen addition.value))) out.old out.new result }
+    {
+        if self.lookup(out.allocator()).is_reserved(&addition) {
+            self.refuse(origin, &Reason::ReservedAttribute, out)
+        } else {
+            self.queue_spelled(adds, addition)
+        }
+    }
+
+    /// Queues a change, and makes its labels.
+    fn queue_spelled(&mut self, adds: bool, addition: Addition) -> Result<bool, Stop>
+        requires ready { IsReady self.old.agent }
+        requires known { IsAdditionKnown self.old.agent.parts.table addition }
+        ensures { RepliesNothing self.old self.new
+            (λ s. with_queued adds (spelled s (operand_seen addition.id) (operand_seen addition.attr) (operand_seen addition.value))) result }
+    {
+        match self.spell(addition) {
+            Ok(triple) => self.put_queued(adds, triple),
+            Err(stop) => Err(stop),
+        }
+    }
+
+    /// The triple of three operands.
+    fn spell(&mut self, addition: Addition) -> Result<Triple, Stop>
+        requires ready { IsReady self.old.agent }
+        requires known { IsAdditionKnown self.old.agent.parts.table addition }
+        ensures triple { (history : ListOf RecordedFiring) →
+            Spells self.new (spelled (session_of self.old history) (operand_seen addition.id) (operand_seen addition.attr) (operand_seen addition.value)) history result }
+        ensures known { IfOk result (λ triple. IsTripleKnown self.new.agent.parts.table triple) }
+        ensures ready { IfOk result (λ _. IsReady self.new.agent) }
+        ensures mid_line { self.new.agent.mid_line ≡ self.old.agent.mid_line }
+    {
+        let id = self.resolve(addition.id)?;
+        let attr = self.resolve(addition.attr)?;
+        let value = self.resolve(addition.value)?;
+        Ok(Slot { id, attr }.with(value))
+    }
+
+    /// Queues a change of symbols that there are.
+    fn put_queued(&mut self, adds: bool, triple: Triple) -> Result<bool, Stop>
+        requires ready { IsReady self.old.agent }
+        requires known { IsTripleKnown self.old.agent.parts.table triple }
+        ensures { RepliesNothing self.old self.new (queues_triple adds triple) result }
+    {
+        match self.agent.queue(adds, triple) {
+            Ok(()) => Ok(false),
+            Err(stop) => Err(stop),
+        }
+    }
+
+    /// Puts random words behind those that wait for draws.
+    pub fn put_random(&mut self, words: &List<u64>) -> Result<bool, Stop>
+        requires { IsReady self.old.agent }
+        ensures { RepliesNothing self.old self.new (with_random words.now) result }
+    {
+        match self.agent.random(words) {
+            Ok(()) => Ok(false),
+            Err(stop) => Err(stop),
+        }
+    }
+}
