@@ -220,3 +220,17 @@ after_proposals = extends_then with_decision (λ c. then_output (with_applicatio
 
 pub after_inputs : Extends (λ c. then_output (with_application (with_decision (with_proposals c))))
 after_inputs = extends_then with_proposals (λ c. then_output (with_application (with_decision c))) (phase_extends proposal_phase true) after_proposals
+
+pub nothing_after : Extends (λ c. c)
+nothing_after c = ([], sym (append-nil c.steps))
+
+-- the same of an answer that is such an error
+pub stopped_with : {T : Type 0} (mid : Bool) (c : Course) (g f : Course → Course) → Extends g → (old new : PartsKept) (old_mid new_mid : Bool) (before between after : List ℕ) (why : Stop) (result : Result T Stop)
+    → result ≡ Err why → Went mid c old old_mid before between → GoesOn {T = Unit {0}} f old new old_mid new_mid between after (Err why) → Goes mid (g (f c)) new new_mid before after result
+stopped_with {T} mid c g f extends old new old_mid new_mid before between after why result is went goes =
+    subst (λ (answer : Result T Stop). Goes mid (g (f c)) new new_mid before after answer) (sym is)
+    (stopped_on (Unit {0}) T f g extends mid c old new old_mid new_mid before between after why went goes)
+
+pub of_cycle : {T : Type 0} (s : Agent) (new : PartsKept) (mid new_mid : Bool) (before after : List ℕ) (result : Result T Stop) → Goes mid (whole (still s)) new new_mid before after result
+    → Goes mid (cycle decided_alone without_learning s) new new_mid before after result
+of_cycle {T} s new mid new_mid before after result goes = subst (λ (c : Course). Goes mid c new new_mid before after result) (sym (cycle_is s)) goes
