@@ -3,3 +3,4 @@ pub mod CourseLemmas
 pub mod CycleLemmas
 pub mod GoingLemmas
 pub mod PhaseLemmas
+pub mod ToldLemmas
