@@ -1,5 +1,5 @@
 -- What the calls of an agent answer.
-use Rattle.std.proofs.Common.{◌≡◌, ℕ, ◌≤◌, [], Result, Ok, Err, IfOk, sym, subst}
+use Rattle.std.proofs.Common.{ℕ, ◌≤◌, [], Result, Ok, Err, IfOk, sym, subst}
 use Rattle.soar_sym.specs.Words.{Texts, IsKnown}
 use Rattle.soar_sym.specs.declared.symbol.Sym.{Sym}
 use Rattle.defs_soar.specs.Agents.{Agent}

@@ -1,15 +1,14 @@
 -- A cycle, phase by phase.
-use Rattle.std.proofs.Common.{◌≡◌, ℕ, suc, ◌∙◌, Bool, true, false, List, [], ◌∷◌, ◌++◌, append-nil, append_assoc, Some, None, Result, Ok, Err, refl, sym, ap, subst}
+use Rattle.std.proofs.Common.{◌≡◌, ℕ, suc, ◌∙◌, Bool, true, false, List, [], ◌∷◌, ◌++◌, append-nil, append_assoc, Result, Ok, Err, refl, sym, ap, subst}
 use Rattle.defs_soar.specs.Agents.{Agent}
 use Rattle.defs_soar.specs.Cycle.{after_input, after_output, begun, cut_line, cycle, held_with, then_application, then_course, then_decision, then_output, then_phase, told_alone, unless_halted, with_changes}
 use Rattle.defs_soar.specs.Decision.{decided_alone}
 use Rattle.defs_soar.specs.Events.{Part, application_phase, begins, input_phase, is_cut, proposal_phase}
 use Rattle.defs_soar.specs.Learning.{without_learning}
-use Rattle.defs_soar.specs.Limits.{first_passed}
 use Rattle.defs_soar.specs.Phases.{Course, Phased, Said, phase, said_by, still, then_step}
 use Rattle.defs_soar.specs.Resettling.{AgentStep, resettled}
 use Rattle.defs_soar.specs.Trimming.{Remains}
-use Rattle.defs_soar.specs.Trace.{Written, line_text, pieces_of, rendered}
+use Rattle.defs_soar.specs.Trace.{Written, pieces_of}
 use Rattle.soar_settle.specs.declared.stop.Stop.{Stop}
 use Rattle.soar_settle.specs.declared.stop.Stop.TheVariants as stop
 use Rattle.trace_lines.specs.Saying.{SaysLine, part_of}
@@ -17,14 +16,14 @@ use Rattle.trace_lines.specs.declared.halting.Phase.{Phase}
 use Rattle.trace_lines.specs.declared.halting.Phase.TheVariants.{Application, Proposal}
 use Rattle.wave_parts.specs.Stands.{Stands}
 use Rattle.wave_parts.specs.declared.parts.Parts.{Parts as PartsKept}
-use Rattle.cycle_parts.specs.Stepping.{GoesStep, QuietStep, step_written, watch}
+use Rattle.cycle_parts.specs.Stepping.{GoesStep, QuietStep, step_written}
 use Rattle.cycle_parts.specs.Waving.{is_proposing}
 use Rattle.cycle_parts.proofs.EventLemmas.{said_alone}
 use Rattle.cycle_parts.proofs.QuietLemmas.{settling_mute}
-use Rattle.soar_cycle.specs.Courses.{Goes, Passed, Went, front_said, limit_in, phase_course, phased}
+use Rattle.soar_cycle.specs.Courses.{Goes, Went, front_said, phase_course, phased}
 use Rattle.soar_cycle.specs.Cycling.{GoesOn, with_application, with_decision, with_input, with_proposals}
 use Rattle.soar_cycle.specs.Going.{GoesPhase}
-use Rattle.soar_cycle.proofs.CourseLemmas.{course_by, goes_then, none_went, nothing, passed_more, step_goes, stopped_more, went_stops, went_then}
+use Rattle.soar_cycle.proofs.CourseLemmas.{course_by, goes_then, nothing, passed_more, step_goes, stopped_more, went_stops, went_then}
 
 -- ---- steps are added, and none is taken away
 

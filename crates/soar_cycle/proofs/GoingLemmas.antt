@@ -7,11 +7,9 @@ use Rattle.defs_soar.specs.Pending.{is_none, pending}
 use Rattle.defs_soar.specs.Phases.{Course, Phased, still, then_step, one_wave, phased_by, phase}
 use Rattle.soar_settle.specs.declared.stop.Stop.{Stop}
 use Rattle.soar_settle.specs.declared.stop.Stop.TheVariants as stop
-use Rattle.trace_lines.specs.declared.halting.Phase.{Phase}
 use Rattle.wave_parts.specs.Stands.{Stands}
 use Rattle.wave_parts.specs.declared.parts.Parts.{Parts as PartsKept}
 use Rattle.cycle_parts.specs.Waving.{Rested, TellsWork, WavesFrom, Worked}
-use Rattle.cycle_parts.specs.declared.waving.Waved.TheVariants as waved
 use Rattle.soar_cycle.specs.Courses.{Went}
 use Rattle.soar_cycle.specs.Going.{GoesPhase, Going}
 use Rattle.soar_cycle.proofs.CourseLemmas.{course_by, none_went, passed_more, step_stops, step_went, went_stops, went_then}

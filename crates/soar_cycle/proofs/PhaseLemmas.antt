@@ -1,5 +1,5 @@
 -- A phase, wave by wave.
-use Rattle.std.proofs.Common.{◌≡◌, ℕ, zero, suc, ◌∙◌, Bool, true, false, not, List, [], ◌∷◌, ◌++◌, append-nil, append_assoc, refl, sym, ap}
+use Rattle.std.proofs.Common.{◌≡◌, ℕ, zero, suc, ◌∙◌, Bool, true, false, List, [], ◌∷◌, ◌++◌, append-nil, append_assoc, refl, sym, ap}
 use Rattle.soar_rule.specs.Repeat.{Turn, ends, goes_on, turns}
 use Rattle.defs_soar.specs.Learning.{without_learning}
 use Rattle.defs_soar.specs.Pending.{is_none, pending}
@@ -47,7 +47,7 @@ goes_behind proposing (suc n) c = by (is_none (pending proposing c.agent)) (at_w
     by false false some is later = (
       said_by (at_wave proposing c) ∷ later.0,
       ap (λ t. (course_of proposing t).steps) (turns_by proposing n c (goes_on (then_step c (at_wave proposing c))) (with_wave proposing c false some is)) ∙ later.1
-      ∙ append_assoc c.steps (said_by (at_wave proposing c) ∷ []) later.0,
+          ∙ append_assoc c.steps (said_by (at_wave proposing c) ∷ []) later.0,
     )
 
 -- a wave that something is pending for is among the steps
@@ -61,7 +61,7 @@ wave_among proposing n c some = by (at_wave proposing c).halted refl (goes_behin
     by true is later = (
       [],
       ap (λ t. (course_of proposing t).steps) (turns_by proposing n c (ends (then_step c (at_wave proposing c))) (with_wave proposing c true some is))
-      ∙ sym (append-nil (then_step c (at_wave proposing c)).steps),
+          ∙ sym (append-nil (then_step c (at_wave proposing c)).steps),
     )
     by false is later =
         (later.0, ap (λ t. (course_of proposing t).steps) (turns_by proposing n c (goes_on (then_step c (at_wave proposing c))) (with_wave proposing c false some is)) ∙ later.1)

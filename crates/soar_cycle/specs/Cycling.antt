@@ -1,11 +1,10 @@
 -- The phases of a cycle, each behind the course of those before it.
-use Rattle.std.specs.Prelude.{ℕ, Bool, true, false, List, Result}
-use Rattle.defs_soar.specs.Agents.{Agent}
-use Rattle.defs_soar.specs.Cycle.{after_input, then_application, then_decision, then_output, then_phase, unless_halted}
+use Rattle.std.specs.Prelude.{ℕ, Bool, true, List, Result}
+use Rattle.defs_soar.specs.Cycle.{after_input, then_application, then_decision, then_phase, unless_halted}
 use Rattle.defs_soar.specs.Decision.{decided_alone}
 use Rattle.defs_soar.specs.Events.{proposal_phase}
 use Rattle.defs_soar.specs.Learning.{without_learning}
-use Rattle.defs_soar.specs.Phases.{Course, still, then_step}
+use Rattle.defs_soar.specs.Phases.{Course, then_step}
 use Rattle.soar_settle.specs.declared.stop.Stop.{Stop}
 use Rattle.wave_parts.specs.declared.parts.Parts.{Parts as PartsKept}
 use Rattle.soar_cycle.specs.Courses.{Goes, Went}

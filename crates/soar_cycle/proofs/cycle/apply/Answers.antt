@@ -2,7 +2,7 @@ use Rattle.std.proofs.Common.{◌∙◌, Ok, Err, ap, sym, subst}
 use Rattle.std.proofs.lemmas.Result.{err_from_is_err_and}
 use Rattle.trace_lines.specs.declared.halting.Phase.TheVariants.{Application}
 use Rattle.soar_cycle.specs.declared.phase.Ended.{Ended}
-use Rattle.soar_cycle.specs.Cycling.{GoesOn, with_application, with_proposals}
+use Rattle.soar_cycle.specs.Cycling.{GoesOn, with_application}
 use Rattle.soar_cycle.proofs.CycleLemmas.{other_answer, phase_on, unless_on}
 use Rattle.soar_cycle.proofs.cycle.apply.Goals as goal
 use Rattle.defs_soar.specs.Cycle.{then_application}

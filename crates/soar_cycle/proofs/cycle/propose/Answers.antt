@@ -2,8 +2,8 @@ use Rattle.std.proofs.Common.{◌∙◌, Ok, Err, ap, sym, subst}
 use Rattle.std.proofs.lemmas.Result.{err_from_is_err_and}
 use Rattle.trace_lines.specs.declared.halting.Phase.TheVariants.{Proposal}
 use Rattle.soar_cycle.specs.declared.phase.Ended.{Ended}
-use Rattle.soar_cycle.specs.Cycling.{GoesOn, with_application, with_proposals}
-use Rattle.soar_cycle.proofs.CycleLemmas.{other_answer, phase_on, unless_on}
+use Rattle.soar_cycle.specs.Cycling.{GoesOn, with_proposals}
+use Rattle.soar_cycle.proofs.CycleLemmas.{other_answer, phase_on}
 use Rattle.soar_cycle.proofs.cycle.propose.Goals as goal
 
 pub returns-in_err-run_phase-clause-course : goal.returns-in_err-run_phase-clause-course

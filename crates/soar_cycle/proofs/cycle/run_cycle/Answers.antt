@@ -1,8 +1,7 @@
-use Rattle.std.proofs.Common.{◌∙◌, Bool, Ok, Err, ap, sym, subst}
+use Rattle.std.proofs.Common.{◌∙◌, Ok, Err, ap}
 use Rattle.std.proofs.lemmas.Result.{err_from_is_err_and}
 use Rattle.defs_soar.specs.Cycle.{then_output}
-use Rattle.defs_soar.specs.Phases.{Course, still}
-use Rattle.soar_cycle.specs.Courses.{Goes}
+use Rattle.defs_soar.specs.Phases.{still}
 use Rattle.soar_cycle.specs.Cycling.{with_application, with_decision, with_input, with_proposals}
 use Rattle.soar_cycle.proofs.CourseLemmas.{none_went}
 use Rattle.soar_cycle.proofs.CycleLemmas.{after_decision, after_inputs, after_output_extends, after_proposals, nothing_after, of_cycle, stopped_with}
