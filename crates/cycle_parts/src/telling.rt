@@ -3,6 +3,7 @@ ghost use Rattle.std.specs.Prelude.{◌≡◌, false, OnOk};
 ghost use Rattle.matching_laws.specs.Telling.{AreInsertable, AreRemovable, with_each};
 ghost use Rattle.soar_settle.specs.Tagging.{without_each};
 
+use crate::taking::take_in;
 use defs_match::Matcher;
 use soar_sym::NoMemory;
 use soar_wm::Element;
@@ -31,20 +32,6 @@ fn let_go<M: Matcher>(matcher: &mut M, gone: &[Element]) -> Result<(), NoMemory>
 {
     'gone: for element in gone {
         matcher.remove_element(element.tag)?;
-    }
-    Ok(())
-}
-
-/// Takes elements in, one after the other.
-fn take_in<M: Matcher>(matcher: &mut M, new: &[Element]) -> Result<(), NoMemory>
-    requires works { M.failed matcher.old ≡ false }
-    requires insertable { AreInsertable (M.elements matcher.old) new.now }
-    ensures works { OnOk result (M.failed matcher.new ≡ false) }
-    ensures rules { OnOk result (M.rules matcher.new ≡ M.rules matcher.old) }
-    ensures elements { OnOk result (M.elements matcher.new ≡ with_each (M.elements matcher.old) new.now) }
-{
-    'new: for element in new {
-        matcher.add_element(*element)?;
     }
     Ok(())
 }
