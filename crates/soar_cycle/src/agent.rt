@@ -64,7 +64,8 @@ impl<M: Matcher + Drop> Agent<M> {
 impl<M: Matcher> Agent<M> {
     /// The words, to which more may be added. What is left there has to begin with the words that were there.
     pub fn table(&mut self) -> &mut SymTable
-        ensures* { sem 𝓛 (Lends (agent.the_row M.row M.Matcher) table.the_row self.entry result (with_table self.old)) }
+        ensures* writes_back { sem 𝓛 (Lends (agent.the_row M.row M.Matcher) table.the_row self.entry result (with_table self.old)) }
+        ensures value { result.now ≡ self.old.parts.table }
     {
         &mut self.engine.parts.table
     }
