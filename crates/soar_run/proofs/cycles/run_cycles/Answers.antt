@@ -1,5 +1,4 @@
 use Rattle.std.proofs.Common.{◌≡◌, ◌-◌, ◌+◌, Bool, Ok, ap, true, false, refl, sym, ◌∙◌, subst, arith}
-use Rattle.defs_run.specs.Present.{run_present}
 use Rattle.wave_parts.specs.Seen.{agent_of}
 use Rattle.soar_run.specs.Cycles.{WritesCycle, cycle_of}
 use Rattle.soar_run.proofs.RanLemmas.{halts_behind, none_behind, one_behind, some_behind, some_of_all, stops_behind}

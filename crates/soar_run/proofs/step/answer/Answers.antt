@@ -1,10 +1,9 @@
-use Rattle.std.proofs.Common.{List, [], ℕ, Ok, Err, OnOk, sym, subst, ◌∙◌}
+use Rattle.std.proofs.Common.{List, [], ℕ, Ok, OnOk, subst, ◌∙◌}
 use Rattle.soar_edge.specs.Cutting.{whole}
 use Rattle.soar_edge.specs.Outside.{Appends, AppendsSome}
 use Rattle.defs_run.specs.Sessions.{Reply, Session}
-use Rattle.soar_agent.specs.Commands.{Commands, Outcomes}
+use Rattle.soar_agent.specs.Commands.{Outcomes}
 use Rattle.soar_agent.specs.States.{session_of}
-use Rattle.soar_settle.specs.declared.stop.Stop.{Stop}
 use Rattle.soar_run.specs.Runs.{reply_to}
 use Rattle.soar_run.specs.declared.step.Answered.TheVariants.{Stopped}
 use Rattle.soar_run.proofs.StepLemmas.{outcome_ready, put_went, stop_whole}
