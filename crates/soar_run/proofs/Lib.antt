@@ -8,3 +8,4 @@ pub mod SequelLemmas
 pub mod StepLemmas
 pub mod TellingLemmas
 pub mod TopLemmas
+pub mod TurnLemmas

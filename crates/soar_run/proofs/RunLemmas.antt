@@ -57,7 +57,7 @@ first_text goes_on refused s c cuts is = by (limit_told (reply_to c s).told) ref
     by (Some limit) passed = ([], ap (λ t. t.text) (last_command goes_on refused s c cuts limit is passed) ∙ sym (append-nil (step_text s (reply_to c s))))
 
 -- after a command that passes no limit, as the code tells it
-after_passed : (goes_on refused answer : Bool) (s : Session) (new : SessionKept) (c : Cut) (cuts : List Cut) → IsReplied c → (passed : Passed s (reply_to c s) new answer)
+after_passed : {M : Type 0} (goes_on refused answer : Bool) (s : Session) (new : SessionKept M) (c : Cut) (cuts : List Cut) → IsReplied c → (passed : Passed s (reply_to c s) new answer)
     → run_from goes_on s refused (c ∷ cuts) ≡ before (step_text s (reply_to c s)) (run_from goes_on (session_of new passed.history) (refused || answer) cuts)
 after_passed goes_on refused answer s new c cuts is passed =
     one_command goes_on refused s c cuts is passed.within
@@ -77,7 +77,7 @@ front_is_some old new bytes more all = appends_some_then old new new bytes [] mo
 -- ---- the parts of the loop
 
 -- what a run wrote before these commands, and a history with which the code's session stands for one from where they give the rest
-pub record IsBehind (old now : Option (List ℕ)) (goes_on : Bool) (session : SessionKept) (refused : Bool) (cuts : List Cut) (run : Transcript) : Type 0 where
+pub record IsBehind {M : Type 0} (old now : Option (List ℕ)) (goes_on : Bool) (session : SessionKept M) (refused : Bool) (cuts : List Cut) (run : Transcript) : Type 0 where
   pub history : List RecordedFiring
   pub done : List ℕ
   pub appended : Appends old now done
@@ -85,7 +85,7 @@ pub record IsBehind (old now : Option (List ℕ)) (goes_on : Bool) (session : Se
   pub status : (run_from goes_on (session_of session history) refused cuts).status ≡ run.status
 
 -- the same commands, told otherwise
-pub at_cuts : (old now : Option (List ℕ)) (goes_on refused : Bool) (session : SessionKept) (all cuts : List Cut) (run : Transcript)
+pub at_cuts : {M : Type 0} (old now : Option (List ℕ)) (goes_on refused : Bool) (session : SessionKept M) (all cuts : List Cut) (run : Transcript)
     → all ≡ cuts → IsBehind old now goes_on session refused all run → IsBehind old now goes_on session refused cuts run
 at_cuts old now goes_on refused session all cuts run is p = record {
   history = p.history;
@@ -96,7 +96,7 @@ at_cuts old now goes_on refused session all cuts run is p = record {
 }
 
 -- after a command that passes no limit
-pub next_behind : (old mid now : Option (List ℕ)) (goes_on refused answer again : Bool) (session new : SessionKept) (c : Cut) (cuts : List Cut) (run : Transcript)
+pub next_behind : {M : Type 0} (old mid now : Option (List ℕ)) (goes_on refused answer again : Bool) (session new : SessionKept M) (c : Cut) (cuts : List Cut) (run : Transcript)
     → (p : IsBehind old mid goes_on session refused (c ∷ cuts) run) → IsReplied c
     → Passed (session_of session p.history) (reply_to c (session_of session p.history)) new answer
     → Appends mid now (step_text (session_of session p.history) (reply_to c (session_of session p.history)))
@@ -115,7 +115,7 @@ next_behind old mid now goes_on refused answer again session new c cuts run p re
     }
 
 -- some of a command's text, after what was written before
-pub some_more : (old mid now : Option (List ℕ)) (goes_on refused : Bool) (session : SessionKept) (c : Cut) (cuts : List Cut) (run : Transcript)
+pub some_more : {M : Type 0} (old mid now : Option (List ℕ)) (goes_on refused : Bool) (session : SessionKept M) (c : Cut) (cuts : List Cut) (run : Transcript)
     → (p : IsBehind old mid goes_on session refused (c ∷ cuts) run) → IsReplied c
     → AppendsSome mid now (step_text (session_of session p.history) (reply_to c (session_of session p.history)))
     → AppendsSome old now run.text
@@ -127,12 +127,12 @@ some_more old mid now goes_on refused session c cuts run p replied some =
 -- ---- ends
 
 -- what was written so far, where the run breaks off
-pub breaks_off : (old now : Option (List ℕ)) (goes_on refused : Bool) (session : SessionKept) (cuts : List Cut) (run : Transcript)
+pub breaks_off : {M : Type 0} (old now : Option (List ℕ)) (goes_on refused : Bool) (session : SessionKept M) (cuts : List Cut) (run : Transcript)
     → IsBehind old now goes_on session refused cuts run → AppendsSome old now run.text
 breaks_off old now goes_on refused session cuts run p = subst (AppendsSome old now) p.text (front_is_some old now p.done (run_from goes_on (session_of session p.history) refused cuts).text p.appended)
 
 -- a command that passes a limit is the last
-pub stops : (old mid now : Option (List ℕ)) (goes_on refused : Bool) (session : SessionKept) (c : Cut) (cuts : List Cut) (run : Transcript)
+pub stops : {M : Type 0} (old mid now : Option (List ℕ)) (goes_on refused : Bool) (session : SessionKept M) (c : Cut) (cuts : List Cut) (run : Transcript)
     → (p : IsBehind old mid goes_on session refused (c ∷ cuts) run) → IsReplied c
     → (limit : Which) × (limit_told (reply_to c (session_of session p.history)).told ≡ Some limit)
     → Appends mid now (step_text (session_of session p.history) (reply_to c (session_of session p.history)))
@@ -149,7 +149,7 @@ either_refused true = refl
 either_refused false = refl
 
 -- one that has no end is refused, and is the last
-pub ends_unfinished : (old mid now : Option (List ℕ)) (goes_on refused : Bool) (session : SessionKept) (line : ℕ) (run : Transcript)
+pub ends_unfinished : {M : Type 0} (old mid now : Option (List ℕ)) (goes_on refused : Bool) (session : SessionKept M) (line : ℕ) (run : Transcript)
     → (p : IsBehind old mid goes_on session refused (unfinished line ∷ []) run)
     → Appends mid now (step_text (session_of session p.history) (reply_to (unfinished line) (session_of session p.history)))
     → Appends old now run.text × (ended goes_on true ≡ run.status)
@@ -171,7 +171,7 @@ not_closed goes_on closed is = ap not is ∙ by goes_on
     by false = refl
 
 -- from the first state on, the run of what is in the cutter is that of the input
-pub run_fed : (goes_on : Bool) (cutter : Uncut) (session : SessionKept) (input : List ℕ) → cutter.closed ≡ not goes_on → session_of session [] ≡ first_session 1
+pub run_fed : {M : Type 0} (goes_on : Bool) (cutter : Uncut) (session : SessionKept M) (input : List ℕ) → cutter.closed ≡ not goes_on → session_of session [] ≡ first_session 1
     → cuts_left cutter ≡ cuts_of (not goes_on) input
     → run_from (not cutter.closed) (session_of session []) false (cuts_left cutter) ≡ run_from goes_on (first_session 1) false (cuts_of (not goes_on) input)
 run_fed goes_on cutter session input closed stands cuts =

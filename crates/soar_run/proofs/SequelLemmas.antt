@@ -18,19 +18,19 @@ use Rattle.defs_read.specs.ReadingActions.{tree_of}
 use Rattle.defs_soar.specs.Agents.{Agent}
 use Rattle.defs_soar.specs.Phases.{Course}
 use Rattle.defs_soar.specs.Values.{has_triple_among}
-use Rattle.defs_run.specs.Arguments.{Argument, number, caret, argument_in, operand_of, attribute_of, id_of}
+use Rattle.defs_run.specs.Arguments.{Argument, bare, number, caret, argument_in, operand_of, attribute_of, id_of}
 use Rattle.defs_run.specs.Carrying.{carried_out, rule_named}
-use Rattle.defs_run.specs.CommandForms.{alone, number_order, tag_order, triple_order, printing_order}
+use Rattle.defs_run.specs.CommandForms.{alone, input_order, number_order, tag_order, triple_order, printing_order}
 use Rattle.defs_run.specs.Commands.{first_run}
-use Rattle.defs_run.specs.Inputs.{Carried, does, refuses, Spelled as Resolved, spelled, unless_unknown, first_unknown, is_top_level, is_reserved, unless_there, added, removed}
+use Rattle.defs_run.specs.Inputs.{Carried, does, refuses, Spelled as Resolved, spelled, unless_unknown, first_unknown, is_top_level, is_reserved, unless_there, added, removed, queued}
 use Rattle.defs_run.specs.Listing.{production_lines}
-use Rattle.defs_run.specs.Orders.{Operand, Order, load, add_wme, remove_wme, run_cycles, matches, print_id, print_name, Refusal, not_built, no_element, no_production}
-use Rattle.defs_run.specs.PlainActions.{is_plain}
-use Rattle.defs_run.specs.Present.{Form, form_of, built_print, if_plain, judged, or_not_built, order_by, read_by, read_order, read_present, present_stage}
+use Rattle.defs_run.specs.Orders.{Operand, Order, add_wme, remove_wme, queue, random, run_cycles, matches, print_id, print_name, Refusal, no_element, no_production}
+use Rattle.defs_run.specs.Present.{Form, form_of, built_print, or_not_built, order_by, read_by, read_order, read_present, read_random, present_stage}
+use Rattle.defs_run.specs.RandomReading.{numbers_of, random_lexed, random_order}
 use Rattle.defs_run.specs.Runs.{replied_by, ordered_by, obeyed}
 use Rattle.defs_run.specs.Sessions.{Session, goes_on, says, unknown_in}
 use Rattle.defs_run.specs.Stages.{Reading}
-use Rattle.defs_run.specs.WholeReading.{of_check, of_lexing, read_sp, read_tokens, read_tree, unless_faulty}
+use Rattle.defs_run.specs.WholeReading.{checked, of_lexing, of_ordered, read_sp, read_tokens, read_tree, unless_faulty}
 
 -- ---- orders
 
@@ -73,6 +73,15 @@ remove_plain tag = λ run s. by s (element_of tag s.agent.holding.elements)
     by s None = λ from place t. refl
     by s (Some e) = removed_plain s e
 
+queued_plain : (adds : Bool) (t : Resolved) → GoesOn (queued adds t)
+queued_plain adds t = either (is_reserved t.session t.triple) _ _ (λ from place s. refl) (λ from place s. refl)
+
+queue_plain : (adds : Bool) (id attr value : Operand) → IsPlain (queue adds id attr value)
+queue_plain adds id attr value = λ run s. unless (first_unknown false s id attr value) (queued adds (spelled s id attr value)) (queued_plain adds (spelled s id attr value))
+
+random_plain : (words : List ℕ) → IsPlain (random words)
+random_plain words = λ run s from place t. refl
+
 run_plain : (n : ℕ) → IsPlain (run_cycles n)
 run_plain n = λ run s. either s.agent.halted _ _ (λ from place t. refl) (λ from place t. refl)
 
@@ -110,10 +119,25 @@ made_then_plain : {A : Type 0} (f : A → Option Order) (o : Option A) → ((x :
 made_then_plain f (Some x) plain = plain x
 made_then_plain f None plain = tt
 
-addition_plain : (words : Texts) (arguments : List Argument) → IsPlainOrder (triple_order words add_wme arguments)
-addition_plain words (i ∷ caret ∷ a ∷ v ∷ []) =
-    made_then_plain _ (id_of i) (λ id. made_then_plain _ (attribute_of words a) (λ attr. made_plain (add_wme id attr) (operand_of words v) (λ value. add_plain id attr value)))
-addition_plain words other = tt
+triple_plain : (f : Operand → Operand → Operand → Order) → ((id attr value : Operand) → IsPlain (f id attr value)) → (words : Texts) (arguments : List Argument)
+    → IsPlainOrder (triple_order words f arguments)
+triple_plain f plain words (i ∷ caret ∷ a ∷ v ∷ []) =
+    made_then_plain _ (id_of i) (λ id. made_then_plain _ (attribute_of words a) (λ attr. made_plain (f id attr) (operand_of words v) (λ value. plain id attr value)))
+triple_plain f plain words other = tt
+
+pick : (b : Bool) (x y : Option Order) → IsPlainOrder x → IsPlainOrder y → IsPlainOrder (if b then x else y)
+pick true x y this that = this
+pick false x y this that = that
+
+input_plain : (words : Texts) (arguments : List Argument) → IsPlainOrder (input_order words arguments)
+input_plain words (bare text ∷ arguments) =
+    pick (bytes_eq text (codes "add")) _ _ (triple_plain (queue true) (queue_plain true) words arguments)
+    (pick (bytes_eq text (codes "remove")) _ _ (triple_plain (queue false) (queue_plain false) words arguments) tt)
+input_plain words other = tt
+
+words_plain : (arguments : List Argument) → IsPlainOrder (random_order arguments)
+words_plain [] = tt
+words_plain (a ∷ arguments) = made_plain random (numbers_of (a ∷ arguments)) random_plain
 
 matches_plain : (arguments : List Argument) → IsPlainOrder (alone matches arguments)
 matches_plain [] = λ run s from place t. refl
@@ -146,11 +170,12 @@ choice false x y this that = that
 
 forms_plain : (word : List ℕ) → ArePlain (form_of word)
 forms_plain word =
-    choice (bytes_eq word (codes "add-wme")) _ _ addition_plain
+    choice (bytes_eq word (codes "add-wme")) _ _ (triple_plain add_wme add_plain)
     (choice (bytes_eq word (codes "matches")) _ _ (λ words arguments. matches_plain arguments)
     (choice (bytes_eq word (codes "run")) _ _ (λ words arguments. number_plain arguments)
     (choice (bytes_eq word (codes "remove-wme")) _ _ (λ words arguments. tag_plain arguments)
-    (choice (bytes_eq word (codes "print")) _ _ (λ words arguments. printed_plain (printing_order words arguments)) tt))))
+    (choice (bytes_eq word (codes "input")) _ _ input_plain
+    (choice (bytes_eq word (codes "print")) _ _ (λ words arguments. printed_plain (printing_order words arguments)) tt)))))
 
 -- ---- commands
 
@@ -179,34 +204,33 @@ by_plain : (words : Texts) (text : List ℕ) (o : Option Form) → ArePlain o �
 by_plain words text None plain = tt
 by_plain words text (Some f) plain = unless_plain words (lexed text) (read_order f text) (order_plain f text plain)
 
--- a production is loaded or refused
-loads_plain : (p : ProductionOf) → IsPlainRead (if_plain p)
-loads_plain p = by (is_plain p)
-  where
-    by : (b : Bool) → IsPlainRead (if b then Ok (load p) else Err not_built)
-    by true = λ run s from place t. refl
-    by false = tt
+by_random : (words : Texts) (text : List ℕ) → IsPlainRead (read_random words text).order
+by_random words text = unless_plain words (random_lexed 0 0 text) (read_order (λ read. random_order) text) (order_plain (λ read. random_order) text (λ read arguments. words_plain arguments))
 
-judged_plain : (words : Texts) (p : ProductionOf) → IsPlainRead (judged words p)
-judged_plain words p = by (ordered p)
+-- a production is loaded or refused
+checked_plain : (words : Texts) (p : ProductionOf) → IsPlainRead (checked words p)
+checked_plain words p = by (ordered p)
   where
-    by : (o : Result ProductionOf CheckFault) → IsPlainRead (elim o as (λ _. Result Order Refusal) [ Ok q ↦ if_plain q | Err why ↦ Err (of_check words p.vars why) ])
-    by (Ok q) = loads_plain q
+    by : (o : Result ProductionOf CheckFault) → IsPlainRead (of_ordered words p o)
+    by (Ok q) = λ run s from place t. refl
     by (Err why) = tt
 
-tree_plain : (words : Texts) (tokens : List Spelled) (o : Result Tree (Stop × ℕ)) → IsPlainRead (read_tree judged words tokens o).order
+tree_plain : (words : Texts) (tokens : List Spelled) (o : Result Tree (Stop × ℕ)) → IsPlainRead (read_tree checked words tokens o).order
 tree_plain words tokens (Err stop) = tt
-tree_plain words tokens (Ok tree) = let r = production_of words (map (λ t. t.says) tokens) tree in judged_plain r.words r.production
+tree_plain words tokens (Ok tree) = let r = production_of words (map (λ t. t.says) tokens) tree in checked_plain r.words r.production
 
-production_plain : (words : Texts) (text : List ℕ) → IsPlainRead (read_sp judged words text).order
-production_plain words text = unless_plain words (lexed text) (read_tokens judged) (λ read tokens. tree_plain read tokens (tree_of (map (λ t. t.says) tokens)))
+production_plain : (words : Texts) (text : List ℕ) → IsPlainRead (read_sp checked words text).order
+production_plain words text = unless_plain words (lexed text) (read_tokens checked) (λ read tokens. tree_plain read tokens (tree_of (map (λ t. t.says) tokens)))
+
+pick_read : (b : Bool) (r q : Reading) → IsPlainRead r.order → IsPlainRead q.order → IsPlainRead (if b then r else q).order
+pick_read true r q this that = this
+pick_read false r q this that = that
 
 read_plain : (words : Texts) (text : List ℕ) → IsPlainRead (read_present words text).order
-read_plain words text = by (bytes_eq (first_run text) (codes "sp"))
-  where
-    by : (b : Bool) → IsPlainRead (if b then read_sp judged words text else read_by words text (form_of (first_run text))).order
-    by true = production_plain words text
-    by false = by_plain words text (form_of (first_run text)) (forms_plain (first_run text))
+read_plain words text =
+    pick_read (bytes_eq (first_run text) (codes "sp")) (read_sp checked words text) _ (production_plain words text)
+    (pick_read (bytes_eq (first_run text) (codes "random")) (read_random words text) (read_by words text (form_of (first_run text))) (by_random words text)
+    (by_plain words text (form_of (first_run text)) (forms_plain (first_run text))))
 
 ordered_plain : (from : List ℕ) (place : ℕ) (s : Session) (r : Result Order Refusal) → IsPlainRead r → (ordered_by present_stage from place s r).sequel ≡ goes_on
 ordered_plain from place s (Ok order) plain = plain present_stage.run s from place s

@@ -2,33 +2,38 @@
 ghost use Rattle.std.specs.Prelude.{◌≡◌, ◌-◌, ◌<◌, ◌^◌, true, Ok, List as ListOf, IfOk, OnOk};
 ghost use Rattle.soar_edge.specs.Outside.{Appends, AppendsSome, HasPutCause};
 ghost use Rattle.defs_soar.specs.History.{RecordedFiring};
-ghost use Rattle.defs_run.specs.Present.{cycle, run_present};
-ghost use Rattle.soar_cycle.specs.Seen.{IsSound, agent_of};
-ghost use Rattle.soar_run.specs.Cycles.{IsRanOk, WritesCycle, course_text};
+ghost use Rattle.defs_run.specs.Present.{run_present};
+ghost use Rattle.wave_parts.specs.Seen.{agent_of};
+ghost use Rattle.soar_run.specs.Cycles.{IsRanOk, WritesCycle, course_text, cycle_of};
+ghost use Rattle.soar_run.specs.Ready.{IsReadySession};
 
 use crate::step::Answered;
+use defs_match::Matcher;
 use soar_agent::{Session, Stop};
 use soar_edge::{PutFault, Sink, put_all};
 use soar_sym::Text;
 use std::alloc::Global;
 
-/// Runs so many cycles, and writes what each says before the next begins.
-pub fn run_cycles<O: Sink>(
+/// Runs so many cycles, or until the agent is halted, and writes what each says before the next begins.
+pub fn run_cycles<M: Matcher, O: Sink>(
     alloc: Global,
-    session: &mut Session,
+    session: &mut Session<M>,
     count: u32,
     out: &mut O,
 ) -> Result<Answered, PutFault>
-    requires sound { IsSound session.old.agent }
+    requires ready { IsReadySession session.old }
     requires sink { O.faults out.old < 2 ^ 64 - 1 }
-    ensures course { (history : ListOf RecordedFiring) → IsRanOk session.old.mid_line (run_present count (agent_of session.old.agent history)) session.old session.new result }
+    ensures course { (history : ListOf RecordedFiring) → IsRanOk session.old.agent.mid_line (run_present count (agent_of session.old.agent.parts history)) session.old session.new result }
     ensures written { (history : ListOf RecordedFiring) →
-        OnOk result (Appends (O.written out.old) (O.written out.new) (course_text session.old.mid_line (run_present count (agent_of session.old.agent history)))) }
+        OnOk result (Appends (O.written out.old) (O.written out.new) (course_text session.old.agent.mid_line (run_present count (agent_of session.old.agent.parts history)))) }
     ensures prefix { (history : ListOf RecordedFiring) →
-        AppendsSome (O.written out.old) (O.written out.new) (course_text session.old.mid_line (run_present count (agent_of session.old.agent history))) }
+        AppendsSome (O.written out.old) (O.written out.new) (course_text session.old.agent.mid_line (run_present count (agent_of session.old.agent.parts history))) }
     ensures cause { HasPutCause (O.faults out.old) (O.faults out.new) result }
 {
     'cycles: for number in 0..count {
+        if session.agent.halted() {
+            return Ok(Answered::Went(false));
+        }
         match write_cycle(alloc, session, out) {
             Ok(true) => {}
             Ok(false) => return Ok(Answered::Stopped),
@@ -39,20 +44,24 @@ pub fn run_cycles<O: Sink>(
 }
 
 /// Runs a cycle, and writes what it says. False where it passes a limit.
-fn write_cycle<O: Sink>(alloc: Global, session: &mut Session, out: &mut O) -> Result<bool, PutFault>
-    requires sound { IsSound session.old.agent }
+fn write_cycle<M: Matcher, O: Sink>(
+    alloc: Global,
+    session: &mut Session<M>,
+    out: &mut O,
+) -> Result<bool, PutFault>
+    requires ready { IsReadySession session.old }
     requires sink { O.faults out.old < 2 ^ 64 - 1 }
     ensures course { (history : ListOf RecordedFiring) →
-        WritesCycle session.old.mid_line (cycle (agent_of session.old.agent history)) session.new (O.written out.old) (O.written out.new) result }
+        WritesCycle session.old.agent.mid_line (cycle_of (agent_of session.old.agent.parts history)) session.new.agent (O.written out.old) (O.written out.new) result }
     ensures prefix { (history : ListOf RecordedFiring) →
-        AppendsSome (O.written out.old) (O.written out.new) (course_text session.old.mid_line (cycle (agent_of session.old.agent history))) }
+        AppendsSome (O.written out.old) (O.written out.new) (course_text session.old.agent.mid_line (cycle_of (agent_of session.old.agent.parts history))) }
     ensures labels { session.new.labels ≡ session.old.labels }
-    ensures sound { result ≡ Ok true → IsSound session.new.agent }
+    ensures ready { result ≡ Ok true → IsReadySession session.new }
     ensures cause { HasPutCause (O.faults out.old) (O.faults out.new) result }
 {
     let mut text = Text::new(alloc);
     match session.cycle(&mut text) {
-        Ok(()) => put_cycle(out, &text, true),
+        Ok(_) => put_cycle(out, &text, true),
         Err(Stop::Limit(limit)) => {
             let _ = limit;
             put_cycle(out, &text, false)

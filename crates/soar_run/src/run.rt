@@ -5,11 +5,13 @@ ghost use Rattle.soar_edge.specs.Cutting.{cuts_of};
 ghost use Rattle.soar_edge.specs.Outside.{Appends, AppendsSome, HasPutCause};
 ghost use Rattle.defs_soar.specs.History.{RecordedFiring};
 ghost use Rattle.defs_run.specs.Sessions.{first_session};
-ghost use Rattle.soar_cycle.specs.Seen.{IsSound};
+ghost use Rattle.soar_run.specs.Ready.{IsReadySession};
 ghost use Rattle.soar_run.specs.Runs.{end_status, run_from};
 ghost use Rattle.soar_agent.specs.States.{session_of};
 
 use crate::step::{Answered, answer, answer_unfinished};
+use defs_match::Matcher;
+use match_direct::Direct;
 use soar_agent::Session;
 use soar_edge::{Cut, Cutter, PutFault, Sink};
 use soar_sym::NoMemory;
@@ -31,13 +33,13 @@ fn either(a: bool, b: bool) -> bool
 }
 
 /// Carries out the commands that are left in a cutter, and writes what each says before the next begins.
-fn run_commands<O: Sink>(
+fn run_commands<M: Matcher, O: Sink>(
     alloc: Global,
     cutter: &mut Cutter,
-    session: &mut Session,
+    session: &mut Session<M>,
     out: &mut O,
 ) -> Result<End, PutFault>
-    requires sound { IsSound session.old.agent }
+    requires ready { IsReadySession session.old }
     requires sink { O.faults out.old < 2 ^ 64 - 1 }
     ensures written { (history : ListOf RecordedFiring) →
         OnOk result (Appends (O.written out.old) (O.written out.new) (run_from (not cutter.old.closed) (session_of session.old history) false (cuts_with cutter.old cutter.old.closed [])).text) }
@@ -85,10 +87,19 @@ pub fn run_all<O: Sink>(
         Ok(cutter) => cutter,
         Err(_) => return Err(PutFault::NoMemory),
     };
-    match Session::new(alloc) {
+    match fresh_session(alloc) {
         Ok(mut session) => run_commands(alloc, &mut cutter, &mut session, out),
         Err(_) => Err(PutFault::NoMemory),
     }
+}
+
+/// The session before the first command.
+fn fresh_session(alloc: Global) -> Result<Session<Direct>, NoMemory>
+    ensures stands { IfOk result (λ session. session_of session [] ≡ first_session 1) }
+    ensures ready { IfOk result (λ session. IsReadySession session) }
+{
+    let matcher = Direct::new(alloc)?;
+    Session::new(alloc, matcher)
 }
 
 /// A cutter that was fed the input, and closed where there is no more.

@@ -3,16 +3,17 @@ ghost use Rattle.std.specs.Prelude.{◌≡◌, ◌-◌, ◌<◌, ◌≤◌, ◌^
 ghost use Rattle.soar_edge.specs.Outside.{Appends, AppendsSome, HasPutCause};
 ghost use Rattle.soar_edge.specs.Cutting.{unfinished, whole};
 ghost use Rattle.defs_soar.specs.History.{RecordedFiring};
-ghost use Rattle.soar_cycle.specs.Seen.{IsSound};
 ghost use Rattle.defs_run.specs.Sessions.{Reply};
 ghost use Rattle.soar_agent.specs.Commands.{Outcomes};
 ghost use Rattle.soar_agent.specs.States.{session_of};
 ghost use Rattle.soar_agent.specs.Writing.{step_text};
 ghost use Rattle.soar_agent.specs.declared.state.Session.{Session as SessionKept};
+ghost use Rattle.soar_run.specs.Ready.{IsReadySession};
 ghost use Rattle.soar_run.specs.Runs.{reply_to};
 ghost use Rattle.soar_run.specs.Spoken.{IsAnsweredOk};
 
 use crate::cycles::run_cycles;
+use defs_match::Matcher;
 use soar_agent::{Outcome, Session, Stop};
 use soar_edge::{Command, PutFault, Sink, put_all};
 use soar_sym::{NoMemory, Text};
@@ -29,14 +30,14 @@ pub enum Answered {
 }
 
 /// Carries a command out, and writes what it says; what each of its cycles says before the next begins.
-pub fn answer<O: Sink>(
+pub fn answer<M: Matcher, O: Sink>(
     alloc: Global,
-    session: &mut Session,
+    session: &mut Session<M>,
     command: &Command,
     out: &mut O,
 ) -> Result<Answered, PutFault>
     requires short { length command.now.text ≤ 2 ^ 26 }
-    requires sound { IsSound session.old.agent }
+    requires ready { IsReadySession session.old }
     requires sink { O.faults out.old < 2 ^ 64 - 1 }
     ensures answer { (history : ListOf RecordedFiring) → let s = session_of session.old history in
         IsAnsweredOk s (reply_to (whole command.now.line command.now.text) s) session.new result }
@@ -58,20 +59,20 @@ pub fn answer<O: Sink>(
 }
 
 /// Writes what a command said, or runs the cycles that it asks for.
-fn follow<O: Sink>(
+fn follow<M: Matcher, O: Sink>(
     alloc: Global,
-    session: &mut Session,
+    session: &mut Session<M>,
     outcome: Outcome,
     text: &Text,
     out: &mut O,
 ) -> Result<Answered, PutFault>
-    requires sound { IsSound session.old.agent }
+    requires ready { IsReadySession session.old }
     requires sink { O.faults out.old < 2 ^ 64 - 1 }
-    ensures answer { (old : SessionKept) (history : ListOf RecordedFiring) (reply : Reply) → Outcomes old.mid_line reply session.old [] text.now (Ok outcome)
+    ensures answer { (old : SessionKept M) (history : ListOf RecordedFiring) (reply : Reply) → Outcomes old.agent.mid_line reply session.old [] text.now (Ok outcome)
         → IsAnsweredOk (session_of old history) reply session.new result }
-    ensures written { (old : SessionKept) (history : ListOf RecordedFiring) (reply : Reply) → Outcomes old.mid_line reply session.old [] text.now (Ok outcome)
+    ensures written { (old : SessionKept M) (history : ListOf RecordedFiring) (reply : Reply) → Outcomes old.agent.mid_line reply session.old [] text.now (Ok outcome)
         → OnOk result (Appends (O.written out.old) (O.written out.new) (step_text (session_of old history) reply)) }
-    ensures prefix { (old : SessionKept) (history : ListOf RecordedFiring) (reply : Reply) → Outcomes old.mid_line reply session.old [] text.now (Ok outcome)
+    ensures prefix { (old : SessionKept M) (history : ListOf RecordedFiring) (reply : Reply) → Outcomes old.agent.mid_line reply session.old [] text.now (Ok outcome)
         → AppendsSome (O.written out.old) (O.written out.new) (step_text (session_of old history) reply) }
     ensures cause { HasPutCause (O.faults out.old) (O.faults out.new) result }
 {
@@ -95,13 +96,13 @@ fn put_answer<O: Sink>(out: &mut O, text: &Text, answer: Answered) -> Result<Ans
 }
 
 /// Refuses a command of a line that has no end, and writes that.
-pub fn answer_unfinished<O: Sink>(
+pub fn answer_unfinished<M: Matcher, O: Sink>(
     alloc: Global,
-    session: &mut Session,
+    session: &mut Session<M>,
     line: u64,
     out: &mut O,
 ) -> Result<(), PutFault>
-    requires sound { IsSound session.old.agent }
+    requires ready { IsReadySession session.old }
     requires sink { O.faults out.old < 2 ^ 64 - 1 }
     ensures written { (history : ListOf RecordedFiring) → let s = session_of session.old history in
         OnOk result (Appends (O.written out.old) (O.written out.new) (step_text s (reply_to (unfinished line) s))) }
@@ -116,8 +117,12 @@ pub fn answer_unfinished<O: Sink>(
 }
 
 /// Refuses a command of a line that has no end, and gives what is written then.
-fn refuse_unfinished(alloc: Global, session: &mut Session, line: u64) -> Result<Text, NoMemory>
-    requires { IsSound session.old.agent }
+fn refuse_unfinished<M: Matcher>(
+    alloc: Global,
+    session: &mut Session<M>,
+    line: u64,
+) -> Result<Text, NoMemory>
+    requires { IsReadySession session.old }
     ensures { (history : ListOf RecordedFiring) → let s = session_of session.old history in
         IfOk result (λ text. text ≡ step_text s (reply_to (unfinished line) s)) }
 {

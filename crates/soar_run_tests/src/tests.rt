@@ -11,8 +11,8 @@ mod commands;
 mod failing;
 mod labels;
 mod limits;
-mod printing;
 mod reading;
+mod running;
 
 /// Runs an input without words and files.
 fn run<I: Source, O: Sink>(alloc: Global, input: &mut I, out: &mut O) -> Status

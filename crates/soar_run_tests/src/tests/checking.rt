@@ -143,7 +143,6 @@ error 20 -:1: no state condition
 error 22 -:2: unconnected condition 2
 error 21 -:3: unbound variable <t>
 error 25 -:4: preference for an ordinary attribute
-error 18 -:5: not built
 ;;
 add-wme <n> ^a 1
 add-wme S1 ^a <n>

@@ -124,6 +124,7 @@ run 1
 print Y100
 =>
 cut proposal
+cut application
 no elements
 ;;
 sp {r (<s> ^b <x>) (state <s> ^a <x>) --> (<s> ^c <x>)}
@@ -194,7 +195,6 @@ sp
 matches
 =>
 error 22 -:1: unconnected condition 2
-error 18 -:2: not built
 error 20 -:4: no state condition
 error 16 -:5: unexpected token at byte 2
 no matches
@@ -212,7 +212,6 @@ error 21 -:2: unbound variable <y>
 error 22 -:3: unconnected condition 2
 error 24 -:4: too deep
 error 25 -:5: preference for an ordinary attribute
-error 18 -:6: not built
 no matches
 ;;
 matches #

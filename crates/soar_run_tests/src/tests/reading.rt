@@ -3,7 +3,7 @@ use super::cases::wrong;
 use soar_edge::Status;
 use std::test::Fail;
 
-/// Productions with the name p, each with what is printed of it.
+/// Productions, each with what is printed of it.
 const READ: &str = r#"sp {p (state <s> ^a 1 ^b <x> <y>) --> }
 print p
 =>
@@ -128,6 +128,57 @@ sp {p
     (state <s> ^a <x>)
     (<x> ^b 2)
     -->
+}
+;;
+sp {demo "doc" (state <s> ^io.input-link <il> -^done) (<il> ^temp {<t> > 30} ^mode << on auto >>) --> (<s> ^alarm <t> <a>) (<a> ^level (+ <t> 1))}
+print demo
+=>
+sp {demo
+    "doc"
+    (state <s> ^io <$1>)
+    (<$1> ^input-link <il>)
+    -(state <s> ^done <$2>)
+    (<il> ^temp { <t> > 30 })
+    (<il> ^mode << on auto >>)
+    -->
+    (<s> ^alarm <t> +)
+    (<s> ^alarm <a> +)
+    (<a> ^level (+ <t> 1) +)
+}
+;;
+sp {p :o-support (state <s> ^a <x>) --> (<s> ^operator <x> + = 5) (<s> ^operator <x> - ! ~ > <)}
+print p
+=>
+sp {p
+    :o-support
+    (state <s> ^a <x>)
+    -->
+    (<s> ^operator <x> +)
+    (<s> ^operator <x> = 5)
+    (<s> ^operator <x> -)
+    (<s> ^operator <x> !)
+    (<s> ^operator <x> ~)
+    (<s> ^operator <x> >)
+    (<s> ^operator <x> <)
+}
+;;
+sp {p (state <s> ^a <x>) --> (<s> ^(concat a <x>) (ifeq <x> 1 (abs -2) (mod 7 2)))}
+print p
+=>
+sp {p
+    (state <s> ^a <x>)
+    -->
+    (<s> ^(concat a <x>) (ifeq <x> 1 (abs -2) (mod 7 2)) +)
+}
+;;
+sp {p (state <s> ^a <x>) --> (write |x is | <x> (crlf)) (halt)}
+print p
+=>
+sp {p
+    (state <s> ^a <x>)
+    -->
+    (write |x is | <x> (crlf))
+    (halt)
 }
 ;;
 "#;

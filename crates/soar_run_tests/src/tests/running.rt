@@ -1,0 +1,201 @@
+// Cycles: operators, input and output, and the end of a run where the agent halts.
+use super::cases::wrong;
+use soar_edge::Status;
+use std::test::Fail;
+
+/// Operators that are proposed, selected and applied.
+const SELECTED: &str = r#"sp {init :o-support (state <s> ^superstate nil) --> (<s> ^n 0)}
+sp {count*propose (state <s> ^superstate nil ^n <x>) --> (<s> ^operator <o> +) (<o> ^name count ^from <x>)}
+sp {count*apply (state <s> ^operator <o> ^n <x>) (<o> ^name count ^from <x>) --> (<s> ^n <x> - (+ <x> 1))}
+run 4
+print S1
+=>
+2: O: O1 (count)
+3: O: O2 (count)
+4: O: O3 (count)
+3: (S1 ^io I1)
+4: (S1 ^superstate nil)
+5: (S1 ^type state)
+20: (S1 ^operator O3)
+21: (S1 ^n 3)
+24: (S1 ^operator O4 +)
+;;
+sp {prop (state <s> ^superstate nil ^cand <n>) --> (<s> ^operator <o> +) (<o> ^name <n>)}
+sp {cycle (state <s> ^operator <a> + ^operator <b> +) (<a> ^name x) (<b> ^name y) --> (<s> ^operator <a> > <b>) (<s> ^operator <b> > <a>)}
+add-wme S1 ^cand x
+add-wme S1 ^cand y
+add-wme S1 ^cand z
+run 1
+=>
+1: O: O3 (z)
+;;
+sp {two (state <s> ^superstate nil) --> (<s> ^operator <a> + - > <b>) (<s> ^operator <b> +) (<a> ^name x) (<b> ^name y)}
+run 1
+=>
+1: O: B1 (y)
+;;
+sp {w (state <s> ^superstate nil ^cand <n>) --> (<s> ^operator <o> + < = <n>) (<o> ^name <n>)}
+add-wme S1 ^cand 2
+add-wme S1 ^cand 3
+add-wme S1 ^cand 5
+random 9
+run 1
+=>
+1: O: O3 (5)
+;;
+sp {w (state <s> ^superstate nil ^cand <n>) --> (<s> ^operator <o> + < = <n>) (<o> ^name <n>)}
+add-wme S1 ^cand 2
+add-wme S1 ^cand 3
+add-wme S1 ^cand 5
+random 10
+run 1
+=>
+1: O: O1 (2)
+;;
+sp {w (state <s> ^superstate nil ^cand <n>) --> (<s> ^operator <o> + < = <n>) (<o> ^name <n>)}
+add-wme S1 ^cand 2
+add-wme S1 ^cand 3
+add-wme S1 ^cand 5
+run 1
+=>
+1: O: O1 (2)
+;;
+"#;
+
+/// What comes in and goes out at the links of the top state.
+const LINKED: &str = r#"sp {o (state <s> ^superstate nil ^io.output-link <ol>) --> (<ol> ^say hi)}
+run 1
+=>
+out + (I3 ^say hi)
+;;
+sp {o (state <s> ^superstate nil ^io <io>) (<io> ^input-link <il> ^output-link <ol>) (<il> ^hear <x>) --> (<ol> ^say <x>)}
+input add I2 ^hear a
+run 1
+input remove I2 ^hear a
+input add I2 ^hear b
+run 2
+=>
+out + (I3 ^say a)
+out - (I3 ^say a)
+out + (I3 ^say b)
+;;
+sp {p1 (state <s> ^a 1) --> (<s> ^c 1)}
+sp {p2 (state <s> ^b 1) --> (<s> ^c 1)}
+add-wme S1 ^a 1
+run 1
+input remove S1 ^a 1
+input add S1 ^b 1
+run 1
+print S1
+=>
+3: (S1 ^io I1)
+4: (S1 ^superstate nil)
+5: (S1 ^type state)
+7: (S1 ^c 1)
+8: (S1 ^b 1)
+;;
+"#;
+
+/// A run ends where the agent halts, with cycles left.
+const HALTED: &str = r#"sp {hello*propose
+   (state <s> ^type state)
+   -->
+   (<s> ^operator <o> +)
+   (<o> ^name hello-world)
+}
+sp {hello*apply
+   (state <s> ^operator <o>)
+   (<o> ^name hello-world)
+   -->
+   (write |Hello World|)
+   (halt)
+}
+run 5
+=>
+1: O: O1 (hello-world)
+Hello World
+halt
+;;
+"#;
+
+/// A halted agent does not run, and changes that are not queued.
+const RUN_REFUSED: &str = r#"sp {hello*propose
+   (state <s> ^type state)
+   -->
+   (<s> ^operator <o> +)
+   (<o> ^name hello-world)
+}
+sp {hello*apply
+   (state <s> ^operator <o>)
+   (<o> ^name hello-world)
+   -->
+   (write |Hello World|)
+   (halt)
+}
+run 1
+run 1
+=>
+1: O: O1 (hello-world)
+Hello World
+halt
+error 37 -:15: halted
+;;
+input add S1 ^a <n>
+input add <n> ^b 1
+input remove <n> ^b 1
+print S1
+run 1
+print S1
+print <n>
+input add S1 ^operator x
+input add S1 ^a Q1
+input add S1
+random
+random 18446744073709551615
+random 18446744073709551616
+random -1
+=>
+3: (S1 ^io I1)
+4: (S1 ^superstate nil)
+5: (S1 ^type state)
+3: (S1 ^io I1)
+4: (S1 ^superstate nil)
+5: (S1 ^type state)
+6: (S1 ^a N1)
+no elements
+error 36 -:8: reserved attribute
+error 31 -:9: unknown identifier Q1
+error 18 -:10: not built
+error 18 -:11: not built
+error 14 -:13: number too wide at byte 7
+error 18 -:14: not built
+;;
+"#;
+
+#[test]
+fn operators_are_selected_and_applied(rt: HostRuntime) -> Result<(), Fail> {
+    let wrong = wrong(rt.alloc(), Status::Done, SELECTED)?;
+    assert!(rt; wrong.is_empty(), "{wrong}");
+    Ok(())
+}
+
+#[test]
+fn what_comes_in_and_goes_out(rt: HostRuntime) -> Result<(), Fail> {
+    let wrong = wrong(rt.alloc(), Status::Done, LINKED)?;
+    assert!(rt; wrong.is_empty(), "{wrong}");
+    Ok(())
+}
+
+#[test]
+fn a_run_ends_where_the_agent_halts(rt: HostRuntime) -> Result<(), Fail> {
+    let wrong = wrong(rt.alloc(), Status::Done, HALTED)?;
+    assert!(rt; wrong.is_empty(), "{wrong}");
+    Ok(())
+}
+
+#[test]
+fn a_halted_agent_does_not_run(rt: HostRuntime) -> Result<(), Fail> {
+    let wrong = wrong(rt.alloc(), Status::Refusals, RUN_REFUSED)?;
+    assert!(rt; wrong.is_empty(), "{wrong}");
+    Ok(())
+}
