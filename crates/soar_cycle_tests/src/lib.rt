@@ -1,4 +1,4 @@
-//! Tests of the agent with the top state alone, and of settling.
+//! Tests of the agent over the matcher by enumeration: rules as text, and what steps answer and write.
 #![tactic(auto)]
 
 #[cfg(test)]
