@@ -1,0 +1,16 @@
+pub mod DecidingLemmas
+pub mod EventLemmas
+pub mod InputLemmas
+pub mod InputNowLemmas
+pub mod ListLemmas
+pub mod LoadLemmas
+pub mod LoadedLemmas
+pub mod NumberLemmas
+pub mod OperatorLemmas
+pub mod OutputLemmas
+pub mod QuietLemmas
+pub mod SoundLemmas
+pub mod SteppingLemmas
+pub mod TakingLemmas
+pub mod TextLemmas
+pub mod WavingLemmas

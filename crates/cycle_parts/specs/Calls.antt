@@ -1,12 +1,12 @@
 -- What the calls by which a session works do to the state, each one step.
-use Rattle.std.specs.Prelude.{◌≡◌, ℕ, suc, ◌+◌, Bool, true, false, not, List, [], ◌∷◌, ◌++◌, filter, Some, None, Result, Ok, Err}
+use Rattle.std.specs.Prelude.{◌≡◌, ℕ, suc, ◌+◌, Bool, true, false, not, List, [], ◌∷◌, ◌++◌, filter, Some, Result, Ok, Err}
 use Rattle.soar_sym.specs.Letters.{last_of, with_last}
 use Rattle.soar_sym.specs.Words.{IsKnown, Texts}
 use Rattle.soar_sym.specs.declared.symbol.Sym.{Sym}
 use Rattle.soar_sym.specs.declared.symbol.Sym.TheVariants.{Ident}
 use Rattle.soar_sym.specs.declared.symbol.Triple.{Triple}
 use Rattle.soar_rule.specs.Productions.{ProductionOf}
-use Rattle.defs_soar.specs.Agents.{Agent, Queued}
+use Rattle.defs_soar.specs.Agents.{Agent}
 use Rattle.defs_soar.specs.Cycle.{held_with}
 use Rattle.defs_soar.specs.Limits.{Total, counts_to, first_passed, identifiers_to}
 use Rattle.defs_soar.specs.Resettling.{AgentStep, resettled}

@@ -1,4 +1,5 @@
 pub mod Bonds
 pub mod Calls
+pub mod Deciding
 pub mod Stepping
 pub mod Waving

@@ -1,8 +1,7 @@
 -- A step of an agent with what it writes, behind text that ended in the middle of a line or not.
-use Rattle.std.specs.Prelude.{◌≡◌, ℕ, Bool, List, ◌++◌, Some, None, Result, Ok, Err}
+use Rattle.std.specs.Prelude.{◌≡◌, ℕ, Bool, List, ◌++◌, Some, Result, Ok, Err}
 use Rattle.defs_soar.specs.declared.limit.Which.{Which}
 use Rattle.defs_soar.specs.Limits.{first_passed}
-use Rattle.defs_soar.specs.Phases.{halting}
 use Rattle.defs_soar.specs.Resettling.{AgentStep}
 use Rattle.defs_soar.specs.Trace.{Written, pieces_of, rendered}
 use Rattle.soar_settle.specs.declared.stop.Stop.{Stop}

@@ -19,6 +19,11 @@ abbrev pub is_proposing : Phase → Bool
 is_proposing Proposal = true
 is_proposing Application = false
 
+-- how a wave with work went
+abbrev pub waved_by : Bool → Waved
+waved_by true = waved.Halted
+waved_by false = waved.Went
+
 -- what is pending in a state, carried out
 abbrev pub wave_at : Bool → Agent → AgentStep
 wave_at proposing s = wave_of without_learning s (pending proposing s)

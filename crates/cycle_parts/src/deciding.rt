@@ -8,6 +8,8 @@ ghost use Rattle.wave_parts.specs.Seen.{IsSound};
 ghost use Rattle.wave_parts.specs.Stands.{Stands};
 
 use crate::engine::Engine;
+use crate::selecting::{outcome_at_top, say_selected, selected_by, take_outcome};
+use decision_laws::decisions_follow_outcomes;
 use defs_match::Matcher;
 use soar_sym::Text;
 use std::alloc::Global;
@@ -23,7 +25,12 @@ impl<M: Matcher> Engine<M> {
         ensures sound { OnOk result (IsSound self.new.parts) }
         ensures bond { OnOk result (Bond (M.rules self.new.matcher) (M.elements self.new.matcher) (M.failed self.new.matcher) self.new.parts) }
     {
-        let _ = (alloc, out, mid_line);
-        Err(Stop::NoMemory)
+        decisions_follow_outcomes();
+        let outcome = outcome_at_top(alloc, &self.parts)?;
+        let selected = selected_by(alloc, &self.parts, &outcome)?;
+        take_outcome(alloc, &mut self.parts, &outcome);
+        self.resettle(alloc)?;
+        say_selected(&self.parts.table, &selected, out, mid_line)?;
+        Ok(())
     }
 }

@@ -6,6 +6,7 @@ ghost use Rattle.cycle_parts.specs.Bonds.{Bond};
 ghost use Rattle.wave_parts.specs.Seen.{IsSound};
 ghost use Rattle.wave_parts.specs.Stands.{Stands};
 
+use crate::taking::take_in;
 use defs_match::{Instance, Matcher};
 use soar_sym::{List, NoMemory};
 use std::alloc::Global;
@@ -20,7 +21,7 @@ pub struct Engine<M: Matcher> {
 
 impl<M: Matcher + Drop> Engine<M> {
     /// The top state with its input and output links, and no rule.
-    pub fn new(alloc: Global, matcher: M) -> Result<Engine<M>, NoMemory>
+    pub fn new(alloc: Global, mut matcher: M) -> Result<Engine<M>, NoMemory>
         requires works { M.failed matcher ≡ false }
         requires rules { M.rules matcher ≡ [] }
         requires elements { M.elements matcher ≡ [] }
@@ -28,8 +29,10 @@ impl<M: Matcher + Drop> Engine<M> {
         ensures sound { IfOk result (λ engine. IsSound engine.parts) }
         ensures bond { IfOk result (λ engine. Bond (M.rules engine.matcher) (M.elements engine.matcher) (M.failed engine.matcher) engine.parts) }
     {
-        let _ = (alloc, matcher);
-        Err(NoMemory)
+        let parts = Parts::new(alloc)?;
+        let elements = parts.memory.all(alloc)?;
+        take_in(&mut matcher, elements.as_slice())?;
+        Ok(Engine { parts, matcher })
     }
 }
 

@@ -8,6 +8,7 @@ ghost use Rattle.wave_parts.specs.Stands.{Stands};
 
 use crate::engine::Engine;
 use defs_match::Matcher;
+use defs_soar::Which;
 use soar_sym::Sym;
 use wave_parts::Stop;
 
@@ -23,7 +24,9 @@ impl<M: Matcher> Engine<M> {
         ensures sound { OnOk result (IsSound self.new.parts) }
         ensures bond { OnOk result (Bond (M.rules self.new.matcher) (M.elements self.new.matcher) (M.failed self.new.matcher) self.new.parts) }
     {
-        let _ = letter;
-        Err(Stop::NoMemory)
+        match self.parts.letters.next(letter) {
+            Ok(symbol) => Ok(symbol),
+            Err(_) => Err(Stop::Limit(Which::Identifiers)),
+        }
     }
 }

@@ -9,8 +9,10 @@ ghost use Rattle.wave_parts.specs.Stands.{Stands};
 
 use crate::engine::Engine;
 use defs_match::Matcher;
+use input_queue::changed_inputs;
+use soar_sym::List;
 use std::alloc::Global;
-use wave_parts::Stop;
+use wave_parts::{Stop, count_more};
 
 impl<M: Matcher> Engine<M> {
     /// Runs the input phase: one cycle more, and the queued changes of the inputs in order (Soar manual, chapter 2,
@@ -22,7 +24,11 @@ impl<M: Matcher> Engine<M> {
         ensures sound { OnOk result (IsSound self.new.parts) }
         ensures bond { OnOk result (Bond (M.rules self.new.matcher) (M.elements self.new.matcher) (M.failed self.new.matcher) self.new.parts) }
     {
-        let _ = alloc;
-        Err(Stop::NoMemory)
+        let cycles = count_more(self.parts.cycles, 1)?;
+        let inputs = changed_inputs(alloc, &self.parts.inputs, &self.parts.queue)?;
+        self.parts.inputs = inputs;
+        self.parts.queue = List::new(alloc);
+        self.parts.cycles = cycles;
+        self.resettle(alloc)
     }
 }

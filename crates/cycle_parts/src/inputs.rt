@@ -8,6 +8,7 @@ ghost use Rattle.wave_parts.specs.Seen.{IsSound};
 ghost use Rattle.wave_parts.specs.Stands.{Stands};
 
 use crate::engine::Engine;
+use crate::triples::with_input;
 use defs_match::Matcher;
 use soar_sym::Triple;
 use std::alloc::Global;
@@ -24,7 +25,7 @@ impl<M: Matcher> Engine<M> {
         ensures sound { OnOk result (IsSound self.new.parts) }
         ensures bond { OnOk result (Bond (M.rules self.new.matcher) (M.elements self.new.matcher) (M.failed self.new.matcher) self.new.parts) }
     {
-        let _ = (alloc, adds, triple);
-        Err(Stop::NoMemory)
+        self.parts.inputs = with_input(alloc, adds, triple, &self.parts.inputs)?;
+        self.resettle(alloc)
     }
 }

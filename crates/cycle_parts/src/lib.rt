@@ -3,6 +3,7 @@
 #![tactic(auto)]
 
 mod deciding;
+mod dropping;
 mod engine;
 mod fresh;
 mod input_phase;
@@ -10,8 +11,11 @@ mod inputs;
 mod loading;
 mod output_phase;
 mod queues;
+mod selecting;
 mod settling;
+mod taking;
 mod telling;
+mod triples;
 mod waving;
 
 pub use engine::Engine;

@@ -11,10 +11,11 @@ ghost use Rattle.cycle_parts.specs.Stepping.{QuietStep};
 ghost use Rattle.wave_parts.specs.Seen.{IsSound};
 ghost use Rattle.wave_parts.specs.Stands.{Stands};
 
+use crate::dropping::drop_named;
 use crate::engine::Engine;
-use defs_match::Matcher;
+use defs_match::{Matcher, Rule};
 use soar_rule::Production;
-use wave_parts::Stop;
+use wave_parts::{Stop, count_more};
 
 impl<M: Matcher> Engine<M> {
     /// Loads a production under the next rule number, in the place of that of its name.
@@ -28,7 +29,12 @@ impl<M: Matcher> Engine<M> {
         ensures sound { OnOk result (IsSound self.new.parts) }
         ensures bond { OnOk result (Bond (M.rules self.new.matcher) (M.elements self.new.matcher) (M.failed self.new.matcher) self.new.parts) }
     {
-        let _ = production;
-        Err(Stop::NoMemory)
+        let number = count_more(self.parts.last_rule, 1)?;
+        drop_named(&mut self.parts.rules, &mut self.matcher, production.name);
+        let rule = Rule { number, production };
+        self.matcher.add_rule(&rule)?;
+        self.parts.rules.push(rule)?;
+        self.parts.last_rule = number;
+        Ok(())
     }
 }

@@ -1,7 +1,10 @@
 // The output phase.
-ghost use Rattle.std.specs.Prelude.{◌≡◌, OnOk};
+ghost use Rattle.std.specs.Prelude.{◌≡◌, [], ◌∷◌, ◌++◌, map, if◌then◌else◌, OnOk};
 ghost use Rattle.defs_soar.specs.Agents.{Agent as AgentOf};
 ghost use Rattle.defs_soar.specs.Cycle.{after_output};
+ghost use Rattle.defs_soar.specs.Events.{halts, shows, shows_no_longer};
+ghost use Rattle.soar_settle.specs.Known.{AreTriplesKnown};
+ghost use Rattle.trace_lines.specs.Saying.{SaysLines};
 ghost use Rattle.cycle_parts.specs.Bonds.{Bond};
 ghost use Rattle.cycle_parts.specs.Stepping.{GoesStep};
 ghost use Rattle.wave_parts.specs.Seen.{IsSound};
@@ -9,8 +12,10 @@ ghost use Rattle.wave_parts.specs.Stands.{Stands};
 
 use crate::engine::Engine;
 use defs_match::Matcher;
-use soar_sym::Text;
+use output_link::{OutputChanges, output_changes, output_of};
+use soar_sym::{NoMemory, SymTable, Text};
 use std::alloc::Global;
+use trace_lines::{say_halt, say_outputs};
 use wave_parts::Stop;
 
 impl<M: Matcher> Engine<M> {
@@ -28,7 +33,41 @@ impl<M: Matcher> Engine<M> {
         ensures sound { OnOk result (IsSound self.new.parts) }
         ensures bond { OnOk result (Bond (M.rules self.new.matcher) (M.elements self.new.matcher) (M.failed self.new.matcher) self.new.parts) }
     {
-        let _ = (alloc, out, mid_line);
-        Err(Stop::NoMemory)
+        let now = output_of(alloc, &self.parts.memory, &self.parts.goals)?;
+        let changes = output_changes(alloc, &self.parts.table, &self.parts.output, &now)?;
+        say_output(
+            &self.parts.table,
+            &changes,
+            self.parts.halted,
+            out,
+            mid_line,
+        )?;
+        self.parts.output = now;
+        Ok(())
     }
+}
+
+/// Appends the lines of an output phase.
+fn say_output(
+    table: &SymTable,
+    changes: &OutputChanges,
+    halted: bool,
+    out: &mut Text,
+    mid_line: &mut bool,
+) -> Result<(), NoMemory>
+    requires gone { AreTriplesKnown table.now changes.now.gone }
+    requires new { AreTriplesKnown table.now changes.now.new }
+    ensures { OnOk result (SaysLines table.now (map shows_no_longer changes.now.gone ++ (map shows changes.now.new ++ (if halted then halts ∷ [] else []))) mid_line.old out.old mid_line.new out.new) }
+{
+    say_outputs(
+        table,
+        changes.gone.as_slice(),
+        changes.new.as_slice(),
+        out,
+        mid_line,
+    )?;
+    if halted {
+        say_halt(out, mid_line)?;
+    }
+    Ok(())
 }

@@ -9,6 +9,7 @@ ghost use Rattle.wave_parts.specs.Stands.{Stands};
 
 use crate::engine::Engine;
 use defs_match::Matcher;
+use input_queue::Queued;
 use soar_sym::Triple;
 use wave_parts::Stop;
 
@@ -22,8 +23,8 @@ impl<M: Matcher> Engine<M> {
         ensures sound { OnOk result (IsSound self.new.parts) }
         ensures bond { OnOk result (Bond (M.rules self.new.matcher) (M.elements self.new.matcher) (M.failed self.new.matcher) self.new.parts) }
     {
-        let _ = (adds, triple);
-        Err(Stop::NoMemory)
+        self.parts.queue.push(Queued { adds, triple })?;
+        Ok(())
     }
 
     /// Puts random words behind those that wait for draws.
@@ -34,7 +35,7 @@ impl<M: Matcher> Engine<M> {
         ensures sound { OnOk result (IsSound self.new.parts) }
         ensures bond { OnOk result (Bond (M.rules self.new.matcher) (M.elements self.new.matcher) (M.failed self.new.matcher) self.new.parts) }
     {
-        let _ = words;
-        Err(Stop::NoMemory)
+        self.parts.random.extend_from_slice(words)?;
+        Ok(())
     }
 }

@@ -8,6 +8,7 @@ ghost use Rattle.wave_parts.specs.Seen.{IsSound};
 ghost use Rattle.wave_parts.specs.Stands.{Stands};
 
 use crate::engine::Engine;
+use crate::telling::tell;
 use defs_match::Matcher;
 use std::alloc::Global;
 use wave_parts::Stop;
@@ -18,10 +19,12 @@ impl<M: Matcher> Engine<M> {
         requires sound { IsSound self.old.parts }
         requires bond { Bond (M.rules self.old.matcher) (M.elements self.old.matcher) (M.failed self.old.matcher) self.old.parts }
         ensures settled { (s : AgentOf) → Stands self.old.parts s → QuietStep (resettled_now s) self.new.parts result }
+        ensures table { self.new.parts.table ≡ self.old.parts.table }
         ensures sound { OnOk result (IsSound self.new.parts) }
         ensures bond { OnOk result (Bond (M.rules self.new.matcher) (M.elements self.new.matcher) (M.failed self.new.matcher) self.new.parts) }
     {
-        let _ = alloc;
-        Err(Stop::NoMemory)
+        let changes = self.parts.resettle(alloc)?;
+        tell(&mut self.matcher, &changes)?;
+        Ok(())
     }
 }

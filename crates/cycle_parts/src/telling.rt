@@ -5,6 +5,7 @@ ghost use Rattle.soar_settle.specs.Tagging.{without_each};
 
 use defs_match::Matcher;
 use soar_sym::NoMemory;
+use soar_wm::Element;
 use wave_parts::Changes;
 
 /// Tells a matcher what a step changed: it lets go of what went, then takes in what came.
@@ -16,6 +17,34 @@ pub fn tell<M: Matcher>(matcher: &mut M, changes: &Changes) -> Result<(), NoMemo
     ensures rules { OnOk result (M.rules matcher.new ≡ M.rules matcher.old) }
     ensures elements { OnOk result (M.elements matcher.new ≡ with_each (without_each (M.elements matcher.old) changes.now.gone) changes.now.new) }
 {
-    let _ = (matcher, changes);
-    Err(NoMemory)
+    let_go(matcher, changes.gone.as_slice())?;
+    take_in(matcher, changes.new.as_slice())
+}
+
+/// Lets go of elements, one after the other.
+fn let_go<M: Matcher>(matcher: &mut M, gone: &[Element]) -> Result<(), NoMemory>
+    requires works { M.failed matcher.old ≡ false }
+    requires removable { AreRemovable (M.elements matcher.old) gone.now }
+    ensures works { OnOk result (M.failed matcher.new ≡ false) }
+    ensures rules { OnOk result (M.rules matcher.new ≡ M.rules matcher.old) }
+    ensures elements { OnOk result (M.elements matcher.new ≡ without_each (M.elements matcher.old) gone.now) }
+{
+    'gone: for element in gone {
+        matcher.remove_element(element.tag)?;
+    }
+    Ok(())
+}
+
+/// Takes elements in, one after the other.
+fn take_in<M: Matcher>(matcher: &mut M, new: &[Element]) -> Result<(), NoMemory>
+    requires works { M.failed matcher.old ≡ false }
+    requires insertable { AreInsertable (M.elements matcher.old) new.now }
+    ensures works { OnOk result (M.failed matcher.new ≡ false) }
+    ensures rules { OnOk result (M.rules matcher.new ≡ M.rules matcher.old) }
+    ensures elements { OnOk result (M.elements matcher.new ≡ with_each (M.elements matcher.old) new.now) }
+{
+    'new: for element in new {
+        matcher.add_element(*element)?;
+    }
+    Ok(())
 }

@@ -4,6 +4,7 @@ pub mod CutLemmas
 pub mod NameLemmas
 pub mod OrderLemmas
 pub mod PrintLemmas
+pub mod RandomLemmas
 pub mod ReadingLemmas
 pub mod SpelledLemmas
 pub mod WordLemmas

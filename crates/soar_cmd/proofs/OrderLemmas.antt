@@ -1,14 +1,17 @@
 -- Arguments, and the orders that they make.
-use Rattle.std.proofs.Common.{◌≡◌, ℕ, true, false, List, [], ◌∷◌, map, drop, Option, Result, Ok, Err, IfOk, refl, ap, ap₂, ◌∙◌}
-use Rattle.std.specs.Prelude.{option_map}
+use Rattle.std.proofs.Common.{◌≡◌, ℕ, Bool, true, false, List, [], ◌∷◌, map, drop, Option, Some, None, Result, Ok, Err, IfOk, refl, ap, ap₂, ◌∙◌}
+use Rattle.std.specs.Prelude.{if◌then◌else◌, option_map, codes}
+use Rattle.std.specs.Str.{bytes_eq}
 use Rattle.soar_sym.specs.Words.{Texts}
 use Rattle.defs_text.specs.Lexing.{Saying, mark, arrow, open_set, close_set, sign, variable_named, integer, word_of, documentation, Spelled}
 use Rattle.defs_text.specs.Numbered.{kind_in, numbered}
 use Rattle.defs_text.specs.declared.token.Token.{Token}
 use Rattle.defs_run.specs.Arguments.{Argument, bare, barred, label, argument_of, argument_in}
+use Rattle.defs_run.specs.CommandForms.{input_order, triple_order}
+use Rattle.defs_run.specs.Orders.{Order, queue}
 use Rattle.defs_run.specs.Present.{Form, order_by}
 use Rattle.defs_run.specs.declared.form.Order.{Order as OrderRead}
-use Rattle.soar_cmd.specs.Asked.{order_seen}
+use Rattle.soar_cmd.specs.Asked.{adds_by, order_seen}
 use Rattle.soar_cmd.specs.Behind.{kind_argument, argument_at}
 use Rattle.soar_cmd.specs.Known.{IsSayingIn, AreSpelledIn}
 use Rattle.soar_cmd.proofs.WordLemmas.{text_in}
@@ -44,3 +47,22 @@ pub order_behind : {E : Type 0} (f : Form) (words : Texts) (text : List ℕ) (to
 order_behind f words text tokens arguments (Err e) are is = tt
 order_behind f words text tokens arguments (Ok order) are is = λ spelled same has.
     is ∙ ap (f words) (are ∙ (ap (λ ts. map (argument_at words text) (drop 1 ts)) same ∙ arguments_behind words text spelled has))
+
+-- ---- changes of the inputs
+
+-- a word that says whether to add, and what follows it
+pub input_is : (words : Texts) (text : List ℕ) (adds : Bool) (arguments : List Argument) → Some adds ≡ adds_by text
+    → triple_order words (queue adds) arguments ≡ input_order words (bare text ∷ arguments)
+input_is words text adds arguments is = by (bytes_eq text (codes "add")) (bytes_eq text (codes "remove")) is
+  where
+    by : (a r : Bool) → Some adds ≡ (if a then Some true else if r then Some false else None)
+        → triple_order words (queue adds) arguments ≡ (if a then triple_order words (queue true) arguments else if r then triple_order words (queue false) arguments else None)
+    by true r is = let e : adds ≡ true = cc in ap (λ b. triple_order words (queue b) arguments) e
+    by false true is = let e : adds ≡ false = cc in ap (λ b. triple_order words (queue b) arguments) e
+    by false false is = absurd (cc)
+
+-- the order is one that is as good
+pub order_same : {E : Type 0} (result : Result (Option OrderRead) E) (one other : Option Order) → one ≡ other
+    → IfOk result (λ order. option_map order_seen order ≡ one) → IfOk result (λ order. option_map order_seen order ≡ other)
+order_same (Err e) one other same is = tt
+order_same (Ok order) one other same is = is ∙ same

@@ -12,16 +12,16 @@ use Rattle.defs_read.specs.Grammar.{Tree}
 use Rattle.defs_read.specs.Readers.{Stop}
 use Rattle.defs_read.specs.ReadingActions.{tree_of}
 use Rattle.defs_read.specs.Sayings.{sayings}
-use Rattle.soar_lex.specs.Answers.{Gained, CutWhole}
+use Rattle.soar_lex.specs.Answers.{Gained}
 use Rattle.soar_read.specs.Answers.{IsRead, ReadAs, RefusedAs, SpentAs, meaning, stop_of, place_left as place_behind}
 use Rattle.soar_read.specs.declared.fault.ReadFault.{ReadFault}
 use Rattle.soar_read.specs.declared.fault.ReadFault.TheVariants as read
 use Rattle.soar_read.specs.declared.fault.SyntaxKind.{SyntaxKind}
 use Rattle.soar_read.specs.declared.fault.SyntaxKind.TheVariants as kind
-use Rattle.defs_run.specs.Orders.{Order, Refusal}
-use Rattle.defs_run.specs.Present.{Form, if_plain, judged, read_order}
+use Rattle.defs_run.specs.Orders.{Order, load, Refusal}
+use Rattle.defs_run.specs.Present.{Form, read_order}
 use Rattle.defs_run.specs.Stages.{Reading}
-use Rattle.defs_run.specs.WholeReading.{Judge, of_check, of_lexing, of_stop, place_left, read_tokens, read_tree, unless_faulty}
+use Rattle.defs_run.specs.WholeReading.{Judge, checked, of_check, of_lexing, of_ordered, of_stop, place_left, read_tokens, read_tree, unless_faulty}
 use Rattle.defs_run.specs.declared.form.Order.{Order as OrderRead}
 use Rattle.soar_cmd.specs.Answers.{GrowsOnly, IsCommandRead, IsJudged, fault_of, refusal_of}
 use Rattle.soar_cmd.specs.Known.{AreSpelledIn}
@@ -46,11 +46,11 @@ abbrev read_by_fault : Texts → (Texts → List Spelled → Reading) → Lexed 
 read_by_fault words f l o = elim o as (λ _. Reading) [ Some e ↦ record { words = words; order = Err (of_lexing e) } | None ↦ f words l.tokens ]
 
 -- a whole text
-pub whole_read : (old between new : Texts) (f : Texts → List Spelled → Reading) (l : Lexed) (tokens : List Token) (result : Result OrderRead CmdFault) → CutWhole old between l tokens
+pub whole_read : (old between new : Texts) (f : Texts → List Spelled → Reading) (l : Lexed) (result : Result OrderRead CmdFault) → l.fault ≡ None → Gained old between l
     → IsCommandRead new (f between l.tokens) result → IsCommandRead new (unless_faulty old l f) result
-whole_read old between new f l tokens result cut is =
+whole_read old between new f l result none gained is =
     subst (λ (r : Reading). IsCommandRead new r result)
-    (ap (λ words. f words l.tokens) cut.gained.words ∙ ap (read_by_fault (words_after old l.tokens) f l) (sym cut.fault)) is
+    (ap (λ words. f words l.tokens) gained.words ∙ ap (read_by_fault (words_after old l.tokens) f l) (sym none)) is
 
 -- a text with a fault
 pub faulty_read : (old new : Texts) (f : Texts → List Spelled → Reading) (l : Lexed) (e : Fault) (number place : ℕ) → (l.fault ≡ Some e) × Gained old new l
@@ -91,53 +91,53 @@ abbrev judged_as : Judge → ProductionRead → Reading
 judged_as judge r = record { words = r.words; order = judge r.words r.production }
 
 spelled_tree : (words : Texts) (spelled : List Spelled) (tokens : List Token) (tree : Tree) → tokens ≡ map (numbered words) spelled → AreSpelledIn words spelled
-    → tree_of (sayings words tokens) ≡ Ok tree → read_tokens judged words spelled ≡ judged_as judged (meaning words tokens tree)
+    → tree_of (sayings words tokens) ≡ Ok tree → read_tokens checked words spelled ≡ judged_as checked (meaning words tokens tree)
 spelled_tree words spelled tokens tree are have is =
     let says : sayings words tokens ≡ map (λ t. t.says) spelled = ap (sayings words) are ∙ sayings_are words spelled have in
-    ap (read_tree judged words spelled) (ap tree_of (sym says) ∙ is) ∙ ap (λ ss. judged_as judged (production_of words ss tree)) (sym says)
+    ap (read_tree checked words spelled) (ap tree_of (sym says) ∙ is) ∙ ap (λ ss. judged_as checked (production_of words ss tree)) (sym says)
 
 -- tokens that spell a production
 pub production_read : (old new : Texts) (tokens : List Token) (spelled : List Spelled) (production : Production) (result : Result OrderRead CmdFault)
     → tokens ≡ map (numbered old) spelled → AreSpelledIn old spelled → ReadAs old new tokens production
-    → IsJudged new (judged new (production_seen production)) result → IsCommandRead new (read_tokens judged old spelled) result
+    → IsJudged new (checked new (production_seen production)) result → IsCommandRead new (read_tokens checked old spelled) result
 production_read old new tokens spelled production result are have as_spelled is =
     let r : ProductionRead = meaning old tokens as_spelled.tree in
-    let as_read : judged_as judged r ≡ record { words = new; order = judged new (production_seen production) } =
-    ap (λ words. record { words = words; order = judged words r.production }) (sym as_spelled.words) ∙ ap (λ (p : ProductionOf). record { words = new; order = judged new p }) (sym as_spelled.means) in
+    let as_read : judged_as checked r ≡ record { words = new; order = checked new (production_seen production) } =
+    ap (λ words. record { words = words; order = checked words r.production }) (sym as_spelled.words) ∙ ap (λ (p : ProductionOf). record { words = new; order = checked new p }) (sym as_spelled.means) in
     subst (λ (reading : Reading). IsCommandRead new reading result) (sym (spelled_tree old spelled tokens as_spelled.tree are have as_spelled.spelled ∙ as_read))
-    (judged_read new (judged new (production_seen production)) result is)
+    (judged_read new (checked new (production_seen production)) result is)
 
 -- tokens that spell none
 pub refused_read : (old new : Texts) (tokens : List Token) (spelled : List Spelled) (place : ℕ) (why : SyntaxKind) (result : Result OrderRead CmdFault)
     → tokens ≡ map (numbered old) spelled → AreSpelledIn old spelled → RefusedAs old new tokens place why
-    → IsJudged new (Err (of_stop (stop_of why) place)) result → IsCommandRead new (read_tokens judged old spelled) result
+    → IsJudged new (Err (of_stop (stop_of why) place)) result → IsCommandRead new (read_tokens checked old spelled) result
 refused_read old new tokens spelled place why result are have refused is =
     let says : sayings old tokens ≡ map (λ t. t.says) spelled = ap (sayings old) are ∙ sayings_are old spelled have in
     let at : place_left 0 spelled refused.left ≡ place = sym (refused.place_is ∙ (ap (λ ts. place_behind 0 ts refused.left) are ∙ place_same old 0 spelled refused.left)) in
-    let as_read : read_tokens judged old spelled ≡ record { words = new; order = Err (of_stop (stop_of why) place) } =
-    ap (read_tree judged old spelled) (ap tree_of (sym says) ∙ refused.stops)
+    let as_read : read_tokens checked old spelled ≡ record { words = new; order = Err (of_stop (stop_of why) place) } =
+    ap (read_tree checked old spelled) (ap tree_of (sym says) ∙ refused.stops)
     ∙ (ap (λ n. record { words = old; order = Err (of_stop (stop_of why) n) }) at ∙ ap (λ words. record { words = words; order = Err (of_stop (stop_of why) place) }) (sym refused.words)) in
     subst (λ (reading : Reading). IsCommandRead new reading result) (sym as_read) (judged_read new (Err (of_stop (stop_of why) place)) result is)
 
 -- tokens whose new words are more than a table holds
 pub production_spent : (old new : Texts) (tokens : List Token) (spelled : List Spelled) → tokens ≡ map (numbered old) spelled → AreSpelledIn old spelled
-    → SpentAs old new tokens → 2 ^ 32 - 1 < length (read_tokens judged old spelled).words
+    → SpentAs old new tokens → 2 ^ 32 - 1 < length (read_tokens checked old spelled).words
 production_spent old new tokens spelled are have spent =
     omega (arith, spent.spent, ap (λ (r : Reading). length r.words) (spelled_tree old spelled tokens spent.tree are have spent.spelled))
 
 -- tokens that are not read
 pub fault_read : (old new : Texts) (tokens : List Token) (spelled : List Spelled) (why : ReadFault) (result : CmdFault) → tokens ≡ map (numbered old) spelled → AreSpelledIn old spelled
-    → IsRead old new tokens (Err why) → result ≡ fault_of why → IsCommandRead new (read_tokens judged old spelled) (Err result)
+    → IsRead old new tokens (Err why) → result ≡ fault_of why → IsCommandRead new (read_tokens checked old spelled) (Err result)
 fault_read old new tokens spelled (read.SyntaxFault place kind.Unexpected) result are have is gives =
-    subst (λ (f : CmdFault). IsCommandRead new (read_tokens judged old spelled) (Err f)) (sym gives)
+    subst (λ (f : CmdFault). IsCommandRead new (read_tokens checked old spelled) (Err f)) (sym gives)
     (refused_read old new tokens spelled place kind.Unexpected (Err (fault.Refused 16 (shown.Place place))) are have is (refl, tt))
 fault_read old new tokens spelled (read.SyntaxFault place kind.Deep) result are have is gives =
-    subst (λ (f : CmdFault). IsCommandRead new (read_tokens judged old spelled) (Err f)) (sym gives)
+    subst (λ (f : CmdFault). IsCommandRead new (read_tokens checked old spelled) (Err f)) (sym gives)
     (refused_read old new tokens spelled place kind.Deep (Err (fault.Refused 17 (shown.Place place))) are have is (refl, tt))
 fault_read old new tokens spelled read.WordsSpent result are have is gives =
-    subst (λ (f : CmdFault). IsCommandRead new (read_tokens judged old spelled) (Err f)) (sym gives) (production_spent old new tokens spelled are have is)
+    subst (λ (f : CmdFault). IsCommandRead new (read_tokens checked old spelled) (Err f)) (sym gives) (production_spent old new tokens spelled are have is)
 fault_read old new tokens spelled read.NoMemory result are have is gives =
-    subst (λ (f : CmdFault). IsCommandRead new (read_tokens judged old spelled) (Err f)) (sym gives) tt
+    subst (λ (f : CmdFault). IsCommandRead new (read_tokens checked old spelled) (Err f)) (sym gives) tt
 
 -- they leave the table with the words that it had
 pub fault_more : (old new : Texts) (tokens : List Token) (why : ReadFault) → IsRead old new tokens (Err why) → length old ≤ length new
@@ -147,15 +147,11 @@ fault_more old new tokens read.NoMemory is = omega (arith, ap length is.1, lengt
 
 -- ---- faults of productions
 
--- what is read of a production, by what its check says
-abbrev judged_by : Texts → ProductionOf → Result ProductionOf CheckFault → Result Order Refusal
-judged_by words p checked = elim checked as (λ _. Result Order Refusal) [ Ok q ↦ if_plain q | Err why ↦ Err (of_check words p.vars why) ]
-
 -- one in match order
-pub ordered_judged : (words : Texts) (p q : ProductionOf) (result : Result OrderRead CmdFault) → ordered p ≡ Ok q → IsJudged words (if_plain q) result → IsJudged words (judged words p) result
-ordered_judged words p q result is judges = subst (λ (order : Result Order Refusal). IsJudged words order result) (sym (ap (judged_by words p) is)) judges
+pub ordered_judged : (words : Texts) (p q : ProductionOf) (result : Result OrderRead CmdFault) → ordered p ≡ Ok q → IsJudged words (Ok (load q)) result → IsJudged words (checked words p) result
+ordered_judged words p q result is judges = subst (λ (order : Result Order Refusal). IsJudged words order result) (sym (ap (of_ordered words p) is)) judges
 
 -- one with a fault
 pub faulty_judged : (words : Texts) (p : ProductionOf) (why : CheckFault) (result : Result OrderRead CmdFault) → ordered p ≡ Err why
-    → IsJudged words (Err (of_check words p.vars why)) result → IsJudged words (judged words p) result
-faulty_judged words p why result is judges = subst (λ (order : Result Order Refusal). IsJudged words order result) (sym (ap (judged_by words p) is)) judges
+    → IsJudged words (Err (of_check words p.vars why)) result → IsJudged words (checked words p) result
+faulty_judged words p why result is judges = subst (λ (order : Result Order Refusal). IsJudged words order result) (sym (ap (of_ordered words p) is)) judges

@@ -1,6 +1,7 @@
 -- Whether the table has the words of tokens and of orders.
 use Rattle.std.specs.Prelude.{◌≡◌, true, false, List, [], ◌∷◌, Option, Some, None}
 use Rattle.soar_sym.specs.Words.{Texts, has_text, IsKnown}
+use Rattle.soar_rule.specs.AsItStands.{can_be_matched}
 use Rattle.soar_rule.specs.Productions.{production_seen}
 use Rattle.soar_rule.specs.Symbols.{AreKnown, symbols_of}
 use Rattle.defs_text.specs.Lexing.{Saying, variable_named, word_of, Spelled}
@@ -9,7 +10,7 @@ use Rattle.defs_run.specs.declared.form.Addition.{Addition}
 use Rattle.defs_run.specs.declared.form.Operand.{Operand}
 use Rattle.defs_run.specs.declared.form.Operand.TheVariants.{Symbol, Label}
 use Rattle.defs_run.specs.declared.form.Order.{Order}
-use Rattle.defs_run.specs.declared.form.Order.TheVariants.{Load, Add, Print, Show}
+use Rattle.defs_run.specs.declared.form.Order.TheVariants.{Load, Add, Queue, Print, Show}
 
 -- the text of a word or variable of a token
 abbrev pub IsSayingIn : Texts → Saying → Type 0
@@ -38,10 +39,12 @@ pub record IsAdditionKnown (words : Texts) (addition : Addition) : Type 0 where
   pub attr : IsAttributeKnown words addition.attr
   pub value : IsOperandKnown words addition.value
 
--- a production to load is no justification
+-- a production to load is no justification, and can be matched as it stands
 abbrev pub IsOrderKnown : Texts → Order → Type 0
-IsOrderKnown words (Load production) = AreKnown words (symbols_of (production_seen production)) × (is_justification production.kind ≡ false)
+IsOrderKnown words (Load production) =
+    AreKnown words (symbols_of (production_seen production)) × (is_justification production.kind ≡ false) × (can_be_matched (production_seen production) ≡ true)
 IsOrderKnown words (Add addition) = IsAdditionKnown words addition
+IsOrderKnown words (Queue adds addition) = IsAdditionKnown words addition
 IsOrderKnown words (Print id) = IsOperandKnown words id
 IsOrderKnown words (Show name) = IsKnown words name
 IsOrderKnown words other = Unit {0}

@@ -4,13 +4,14 @@ ghost use Rattle.soar_cmd.specs.Asked.{form_seen};
 
 use crate::word::is_word;
 
-/// What a command's word, other than `sp`, says that the command does.
+/// What a command's word, other than `sp` and `random`, says that the command does.
 #[derive(Clone, Copy, PartialEq, Eq)]
 pub enum Form {
     Add,
     Matches,
     Run,
     Remove,
+    Input,
     Print,
 }
 
@@ -26,6 +27,8 @@ pub fn form_of(word: &[u8]) -> Option<Form>
         Some(Form::Run)
     } else if is_word(word, b"remove-wme") {
         Some(Form::Remove)
+    } else if is_word(word, b"input") {
+        Some(Form::Input)
     } else if is_word(word, b"print") {
         Some(Form::Print)
     } else {

@@ -6,7 +6,7 @@ mod fault;
 mod form;
 mod operand;
 mod order;
-mod plain;
+mod random;
 mod read;
 mod refused;
 mod word;

@@ -7,21 +7,23 @@ ghost use Rattle.defs_text.specs.Lexing.{Spelled, lexed};
 ghost use Rattle.defs_text.specs.Numbered.{numbered};
 ghost use Rattle.defs_read.specs.Sayings.{AreTokensKnown};
 ghost use Rattle.defs_soar.specs.Pending.{is_justification};
-ghost use Rattle.defs_run.specs.Present.{if_plain, judged, or_not_built, order_by, read_order, read_present};
-ghost use Rattle.defs_run.specs.WholeReading.{read_sp, read_tokens, unless_faulty};
+ghost use Rattle.defs_run.specs.Present.{or_not_built, order_by, read_order, read_present, read_random};
+ghost use Rattle.defs_run.specs.WholeReading.{checked, read_sp, read_tokens, unless_faulty};
 ghost use Rattle.soar_cmd.specs.Answers.{IsCommandRead, IsJudged};
-ghost use Rattle.soar_cmd.specs.Asked.{form_seen};
+ghost use Rattle.soar_cmd.specs.Asked.{form_seen, numbers_order};
 ghost use Rattle.soar_cmd.specs.Known.{AreSpelledIn, IsOrderKnown};
 
 use crate::fault::CmdFault;
 use crate::form::{Form, form_of};
 use crate::order::order_by;
-use crate::plain::is_plain;
+use crate::random::random_order;
 use crate::refused::{of_check, of_lexing, of_reading, refused};
 use crate::word::{first_run, is_word};
 use defs_run::Order;
 use defs_text::Token;
+use random_words::lex_random;
 use rule_check::check;
+use rule_laws::checked_is_in_order;
 use soar_edge::Command;
 use soar_lex::lex;
 use soar_read::read_production;
@@ -40,6 +42,9 @@ pub fn read_command(alloc: Global, table: &mut SymTable, c: &Command) -> Result<
     if is_word(word, b"sp") {
         return read_sp(alloc, table, &c.text);
     }
+    if is_word(word, b"random") {
+        return read_random(alloc, table, &c.text);
+    }
     match form_of(word) {
         Some(form) => read_form(alloc, table, form, &c.text),
         None => Err(refused(10)),
@@ -51,7 +56,7 @@ pub fn read_command(alloc: Global, table: &mut SymTable, c: &Command) -> Result<
 /// Reads the command that loads a production.
 fn read_sp(alloc: Global, table: &mut SymTable, text: &List<u8>) -> Result<Order, CmdFault>
     requires { length text.now ≤ 2 ^ 26 }
-    ensures reading { IsCommandRead table.new (read_sp judged table.old text.now) result }
+    ensures reading { IsCommandRead table.new (read_sp checked table.old text.now) result }
     ensures known { IfOk result (λ order. IsOrderKnown table.new order) }
     ensures grown { length table.old ≤ length table.new }
 {
@@ -66,7 +71,7 @@ fn read_tokens(alloc: Global, table: &mut SymTable, tokens: &List<Token>) -> Res
     requires few { length tokens.now ≤ 2 ^ 26 }
     requires words { AreTokensKnown table.old tokens.now }
     ensures reading { (spelled : ListOf Spelled) → tokens.now ≡ map (numbered table.old) spelled → AreSpelledIn table.old spelled
-        → IsCommandRead table.new (read_tokens judged table.old spelled) result }
+        → IsCommandRead table.new (read_tokens checked table.old spelled) result }
     ensures known { IfOk result (λ order. IsOrderKnown table.new order) }
     ensures grown { length table.old ≤ length table.new }
 {
@@ -76,30 +81,18 @@ fn read_tokens(alloc: Global, table: &mut SymTable, tokens: &List<Token>) -> Res
     }
 }
 
-/// Gives a production in match order, where nothing is wrong with it and its actions are built.
+/// The order to load a production in match order, where nothing is wrong with it.
 fn judge(alloc: Global, table: &SymTable, production: &Production) -> Result<Order, CmdFault>
     requires known { AreKnown table.now (symbols_of (production_seen production.now)) }
     requires unlearned { is_justification production.now.kind ≡ false }
-    ensures judged { IsJudged table.now (judged table.now (production_seen production.now)) result }
+    ensures judged { IsJudged table.now (checked table.now (production_seen production.now)) result }
     ensures known { IfOk result (λ order. IsOrderKnown table.now order) }
 {
     table.law();
+    checked_is_in_order();
     match check(alloc, production) {
-        Ok(ordered) => load_plain(ordered),
+        Ok(ordered) => Ok(Order::Load(ordered)),
         Err(fault) => Err(of_check(production, fault)),
-    }
-}
-
-/// The order to load a production, where its actions are built.
-fn load_plain(production: Production) -> Result<Order, CmdFault>
-    ensures judged { (words : Texts) → IsJudged words (if_plain (production_seen production)) result }
-    ensures known { (words : Texts) → AreKnown words (symbols_of (production_seen production)) → is_justification production.kind ≡ false
-        → IfOk result (λ order. IsOrderKnown words order) }
-{
-    if is_plain(&production) {
-        Ok(Order::Load(production))
-    } else {
-        Err(refused(18))
     }
 }
 
@@ -137,6 +130,32 @@ fn built_order(
     ensures known { IfOk result (λ order. IsOrderKnown table.now order) }
 {
     match order_by(alloc, table, form, text, tokens)? {
+        Some(order) => Ok(order),
+        None => Err(refused(18)),
+    }
+}
+
+// ---- random words
+
+/// Reads the command that queues random words.
+fn read_random(alloc: Global, table: &mut SymTable, text: &List<u8>) -> Result<Order, CmdFault>
+    requires { length text.now ≤ 2 ^ 26 }
+    ensures reading { IsCommandRead table.new (read_random table.old text.now) result }
+    ensures known { IfOk result (λ order. IsOrderKnown table.new order) }
+    ensures grown { length table.old ≤ length table.new }
+{
+    match lex_random(alloc, table, text) {
+        Ok(numbers) => built_random(alloc, numbers.as_slice()),
+        Err(fault) => Err(of_lexing(fault)),
+    }
+}
+
+/// The order of the numbers of tokens, where it is built.
+fn built_random(alloc: Global, numbers: &[Option<u64>]) -> Result<Order, CmdFault>
+    ensures judged { (words : Texts) → IsJudged words (or_not_built (numbers_order numbers.now)) result }
+    ensures known { (words : Texts) → IfOk result (λ order. IsOrderKnown words order) }
+{
+    match random_order(alloc, numbers)? {
         Some(order) => Ok(order),
         None => Err(refused(18)),
     }

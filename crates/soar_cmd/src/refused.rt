@@ -1,15 +1,14 @@
 // Why a command is refused: its number, and what is shown.
-ghost use Rattle.std.specs.Prelude.{◌≡◌, ◌<◌, ℕ, Err, List as ListOf, length};
+ghost use Rattle.std.specs.Prelude.{◌≡◌, ◌<◌, Err, List as ListOf, length};
 ghost use Rattle.soar_sym.specs.Words.{Texts};
 ghost use Rattle.soar_rule.specs.Checked.{IsChecked};
 ghost use Rattle.soar_rule.specs.Productions.{production_seen};
 ghost use Rattle.soar_rule.specs.Symbols.{AreKnown};
 ghost use Rattle.soar_lex.specs.Answers.{IsCut};
-ghost use Rattle.defs_text.specs.Lexing.{Spelled, lexed};
+ghost use Rattle.defs_text.specs.Lexing.{Lexed, Spelled};
 ghost use Rattle.defs_read.specs.PrintingConditions.{name_at};
-ghost use Rattle.defs_run.specs.Present.{judged};
 ghost use Rattle.defs_run.specs.Stages.{Reading};
-ghost use Rattle.defs_run.specs.WholeReading.{unless_faulty};
+ghost use Rattle.defs_run.specs.WholeReading.{checked, unless_faulty};
 ghost use Rattle.soar_cmd.specs.Answers.{GrowsOnly, IsCommandRead, IsJudged, fault_of};
 ghost use Rattle.soar_cmd.specs.declared.fault.CmdFault.TheVariants as faults;
 
@@ -41,8 +40,8 @@ pub fn refused_at(number: u32, place: u32) -> CmdFault
 
 /// What stops the reading of a text with a fault.
 pub fn of_lexing(fault: LexFault) -> CmdFault
-    ensures { (old new : Texts) (bytes : ListOf ℕ) (f : Texts → ListOf Spelled → Reading) → IsCut old new (lexed bytes) (Err fault) → GrowsOnly f
-        → IsCommandRead new (unless_faulty old (lexed bytes) f) (Err result) }
+    ensures { (old new : Texts) (text : Lexed) (f : Texts → ListOf Spelled → Reading) → IsCut old new text (Err fault) → GrowsOnly f
+        → IsCommandRead new (unless_faulty old text f) (Err result) }
 {
     match fault {
         LexFault::BadByte(place) => refused_at(12, place),
@@ -71,7 +70,7 @@ pub fn of_reading(fault: ReadFault) -> CmdFault
 /// The refusal of a production with what its check found.
 pub fn of_check(production: &Production, fault: CheckFault) -> CmdFault
     requires { IsChecked (production_seen production.now) (Err fault) }
-    ensures { (words : Texts) → 0 < length words → AreKnown words production.now.vars → IsJudged words (judged words (production_seen production.now)) (Err result) }
+    ensures { (words : Texts) → 0 < length words → AreKnown words production.now.vars → IsJudged words (checked words (production_seen production.now)) (Err result) }
 {
     match fault {
         CheckFault::NoState => refused(20),

@@ -1,0 +1,6 @@
+pub mod CallLemmas
+pub mod CourseLemmas
+pub mod CycleLemmas
+pub mod GoingLemmas
+pub mod PhaseLemmas
+pub mod ToldLemmas

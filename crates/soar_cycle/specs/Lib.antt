@@ -1,2 +1,5 @@
 pub mod Agents
 pub mod Courses
+pub mod Cycling
+pub mod Going
+pub mod Telling

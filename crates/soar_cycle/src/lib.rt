@@ -3,6 +3,7 @@
 
 mod agent;
 mod calls;
+mod cycle;
 mod phase;
 mod running;
 mod standing;

@@ -9,10 +9,12 @@ ghost use Rattle.defs_soar.specs.Learning.{without_learning};
 ghost use Rattle.cycle_parts.specs.Stepping.{GoesStep};
 ghost use Rattle.cycle_parts.specs.Waving.{WavesFrom, is_proposing};
 ghost use Rattle.soar_cycle.specs.Courses.{Goes, IsEndOf, phase_course, phased};
+ghost use Rattle.soar_cycle.specs.Telling.{Tells, without_limit};
 
 use crate::agent::Agent;
-use crate::phase::Ended;
-use crate::standing::Standing;
+use crate::cycle::run_cycle;
+use crate::phase::{Ended, run_phase};
+use crate::standing::{Standing, standing_after};
 use cycle_parts::Waved;
 use defs_match::Matcher;
 use soar_sym::Text;
@@ -29,9 +31,16 @@ impl<M: Matcher> Agent<M> {
         ensures sound { IsSoundAgent self.new }
         ensures unwritten { result ≡ Err Stop.NoMemory → text.new ≡ text.old }
     {
-        let _ = (phase, text.len());
-        self.standing = Standing::OutOfMemory;
-        Err(Stop::NoMemory)
+        if let Some(stop) = self.standing.stop() {
+            return Err(stop);
+        }
+        let mut said = Text::new(self.alloc);
+        let answer = self
+            .engine
+            .wave(self.alloc, phase, &mut said, &mut self.mid_line);
+        let answer = tell(answer, &said, text);
+        self.standing = standing_after(self.standing, &answer);
+        answer
     }
 
     /// Runs a phase: waves until nothing is pending, a firing halts, or there were a hundred.
@@ -44,9 +53,20 @@ impl<M: Matcher> Agent<M> {
         ensures sound { IsSoundAgent self.new }
         ensures unwritten { result ≡ Err Stop.NoMemory → text.new ≡ text.old }
     {
-        let _ = (phase, text.len());
-        self.standing = Standing::OutOfMemory;
-        Err(Stop::NoMemory)
+        if let Some(stop) = self.standing.stop() {
+            return Err(stop);
+        }
+        let mut said = Text::new(self.alloc);
+        let answer = run_phase(
+            &mut self.engine,
+            self.alloc,
+            phase,
+            &mut said,
+            &mut self.mid_line,
+        );
+        let answer = tell(answer, &said, text);
+        self.standing = standing_after(self.standing, &answer);
+        answer
     }
 
     /// Decides, and tells a selection. True exactly where the limit of goals halted the agent, which makes no substates yet.
@@ -59,9 +79,17 @@ impl<M: Matcher> Agent<M> {
         ensures sound { IsSoundAgent self.new }
         ensures unwritten { result ≡ Err Stop.NoMemory → text.new ≡ text.old }
     {
-        let _ = text.len();
-        self.standing = Standing::OutOfMemory;
-        Err(Stop::NoMemory)
+        if let Some(stop) = self.standing.stop() {
+            return Err(stop);
+        }
+        let mut said = Text::new(self.alloc);
+        let answer = decided(
+            self.engine
+                .decide(self.alloc, &mut said, &mut self.mid_line),
+        );
+        let answer = tell(answer, &said, text);
+        self.standing = standing_after(self.standing, &answer);
+        answer
     }
 
     /// Runs a cycle: input, proposal, decision, application, output. True exactly where the agent is halted in the end.
@@ -74,8 +102,36 @@ impl<M: Matcher> Agent<M> {
         ensures sound { IsSoundAgent self.new }
         ensures unwritten { result ≡ Err Stop.NoMemory → text.new ≡ text.old }
     {
-        let _ = text.len();
-        self.standing = Standing::OutOfMemory;
-        Err(Stop::NoMemory)
+        if let Some(stop) = self.standing.stop() {
+            return Err(stop);
+        }
+        let mut said = Text::new(self.alloc);
+        let answer = run_cycle(&mut self.engine, self.alloc, &mut said, &mut self.mid_line);
+        let answer = tell(answer, &said, text);
+        self.standing = standing_after(self.standing, &answer);
+        answer
+    }
+}
+
+/// Appends what was said, unless memory is wanting.
+fn tell<T: Copy>(answer: Result<T, Stop>, said: &Text, text: &mut Text) -> Result<T, Stop>
+    ensures { Tells answer said.now text.old text.new result }
+{
+    match answer {
+        Err(Stop::NoMemory) => Err(Stop::NoMemory),
+        told => match text.push_str(said.as_str()) {
+            Ok(()) => told,
+            Err(_) => Err(Stop::NoMemory),
+        },
+    }
+}
+
+/// No decision reaches the limit of goals as long as none makes a substate.
+fn decided(answer: Result<(), Stop>) -> Result<bool, Stop>
+    ensures { result ≡ without_limit answer }
+{
+    match answer {
+        Ok(()) => Ok(false),
+        Err(stop) => Err(stop),
     }
 }

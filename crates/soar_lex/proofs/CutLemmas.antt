@@ -26,16 +26,16 @@ abbrev pub with_tokens : List Spelled → Lexed → Lexed
 with_tokens [] l = l
 with_tokens (t ∷ tokens) l = with_token t (with_tokens tokens l)
 
-with_both : (first second : List Spelled) (l : Lexed) → with_tokens (first ++ second) l ≡ with_tokens first (with_tokens second l)
+pub with_both : (first second : List Spelled) (l : Lexed) → with_tokens (first ++ second) l ≡ with_tokens first (with_tokens second l)
 with_both [] second l = refl
 with_both (t ∷ first) second l = ap (with_token t) (with_both first second l)
 
 -- the tokens of what follows come last
-tokens_with : (front : List Spelled) (l : Lexed) → (with_tokens front l).tokens ≡ front ++ l.tokens
+pub tokens_with : (front : List Spelled) (l : Lexed) → (with_tokens front l).tokens ≡ front ++ l.tokens
 tokens_with [] l = refl
 tokens_with (t ∷ front) l = ap (λ ts. t ∷ ts) (tokens_with front l)
 
-closed_with : (front : List Spelled) (e : Option Fault) → with_tokens front (record { tokens = []; fault = e }) ≡ record { tokens = front; fault = e }
+pub closed_with : (front : List Spelled) (e : Option Fault) → with_tokens front (record { tokens = []; fault = e }) ≡ record { tokens = front; fault = e }
 closed_with [] e = refl
 closed_with (t ∷ front) e = ap (with_token t) (closed_with front e)
 

@@ -1,4 +1,4 @@
--- What it means that a token's text became a word of the table. No public clause cites this module.
+-- What it means that a token's text became a word of the table.
 use Rattle.std.specs.Prelude.{◌≡◌, ℕ, ◌-◌, ◌^◌, ◌<◌, List, [], ◌∷◌, length, Result, Ok, Err}
 use Rattle.soar_sym.specs.Words.{Texts, with_text, with_texts}
 use Rattle.soar_sym.specs.declared.symbol.Sym.{Sym}

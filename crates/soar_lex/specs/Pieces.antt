@@ -1,4 +1,4 @@
--- What stands at the front of a text, as the code has it, against the definition. No public clause cites this module.
+-- What stands at the front of a text, as the code has it, against the definition.
 use Rattle.std.specs.Prelude.{◌≡◌, ℕ, ◌+◌, true, false, List, [], ◌∷◌, length, Result, Ok, Err}
 use Rattle.std.specs.Borrow.{Bor}
 use Rattle.defs_text.specs.Quotes.{meant}

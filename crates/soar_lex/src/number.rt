@@ -35,7 +35,7 @@ pub fn integer(run: &[u8]) -> Option<i64>
 }
 
 /// The number that digits are in decimal, below 2^64.
-fn decimal_value(digits: &[u8]) -> Option<u64>
+pub fn decimal_value(digits: &[u8]) -> Option<u64>
     ensures { MatchOption result (2 ^ 64 ≤ number_from 0 digits.now) (λ value. value ≡ number_from 0 digits.now) }
 {
     let mut value: u64 = 0;

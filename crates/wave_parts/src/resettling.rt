@@ -19,6 +19,7 @@ impl Parts {
         ensures resettled { (s : AgentOf) → Stands self.old s → Resettles self.new s result }
         ensures told { IfOk result (IsTold self.old.memory.elements self.new.memory.elements) }
         ensures rules { self.new.rules ≡ self.old.rules }
+        ensures table { self.new.table ≡ self.old.table }
         ensures sound { IfOk result (λ _. IsSound self.new) }
     {
         changes_are_told();

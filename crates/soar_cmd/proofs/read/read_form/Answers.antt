@@ -1,14 +1,13 @@
-use Rattle.std.proofs.Common.{◌≤◌, ◌^◌, ◌∙◌, List, ℕ, length, sym, subst, arith}
+use Rattle.std.proofs.Common.{◌∙◌, List, ℕ, sym, subst}
 use Rattle.defs_text.specs.Lexing.{Lexed, lexed}
 use Rattle.defs_read.specs.Sayings.{AreTokensKnown}
-use Rattle.defs_run.specs.Present.{judged, or_not_built, order_by, read_order}
-use Rattle.defs_run.specs.WholeReading.{read_tokens}
+use Rattle.defs_run.specs.Present.{or_not_built, order_by, read_order}
 use Rattle.soar_sym.specs.Words.{Texts}
 use Rattle.soar_lex.specs.Answers.{CutWhole}
 use Rattle.soar_cmd.specs.Answers.{IsJudged}
 use Rattle.soar_cmd.specs.Asked.{form_seen}
-use Rattle.soar_cmd.proofs.CutLemmas.{cut_few, cut_known, cut_spelled, fault_more, gained_more}
-use Rattle.soar_cmd.proofs.ReadingLemmas.{judged_read, order_grows, tokens_grow, whole_read}
+use Rattle.soar_cmd.proofs.CutLemmas.{cut_known, cut_spelled, fault_more, gained_more}
+use Rattle.soar_cmd.proofs.ReadingLemmas.{judged_read, order_grows, whole_read}
 use Rattle.soar_cmd.proofs.read.read_form.Goals as goal
 
 pub built_order-requires : goal.built_order-requires
@@ -21,7 +20,7 @@ returns-in-Ok-clause-reading c =
     let new : Texts = c.lex.new.table in
     let l : Lexed = lexed c.args.text.now in
     let cut : CutWhole old new l c.in-Ok.tokens = c.in-Ok.ensures in
-    whole_read old new new (read_order (form_seen c.args.form) c.args.text.now) l c.in-Ok.tokens c.built_order.result cut
+    whole_read old new new (read_order (form_seen c.args.form) c.args.text.now) l c.built_order.result cut.fault cut.gained
     (judged_read new (or_not_built (order_by (form_seen c.args.form) new c.args.text.now l.tokens)) c.built_order.result
     (subst (λ (bytes : List ℕ). IsJudged new (or_not_built (order_by (form_seen c.args.form) new bytes l.tokens)) c.built_order.result) c.as_slice.ensures
     (c.built_order.ensures.judged l.tokens (c.as_slice-in-Ok.ensures ∙ cut.tokens_are) (cut_spelled old new l c.in-Ok.tokens cut))))
@@ -33,7 +32,7 @@ returns-in-Ok-clause-grown c =
 
 pub returns-in-Err-clause-reading : goal.returns-in-Err-clause-reading
 returns-in-Err-clause-reading c =
-    c.of_lexing.ensures c.args.table.now c.lex.new.table c.args.text.now (read_order (form_seen c.args.form) c.args.text.now) c.in-Err.ensures
+    c.of_lexing.ensures c.args.table.now c.lex.new.table (lexed c.args.text.now) (read_order (form_seen c.args.form) c.args.text.now) c.in-Err.ensures
     (order_grows (form_seen c.args.form) c.args.text.now)
 
 pub returns-in-Err-clause-grown : goal.returns-in-Err-clause-grown

@@ -1,13 +1,10 @@
-use Rattle.std.proofs.Common.{◌≤◌, ◌^◌, ◌∙◌, length, sym, subst, arith}
+use Rattle.std.proofs.Common.{◌≤◌, length, arith}
 use Rattle.defs_text.specs.Lexing.{Lexed, lexed}
-use Rattle.defs_read.specs.Sayings.{AreTokensKnown}
-use Rattle.defs_run.specs.Present.{judged, or_not_built, order_by, read_order}
-use Rattle.defs_run.specs.WholeReading.{read_tokens}
+use Rattle.defs_run.specs.WholeReading.{checked, read_tokens}
 use Rattle.soar_sym.specs.Words.{Texts}
 use Rattle.soar_lex.specs.Answers.{CutWhole}
-use Rattle.soar_cmd.specs.Asked.{form_seen}
 use Rattle.soar_cmd.proofs.CutLemmas.{cut_few, cut_known, cut_spelled, fault_more, gained_more}
-use Rattle.soar_cmd.proofs.ReadingLemmas.{judged_read, order_grows, tokens_grow, whole_read}
+use Rattle.soar_cmd.proofs.ReadingLemmas.{tokens_grow, whole_read}
 use Rattle.soar_cmd.proofs.read.read_sp.Goals as goal
 
 pub read_tokens-requires-clause-few : goal.read_tokens-requires-clause-few
@@ -24,7 +21,7 @@ returns-in-Ok-clause-reading c =
     let between : Texts = c.lex.new.table in
     let l : Lexed = lexed c.args.text.now in
     let cut : CutWhole old between l c.in-Ok.tokens = c.in-Ok.ensures in
-    whole_read old between c.read_tokens.new.table (read_tokens judged) l c.in-Ok.tokens c.read_tokens.result cut
+    whole_read old between c.read_tokens.new.table (read_tokens checked) l c.read_tokens.result cut.fault cut.gained
     (c.read_tokens.ensures.reading l.tokens cut.tokens_are (cut_spelled old between l c.in-Ok.tokens cut))
 
 pub returns-in-Ok-clause-grown : goal.returns-in-Ok-clause-grown
@@ -33,7 +30,7 @@ returns-in-Ok-clause-grown c =
     omega (arith, c.read_tokens.ensures.grown, gained_more c.args.table.now c.lex.new.table (lexed c.args.text.now) cut.gained)
 
 pub returns-in-Err-clause-reading : goal.returns-in-Err-clause-reading
-returns-in-Err-clause-reading c = c.of_lexing.ensures c.args.table.now c.lex.new.table c.args.text.now (read_tokens judged) c.in-Err.ensures (tokens_grow judged)
+returns-in-Err-clause-reading c = c.of_lexing.ensures c.args.table.now c.lex.new.table (lexed c.args.text.now) (read_tokens checked) c.in-Err.ensures (tokens_grow checked)
 
 pub returns-in-Err-clause-grown : goal.returns-in-Err-clause-grown
 returns-in-Err-clause-grown c = fault_more c.args.table.now c.lex.new.table (lexed c.args.text.now) c.in-Err.fault c.in-Err.ensures

@@ -1,0 +1,76 @@
+-- The input phase: what it draws, and what it settles.
+use Rattle.std.proofs.Common.{◌≡◌, ◌∙◌, ℕ, suc, ◌+◌, ◌≤◌, ◌<◌, nat_lt, List, [], ◌∷◌, map, None, Some, Result, Ok, Err, cond, true, false, refl, sym, ap, subst, arith, add-one}
+use Rattle.soar_sym.specs.declared.symbol.Triple.{Triple}
+use Rattle.defs_soar.specs.declared.limit.Which.TheVariants as which
+use Rattle.defs_soar.specs.Agents.{Agent}
+use Rattle.defs_soar.specs.Cycle.{after_input, with_changes}
+use Rattle.defs_soar.specs.Events.{begins, input_phase}
+use Rattle.defs_soar.specs.History.{RecordedFiring}
+use Rattle.defs_soar.specs.Limits.{counts_to, first_passed, limit_passed, or_limit}
+use Rattle.defs_soar.specs.Resettling.{AgentStep, resettled}
+use Rattle.input_queue.specs.Seen.{queued_seen}
+use Rattle.soar_settle.specs.declared.stop.Stop.{Stop}
+use Rattle.soar_settle.specs.declared.stop.Stop.TheVariants as stop
+use Rattle.wave_parts.specs.Counting.{Counts}
+use Rattle.wave_parts.specs.Resettles.{resettled_now}
+use Rattle.wave_parts.specs.Seen.{agent_of}
+use Rattle.wave_parts.specs.Stands.{Stands}
+use Rattle.wave_parts.specs.declared.parts.Parts.{Parts as PartsKept}
+use Rattle.wave_parts.proofs.StandsLemmas.{of_each_state, stands_at}
+use Rattle.cycle_parts.specs.Stepping.{QuietStep}
+
+-- ---- the number of cycles
+
+passed_counts : (n : ℕ) → 18446744073709551615 < n → limit_passed n which.Counts ≡ Some which.Counts
+passed_counts n over = let above : nat_lt 18446744073709551615 n ≡ true = grind arith in ap (λ b. cond b (Some which.Counts) None) above
+
+within_counts : (n : ℕ) → n ≤ 18446744073709551615 → limit_passed n which.Counts ≡ None
+within_counts n fits = let below : nat_lt 18446744073709551615 n ≡ false = grind arith in ap (λ b. cond b (Some which.Counts) None) below
+
+-- ---- the step
+
+-- with the line of the phase and the number of the cycle before what settling tells and draws
+abbrev in_cycle : ℕ → AgentStep → AgentStep
+in_cycle n s = record s { events = begins input_phase ∷ s.events; totals = counts_to n ∷ s.totals }
+
+-- the parts that are settled
+abbrev pub with_inputs : PartsKept → List Triple → ℕ → PartsKept
+with_inputs a inputs cycles = record a { inputs = inputs; queue = []; cycles = cycles }
+
+input_at : (a : PartsKept) (history : List RecordedFiring)
+    → after_input (agent_of a history) ≡ in_cycle (suc a.cycles) (resettled_now (agent_of (with_inputs a (with_changes a.inputs (map queued_seen a.queue)) (suc a.cycles)) history))
+unfolding after_input resettled
+input_at a history = refl
+
+input_is : (a : PartsKept) (history : List RecordedFiring) (inputs : List Triple) (cycles : ℕ) → inputs ≡ with_changes a.inputs (map queued_seen a.queue) → cycles ≡ a.cycles + 1
+    → after_input (agent_of a history) ≡ in_cycle cycles (resettled_now (agent_of (with_inputs a inputs cycles) history))
+input_is a history inputs cycles changed counted =
+    input_at a history
+    ∙ ap (λ n. in_cycle n (resettled_now (agent_of (with_inputs a (with_changes a.inputs (map queued_seen a.queue)) n) history))) (sym (add-one a.cycles) ∙ sym counted)
+    ∙ ap (λ l. in_cycle cycles (resettled_now (agent_of (with_inputs a l cycles) history))) (sym changed)
+
+-- ---- each answer
+
+in_cycle_steps : (n : ℕ) (s : AgentStep) (new : PartsKept) (result : Result (Unit {0}) Stop) → n ≤ 18446744073709551615 → QuietStep s new result → QuietStep (in_cycle n s) new result
+in_cycle_steps n s new (Ok done) fits h = record { stands = h.stands; within = ap (λ o. or_limit o (first_passed s.totals)) (within_counts n fits) ∙ h.within }
+in_cycle_steps n s new (Err (stop.Limit limit)) fits h = ap (λ o. or_limit o (first_passed s.totals)) (within_counts n fits) ∙ h
+in_cycle_steps n s new (Err stop.NoMemory) fits h = tt
+
+pub takes_input : (a new : PartsKept) (inputs : List Triple) (cycles : ℕ) (result : Result (Unit {0}) Stop) → inputs ≡ with_changes a.inputs (map queued_seen a.queue) → Counts (a.cycles + 1) (Ok cycles)
+    → ((s : Agent) → Stands (with_inputs a inputs cycles) s → QuietStep (resettled_now s) new result)
+    → (s : Agent) → Stands a s → QuietStep (after_input s) new result
+takes_input a new inputs cycles result changed counted settled =
+    of_each_state (λ (s : Agent). QuietStep (after_input s) new result) a
+    (λ history. subst (λ (s : AgentStep). QuietStep s new result) (sym (input_is a history inputs cycles changed counted.0))
+    (in_cycle_steps cycles (resettled_now (agent_of (with_inputs a inputs cycles) history)) new result (omega (arith, counted.0, counted.1))
+    (settled (agent_of (with_inputs a inputs cycles) history) (stands_at (with_inputs a inputs cycles) history))))
+
+stops_at : (a : PartsKept) (history : List RecordedFiring) → 18446744073709551615 < suc a.cycles → first_passed (after_input (agent_of a history)).totals ≡ Some which.Counts
+unfolding after_input resettled
+stops_at a history over = ap (λ o. or_limit o (first_passed (resettled_now (agent_of (with_inputs a (with_changes a.inputs (map queued_seen a.queue)) (suc a.cycles)) history)).totals)) (passed_counts (suc a.cycles) over)
+
+-- a cycle too many
+pub input_stops : (a new : PartsKept) (why : Stop) → Counts (a.cycles + 1) (Err why) → (s : Agent) → Stands a s → QuietStep {T = Unit {0}} (after_input s) new (Err why)
+input_stops a new (stop.Limit limit) over =
+    of_each_state (λ (s : Agent). first_passed (after_input s).totals ≡ Some limit) a (λ history. stops_at a history (omega (arith, over.1)) ∙ ap Some (sym over.0))
+input_stops a new stop.NoMemory over = absurd over

@@ -1,0 +1,11 @@
+use Rattle.std.proofs.Common.{◌≡◌, false, drop}
+use Rattle.matching_laws.specs.Telling.{AreRemovable}
+use Rattle.soar_settle.specs.Tagging.{without_each}
+use Rattle.cycle_parts.proofs.telling.let_go.Given as goal
+
+abbrev pub invariant-gone : goal.invariant-gone
+invariant-gone g l =
+    (g.M.Matcher.failed l.matcher ≡ false)
+    × (g.M.Matcher.rules l.matcher ≡ g.M.Matcher.rules l.initial.matcher)
+    × AreRemovable (g.M.Matcher.elements l.matcher) (drop l.element-index l.gone)
+    × (without_each (g.M.Matcher.elements l.matcher) (drop l.element-index l.gone) ≡ without_each (g.M.Matcher.elements l.initial.matcher) l.gone)
