@@ -1,5 +1,5 @@
 -- What a cycle wrote, appended.
-use Rattle.std.proofs.Common.{◌≡◌, ℕ, Bool, List, [], ◌++◌, Result, Ok, Err, ap, subst, ◌∙◌}
+use Rattle.std.proofs.Common.{◌≡◌, ℕ, Bool, List, [], ◌++◌, Err, ap, subst, ◌∙◌}
 use Rattle.defs_soar.specs.Limits.{limit_text}
 use Rattle.defs_soar.specs.Phases.{Course}
 use Rattle.defs_soar.specs.Trace.{Written, line_text}

@@ -1,5 +1,5 @@
 -- What is told of the steps of a course, and the session behind it. Crates above cite this file.
-use Rattle.std.proofs.Common.{◌≡◌, ℕ, Bool, List, [], ◌∷◌, ◌++◌, map, Option, Some, None, Ok, Err, refl, sym, ap, ◌∙◌}
+use Rattle.std.proofs.Common.{◌≡◌, ℕ, Bool, false, List, [], ◌∷◌, ◌++◌, map, Option, Some, None, Ok, Err, refl, sym, ap, ◌∙◌}
 use Rattle.defs_soar.specs.declared.limit.Which.{Which}
 use Rattle.defs_soar.specs.Agents.{Agent}
 use Rattle.defs_soar.specs.History.{RecordedFiring}
@@ -34,8 +34,8 @@ front_of_steps mid (s ∷ steps) = by (first_passed s.totals) (λ m. front_of_st
   where
     by : (o : Option Which) → ((m : Bool) → front_told watch m (map told_of steps) ≡ front_said m steps)
         → (let w = rendered watch mid (pieces_of s.words s.events) in
-          elim o as (λ _. Written) [ Some limit ↦ nothing mid | None ↦ followed_by w (front_told watch w.mid_line (map told_of steps)) ]
-          ≡ elim o as (λ _. Written) [ Some limit ↦ nothing mid | None ↦ followed_by w (front_said w.mid_line steps) ])
+        elim o as (λ _. Written) [ Some limit ↦ nothing mid | None ↦ followed_by w (front_told watch w.mid_line (map told_of steps)) ]
+        ≡ elim o as (λ _. Written) [ Some limit ↦ nothing mid | None ↦ followed_by w (front_said w.mid_line steps) ])
     by (Some limit) later = refl
     by None later = let w : Written = rendered watch mid (pieces_of s.words s.events) in ap (followed_by w) (later w.mid_line)
 

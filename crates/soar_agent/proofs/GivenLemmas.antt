@@ -1,21 +1,18 @@
 -- An addition whose identifiers there are, the first of them reached.
 use Rattle.std.proofs.Common.{◌≡◌, ℕ, ◌==◌, Bool, true, false, not, List, [], ◌∷◌, ◌++◌, map, Option, Some, None, Result, refl, sym, ap, subst, ◌∙◌}
-use Rattle.std.specs.Prelude.{is_some, if◌then◌else◌, codes}
+use Rattle.std.specs.Prelude.{is_some, if◌then◌else◌}
 use Rattle.soar_sym.specs.Equality.{symbol_eq}
 use Rattle.soar_sym.specs.Words.{Texts}
 use Rattle.soar_sym.specs.declared.symbol.Sym.{Sym}
-use Rattle.soar_sym.specs.declared.symbol.Sym.TheVariants.{Ident}
 use Rattle.soar_sym.specs.declared.symbol.Triple.{Triple}
 use Rattle.soar_wm.specs.WorkingMemory.{triple_of}
 use Rattle.defs_text.specs.Symbols.{symbol_text}
 use Rattle.defs_soar.specs.Agents.{Holding}
-use Rattle.defs_soar.specs.Decision.{new_goal}
 use Rattle.defs_soar.specs.Goals.{is_operator_slot, plain_triple}
 use Rattle.defs_soar.specs.History.{RecordedFiring}
 use Rattle.defs_soar.specs.Levels.{level, or_reached, reached_from}
 use Rattle.defs_soar.specs.Sorted.{has_symbol}
 use Rattle.defs_soar.specs.declared.goal.Goal.{Goal}
-use Rattle.defs_soar.specs.declared.goal.Impasse.TheVariants as impasse
 use Rattle.defs_run.specs.Inputs.{Carried, refuses, Spelled, spelled, or_else, added, first_unknown, is_reserved, is_top_level, level_of, unreached_in, unreached_label, unreached_symbol}
 use Rattle.defs_run.specs.Orders.{Operand, is_symbol, is_label, not_of_the_top_state, reserved_attribute}
 use Rattle.defs_run.specs.Runs.{replied_by}

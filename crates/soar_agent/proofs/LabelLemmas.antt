@@ -30,7 +30,7 @@ use Rattle.soar_agent.specs.Labels.{Makes}
 use Rattle.soar_agent.specs.States.{session_of}
 use Rattle.soar_agent.specs.Steps.{Obeys}
 use Rattle.soar_agent.specs.declared.state.Session.{Session as SessionKept}
-use Rattle.soar_agent.proofs.ReplyLemmas.{goes_on, with_kept}
+use Rattle.soar_agent.proofs.ReplyLemmas.{goes_on}
 use Rattle.soar_agent.proofs.SessionLemmas.{obeys_same, drawn_same, drawn_stops}
 
 -- ---- a new label

@@ -1,17 +1,17 @@
 -- What is replied to orders, and what the session does.
-use Rattle.std.proofs.Common.{◌≡◌, ℕ, Bool, true, false, ◌||◌, List, [], ◌∷◌, ◌++◌, Some, None, Result, Ok, Err, refl, sym, ap, subst, ◌∙◌, append-nil}
+use Rattle.std.proofs.Common.{◌≡◌, ℕ, Bool, true, false, ◌||◌, List, [], ◌∷◌, ◌++◌, Some, None, Ok, Err, refl, sym, ap, subst, ◌∙◌, append-nil}
 use Rattle.soar_sym.specs.declared.symbol.Triple.{Triple}
 use Rattle.defs_soar.specs.Agents.{Agent}
 use Rattle.defs_soar.specs.Cycle.{held_with}
 use Rattle.defs_soar.specs.History.{RecordedFiring}
-use Rattle.defs_soar.specs.Limits.{Total, or_limit, first_passed}
+use Rattle.defs_soar.specs.Limits.{Total, or_limit}
 use Rattle.defs_soar.specs.Phases.{halting}
 use Rattle.defs_soar.specs.Resettling.{AgentStep, resettled}
 use Rattle.defs_soar.specs.Trace.{Written, rendered, line_text}
 use Rattle.defs_soar.specs.Trimming.{Remains}
 use Rattle.defs_run.specs.Inputs.{told_by, with_inputs}
 use Rattle.defs_run.specs.Orders.{Refusal, refusal_text}
-use Rattle.defs_run.specs.Sessions.{Session, Reply, quiet, with_agent, as_lines, says, draws, refused_by}
+use Rattle.defs_run.specs.Sessions.{Reply, quiet, with_agent, as_lines, says, draws, refused_by}
 use Rattle.soar_settle.specs.declared.stop.Stop.{Stop}
 use Rattle.soar_settle.specs.declared.stop.Stop.TheVariants as stop
 use Rattle.wave_parts.specs.Seen.{Stepped, agent_of}

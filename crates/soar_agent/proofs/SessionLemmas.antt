@@ -7,7 +7,6 @@ use Rattle.defs_soar.specs.Trace.{Written, followed_by}
 use Rattle.defs_run.specs.Sessions.{Session, Reply, draws}
 use Rattle.soar_settle.specs.declared.stop.Stop.{Stop}
 use Rattle.soar_settle.specs.declared.stop.Stop.TheVariants as stop
-use Rattle.wave_parts.specs.Seen.{IsSound}
 use Rattle.wave_parts.proofs.LimitLemmas.{passes_not, passes_over}
 use Rattle.cycle_parts.specs.Stepping.{watch}
 use Rattle.soar_cycle.specs.Agents.{AgentSeen, IsSoundAgent}

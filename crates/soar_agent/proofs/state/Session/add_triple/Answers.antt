@@ -1,4 +1,4 @@
-use Rattle.std.proofs.Common.{◌≡◌, ◌∙◌, ℕ, Option, Some, None, [], sym, ap}
+use Rattle.std.proofs.Common.{◌≡◌, ◌∙◌, Some, None, [], sym, ap}
 use Rattle.soar_wm.specs.WorkingMemory.{WorkingMemory, tag_of}
 use Rattle.defs_run.specs.Sessions.{Session}
 use Rattle.soar_agent.specs.States.{session_of}

@@ -1,7 +1,7 @@
-use Rattle.std.proofs.Common.{◌∙◌, Bool, false, Ok, refl, sym, subst}
+use Rattle.std.proofs.Common.{◌∙◌, Bool, Ok, refl, sym, subst}
 use Rattle.std.specs.Prelude.{if◌then◌else◌}
 use Rattle.defs_run.specs.Carrying.{followed}
-use Rattle.defs_run.specs.Inputs.{Carried, does, refuses}
+use Rattle.defs_run.specs.Inputs.{does, refuses}
 use Rattle.defs_run.specs.Orders.{halted}
 use Rattle.defs_run.specs.Present.{run_present}
 use Rattle.defs_run.specs.Runs.{replied_by}

@@ -1,4 +1,4 @@
-use Rattle.std.proofs.Common.{◌≡◌, List, ℕ, sym, subst}
+use Rattle.std.proofs.Common.{sym, subst}
 use Rattle.soar_rule.specs.Productions.{production_seen}
 use Rattle.defs_run.specs.Carrying.{carried_out, loaded}
 use Rattle.defs_run.specs.Inputs.{does, with_random}

@@ -1,9 +1,7 @@
-use Rattle.std.proofs.Common.{◌≡◌, ◌∙◌, Bool, List, ℕ, ap, map}
-use Rattle.soar_sym.specs.Words.{Texts}
+use Rattle.std.proofs.Common.{◌≡◌, ◌∙◌, List, ap, map}
 use Rattle.defs_match.specs.Conflict.{conflict}
 use Rattle.defs_match.specs.Rules.{RuleOf, rule_seen}
 use Rattle.defs_match.specs.declared.instance.Instance.{Instance}
-use Rattle.defs_match.specs.declared.rule.Rule.{Rule}
 use Rattle.wave_parts.specs.declared.parts.Parts.{Parts}
 use Rattle.soar_cycle.specs.Agents.{AgentSeen}
 use Rattle.session_parts.specs.Saying.{match_lines}

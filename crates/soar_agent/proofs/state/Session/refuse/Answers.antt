@@ -1,4 +1,4 @@
-use Rattle.std.proofs.Common.{◌≡◌, ◌∙◌, ◌++◌, Bool, List, ℕ, ap}
+use Rattle.std.proofs.Common.{◌∙◌, ◌++◌, Bool, List, ℕ, ap}
 use Rattle.soar_sym.specs.Words.{Texts}
 use Rattle.defs_run.specs.Orders.{refusal_text}
 use Rattle.defs_soar.specs.Trace.{line_text}

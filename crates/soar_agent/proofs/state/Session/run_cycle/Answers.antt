@@ -1,11 +1,10 @@
-use Rattle.std.proofs.Common.{◌∙◌, ◌++◌, ap}
 use Rattle.defs_soar.specs.Cycle.{cycle}
 use Rattle.defs_soar.specs.Decision.{decided_alone}
 use Rattle.defs_soar.specs.Learning.{without_learning}
 use Rattle.defs_soar.specs.Phases.{Course}
 use Rattle.wave_parts.specs.Seen.{agent_of}
 use Rattle.wave_parts.proofs.StandsLemmas.{stands_at}
-use Rattle.soar_agent.proofs.CycleLemmas.{cycle_said, cycle_stopped}
+use Rattle.soar_agent.proofs.CycleLemmas.{cycle_stopped}
 use Rattle.soar_agent.proofs.state.Session.run_cycle.Goals as goal
 
 pub returns-clause-course : goal.returns-clause-course

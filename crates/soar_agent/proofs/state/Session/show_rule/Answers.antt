@@ -1,4 +1,4 @@
-use Rattle.std.proofs.Common.{◌≡◌, ◌∙◌, List, ℕ, Option, Some, None, Ok, false, map, sym, ap, subst}
+use Rattle.std.proofs.Common.{◌≡◌, ◌∙◌, List, Option, Some, None, Ok, false, map, sym, ap, subst}
 use Rattle.soar_sym.specs.Words.{Texts}
 use Rattle.soar_rule.specs.Productions.{production_seen}
 use Rattle.soar_rule.specs.Symbols.{AreKnown, symbols_of}
