@@ -1,12 +1,12 @@
 -- Lines in a row, and elements of which some are left out.
-use Rattle.std.proofs.Common.{◌≡◌, ℕ, suc, ◌-◌, ◌==◌, Bool, true, false, not, cond, List, [], ◌∷◌, ◌++◌, length, map, filter, Some, refl, ap, subst, ◌∙◌, arith, append_assoc}
-use Rattle.std.specs.Prelude.{if◌then◌else◌, codes, slice_get}
+use Rattle.std.proofs.Common.{◌≡◌, ℕ, Bool, true, false, cond, List, [], ◌∷◌, ◌++◌, map, filter, refl, ap, ◌∙◌, append_assoc}
+use Rattle.std.specs.Prelude.{if◌then◌else◌, codes}
 use Rattle.soar_sym.specs.Words.{Texts}
 use Rattle.soar_rule.specs.Productions.{ProductionOf}
 use Rattle.soar_wm.specs.declared.element.Element.{Element}
 use Rattle.defs_text.specs.Symbols.{symbol_text}
 use Rattle.defs_read.specs.Printing.{indented, inner_lines, lines_text, production_text}
-use Rattle.defs_soar.specs.Trace.{Written, is_mid_after, rendered, followed_by, line_text}
+use Rattle.defs_soar.specs.Trace.{Written, rendered, followed_by, line_text}
 use Rattle.defs_run.specs.Sessions.{as_lines}
 use Rattle.soar_settle.specs.Known.{AreElementsKnown}
 

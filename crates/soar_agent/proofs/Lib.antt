@@ -1,0 +1,11 @@
+pub mod AddingLemmas
+pub mod CommandLemmas
+pub mod CycleLemmas
+pub mod FollowedLemmas
+pub mod GivenLemmas
+pub mod LabelLemmas
+pub mod ReplyLemmas
+pub mod SessionLemmas
+pub mod SettlingLemmas
+pub mod SoundLemmas
+pub mod SpellingLemmas

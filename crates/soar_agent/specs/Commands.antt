@@ -1,6 +1,5 @@
 -- What a command and a cycle answer, and what they append.
 use Rattle.std.specs.Prelude.{◌≡◌, ℕ, Bool, true, false, List, ◌++◌, Some, Result, Ok, Err}
-use Rattle.defs_soar.specs.declared.limit.Which.{Which}
 use Rattle.defs_soar.specs.History.{RecordedFiring}
 use Rattle.defs_soar.specs.Limits.{limit_text}
 use Rattle.defs_soar.specs.Phases.{Course}

@@ -1,0 +1,49 @@
+use Rattle.std.proofs.Common.{◌≡◌, Option, Some, None, map, sym, subst}
+use Rattle.soar_sym.specs.declared.symbol.Sym.{Sym}
+use Rattle.soar_sym.specs.declared.symbol.Triple.{Triple}
+use Rattle.defs_run.specs.Runs.{replied_by}
+use Rattle.defs_run.specs.Sessions.{Session, label_in, labelled}
+use Rattle.defs_run.specs.declared.form.Operand.{Operand}
+use Rattle.soar_cmd.specs.Asked.{operand_seen}
+use Rattle.session_parts.specs.Labels.{label_seen}
+use Rattle.soar_agent.specs.Adding.{adds_by, adds_triple, spelled_by, unless_twice}
+use Rattle.soar_agent.specs.Carries.{Carries}
+use Rattle.soar_agent.specs.States.{session_of}
+use Rattle.soar_agent.specs.Steps.{Obeys}
+use Rattle.cycle_parts.specs.Calls.{IsTripleKnown}
+use Rattle.soar_agent.proofs.state.Session.add_value.Goals as goal
+
+pub add_triple-requires-in-Some-clause-known : goal.add_triple-requires-in-Some-clause-known
+add_triple-requires-in-Some-clause-known g c =
+    subst (IsTripleKnown c.args.self.now.agent.parts.table) (sym c.with-in-Some.ensures) (c.requires.id, c.requires.attr, c.in-Some.ensures.known c.args.self.now.agent.parts.table)
+
+pub returns-in-Symbol : goal.returns-in-Symbol
+returns-in-Symbol g c =
+    subst (λ (o : Operand). Carries c.args.self.now c.add_triple.new.self c.args.origin.now.source.now c.args.origin.now.line (adds_by c.args.slot.id c.args.slot.attr (operand_seen o)) c.args.out.now c.add_triple.new.out c.add_triple.result)
+    (sym c.in-Symbol.is)
+    (subst (λ (t : Triple). Carries c.args.self.now c.add_triple.new.self c.args.origin.now.source.now c.args.origin.now.line (adds_triple t) c.args.out.now c.add_triple.new.out c.add_triple.result)
+    c.with.ensures c.add_triple.ensures)
+
+pub returns-in-Some : goal.returns-in-Some
+returns-in-Some g c = λ history.
+    let s : Session = session_of c.args.self.now history in
+    let some : Some c.in-Some.value ≡ label_in (map label_seen c.args.self.now.labels) c.in-Label.name = cc (c.in-Some.ensures.symbol, c.as_slice.ensures, c.as_str.ensures) in
+    subst (λ (o : Operand). Obeys c.args.self.now.agent.mid_line (replied_by c.args.origin.now.source.now c.args.origin.now.line s (adds_by c.args.slot.id c.args.slot.attr (operand_seen o) s))
+    c.add_triple-in-Some.new.self c.args.out.now c.add_triple-in-Some.new.out c.add_triple-in-Some.result)
+    (sym c.in-Label.is)
+    (subst (λ (o : Option Sym). Obeys c.args.self.now.agent.mid_line (replied_by c.args.origin.now.source.now c.args.origin.now.line s (unless_twice (spelled_by c.args.slot.id c.args.slot.attr (labelled s c.in-Label.name o))))
+    c.add_triple-in-Some.new.self c.args.out.now c.add_triple-in-Some.new.out c.add_triple-in-Some.result)
+    some
+    (subst (λ (t : Triple). Obeys c.args.self.now.agent.mid_line (replied_by c.args.origin.now.source.now c.args.origin.now.line s (adds_triple t s)) c.add_triple-in-Some.new.self c.args.out.now c.add_triple-in-Some.new.out c.add_triple-in-Some.result)
+    c.with-in-Some.ensures (c.add_triple-in-Some.ensures history)))
+
+pub returns-in-None : goal.returns-in-None
+returns-in-None g c = λ history.
+    let s : Session = session_of c.args.self.now history in
+    let none : None ≡ label_in (map label_seen c.args.self.now.labels) c.in-Label.name = cc (c.in-None.ensures.symbol, c.as_slice.ensures, c.as_str.ensures) in
+    subst (λ (o : Operand). Obeys c.args.self.now.agent.mid_line (replied_by c.args.origin.now.source.now c.args.origin.now.line s (adds_by c.args.slot.id c.args.slot.attr (operand_seen o) s))
+    c.add_labelled.new.self c.args.out.now c.add_labelled.new.out c.add_labelled.result)
+    (sym c.in-Label.is)
+    (subst (λ (o : Option Sym). Obeys c.args.self.now.agent.mid_line (replied_by c.args.origin.now.source.now c.args.origin.now.line s (unless_twice (spelled_by c.args.slot.id c.args.slot.attr (labelled s c.in-Label.name o))))
+    c.add_labelled.new.self c.args.out.now c.add_labelled.new.out c.add_labelled.result)
+    none (c.add_labelled.ensures history))

@@ -1,0 +1,65 @@
+use Rattle.std.proofs.Common.{◌^◌, ◌<◌, ◌≤◌, Ok, Err, length, refl, subst, arith}
+use Rattle.soar_sym.specs.Words.{Texts}
+use Rattle.defs_run.specs.Present.{present_stage, read_present}
+use Rattle.defs_run.specs.Runs.{after_reading, obeyed}
+use Rattle.defs_run.specs.Sessions.{Session, refused_by}
+use Rattle.soar_cmd.specs.Answers.{refusal_of}
+use Rattle.soar_cmd.specs.Asked.{order_seen}
+use Rattle.soar_settle.specs.declared.stop.Stop.TheVariants as stop
+use Rattle.defs_soar.specs.declared.limit.Which.TheVariants as which
+use Rattle.soar_agent.specs.Carries.{with_table}
+use Rattle.soar_agent.specs.Commands.{Outcomes}
+use Rattle.soar_agent.specs.States.{session_of}
+use Rattle.soar_agent.proofs.CommandLemmas.{comes_as, reads_as, reads_spent}
+use Rattle.soar_agent.proofs.SoundLemmas.{ready_read}
+use Rattle.soar_agent.proofs.state.Session.obey.Goals as goal
+
+pub carry_out-requires-clause-ready : goal.carry_out-requires-clause-ready
+carry_out-requires-clause-ready g c =
+    ready_read c.args.self.now.agent c.read_command.new.table (subst (λ (w : Texts). length w ≤ length c.read_command.new.table) c.table.ensures.value c.in-Ok.ensures.grown) c.requires.ready
+
+pub returns-in-Ok : goal.returns-in-Ok
+unfolding obeyed
+returns-in-Ok g c = λ history.
+    let s : Session = session_of c.args.self.now history in
+    let words : Texts = c.read_command.new.table in
+    let small : length words < 2 ^ 32 = subst (λ (w : Texts). length w < 2 ^ 32) c.symbols.ensures (omega (arith, c.word_count-within.ensures)) in
+    subst (λ (w : Texts). Outcomes c.args.self.now.agent.mid_line (after_reading present_stage c.args.source.now c.args.c.now.line s (read_present w c.args.c.now.text))
+    c.carry_out.new.self c.args.out.now c.carry_out.new.out c.carry_out.result)
+    c.table.ensures.value
+    (reads_as c.args.self.now c.carry_out.new.self c.args.source.now c.args.c.now.line (read_present c.table.result.now c.args.c.now.text) words (Ok (order_seen c.in-Ok.order)) history
+    c.args.out.now c.carry_out.new.out c.carry_out.result c.in-Ok.ensures.reading.0 c.in-Ok.ensures.reading.1 small (c.carry_out.ensures history))
+
+pub refuse-requires-clause-ready : goal.refuse-requires-clause-ready
+refuse-requires-clause-ready g c =
+    ready_read c.args.self.now.agent c.read_command.new.table (subst (λ (w : Texts). length w ≤ length c.read_command.new.table) c.table.ensures.value c.in-Err-Refused.ensures.grown) c.requires.ready
+
+pub refuse-requires-clause-known : goal.refuse-requires-clause-known
+refuse-requires-clause-known g c = let read = rw c.in-Err-Refused.field-0-is at c.in-Err-Refused.ensures.reading in read.2
+
+pub returns-in-Err-Refused : goal.returns-in-Err-Refused
+unfolding obeyed
+returns-in-Err-Refused g c = λ history.
+    let s : Session = session_of c.args.self.now history in
+    let words : Texts = c.read_command.new.table in
+    let small : length words < 2 ^ 32 = subst (λ (w : Texts). length w < 2 ^ 32) c.symbols-in-Err-Refused.ensures (omega (arith, c.word_count-within-in-Err-Refused.ensures)) in
+    let read = rw c.in-Err-Refused.field-0-is at c.in-Err-Refused.ensures.reading in
+    subst (λ (w : Texts). Outcomes c.args.self.now.agent.mid_line (after_reading present_stage c.args.source.now c.args.c.now.line s (read_present w c.args.c.now.text))
+    c.refuse.new.self c.args.out.now c.refuse.new.out c.outcome_of.result)
+    c.table.ensures.value
+    (reads_as c.args.self.now c.refuse.new.self c.args.source.now c.args.c.now.line (read_present c.table.result.now c.args.c.now.text) words
+    (Err (refusal_of words c.in-Err-Refused.number c.in-Err-Refused.shown)) history c.args.out.now c.refuse.new.out c.outcome_of.result read.0 read.1 small
+    (comes_as c.args.self.now.agent.mid_line
+    (refused_by (refusal_of words c.in-Err-Refused.number c.in-Err-Refused.shown) c.args.source.now c.args.c.now.line (session_of (with_table words c.args.self.now) history))
+    c.refuse.new.self c.args.out.now c.refuse.new.out c.refuse.result c.outcome_of.result c.outcome_of.ensures (c.refuse.ensures history)))
+
+pub returns-in-Err-WordsSpent : goal.returns-in-Err-WordsSpent
+unfolding obeyed
+returns-in-Err-WordsSpent g c = λ history.
+    let s : Session = session_of c.args.self.now history in
+    let spent = rw c.in-Err-WordsSpent.field-0-is at c.in-Err-WordsSpent.ensures.reading in
+    subst (λ (w : Texts). Outcomes c.args.self.now.agent.mid_line (after_reading present_stage c.args.source.now c.args.c.now.line s (read_present w c.args.c.now.text))
+    (with_table c.read_command.new.table c.args.self.now) c.args.out.now c.args.out.now (Err (stop.Limit which.Words)))
+    c.table.ensures.value
+    (reads_spent c.args.self.now (with_table c.read_command.new.table c.args.self.now) c.args.source.now c.args.c.now.line (read_present c.table.result.now c.args.c.now.text) history
+    c.args.out.now spent refl)

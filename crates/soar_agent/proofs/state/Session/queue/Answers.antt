@@ -1,0 +1,28 @@
+use Rattle.std.proofs.Common.{◌≡◌, ◌∙◌, false, List, ℕ, Option, Some, None, sym, ap, subst}
+use Rattle.defs_run.specs.Inputs.{queued, first_unknown, spelled, unless_unknown}
+use Rattle.defs_run.specs.Runs.{replied_by}
+use Rattle.defs_run.specs.Sessions.{Session}
+use Rattle.soar_cmd.specs.Asked.{operand_seen}
+use Rattle.soar_agent.specs.States.{session_of}
+use Rattle.soar_agent.specs.Steps.{Obeys}
+use Rattle.soar_agent.proofs.state.Session.queue.Goals as goal
+
+pub returns-in-Some : goal.returns-in-Some
+returns-in-Some g c = λ history.
+    let s : Session = session_of c.args.self.now history in
+    let first : Session → Option (List ℕ) = λ t. first_unknown false t (operand_seen c.args.addition.id) (operand_seen c.args.addition.attr) (operand_seen c.args.addition.value) in
+    let unknown : Some c.as_str.result.now ≡ first s = ap Some c.as_str.ensures ∙ (sym c.in-Some.is ∙ (c.in_ok-text.ensures s ∙ ap first (c.lookup.ensures.session history))) in
+    subst (λ (o : Option (List ℕ)). Obeys c.args.self.now.agent.mid_line (replied_by c.args.origin.now.source.now c.args.origin.now.line s
+    (unless_unknown o (queued c.args.adds (spelled s (operand_seen c.args.addition.id) (operand_seen c.args.addition.attr) (operand_seen c.args.addition.value)))))
+    c.refuse.new.self c.args.out.now c.refuse.new.out c.refuse.result)
+    unknown (c.refuse.ensures history)
+
+pub returns-in-None : goal.returns-in-None
+returns-in-None g c = λ history.
+    let s : Session = session_of c.args.self.now history in
+    let first : Session → Option (List ℕ) = λ t. first_unknown false t (operand_seen c.args.addition.id) (operand_seen c.args.addition.attr) (operand_seen c.args.addition.value) in
+    let given : None ≡ first s = sym c.in-None.is ∙ (c.in_ok-text.ensures s ∙ ap first (c.lookup.ensures.session history)) in
+    subst (λ (o : Option (List ℕ)). Obeys c.args.self.now.agent.mid_line (replied_by c.args.origin.now.source.now c.args.origin.now.line s
+    (unless_unknown o (queued c.args.adds (spelled s (operand_seen c.args.addition.id) (operand_seen c.args.addition.attr) (operand_seen c.args.addition.value)))))
+    c.queue_given.new.self c.args.out.now c.queue_given.new.out c.queue_given.result)
+    given (c.queue_given.ensures history)

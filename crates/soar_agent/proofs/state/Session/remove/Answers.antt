@@ -1,0 +1,30 @@
+use Rattle.std.proofs.Common.{◌∙◌, Some, None, Option, ap, subst, sym}
+use Rattle.soar_wm.specs.WorkingMemory.{WorkingMemory, element_of}
+use Rattle.soar_wm.specs.declared.element.Element.{Element}
+use Rattle.defs_run.specs.Inputs.{Carried, refuses, removed}
+use Rattle.defs_run.specs.Orders.{no_element}
+use Rattle.defs_run.specs.Runs.{replied_by}
+use Rattle.defs_run.specs.Sessions.{Session}
+use Rattle.soar_agent.specs.States.{session_of}
+use Rattle.soar_agent.specs.Steps.{Obeys}
+use Rattle.soar_agent.proofs.SoundLemmas.{element_known}
+use Rattle.soar_agent.proofs.state.Session.remove.Goals as goal
+
+pub remove_element-requires-clause-known : goal.remove_element-requires-clause-known
+remove_element-requires-clause-known g c =
+    element_known c.args.self.now.agent.parts.table c.args.tag c.args.self.now.agent.parts.memory.elements c.in-Some.element c.requires.1.elements_known
+    (sym (c.in-Some.ensures ∙ ap (λ (m : WorkingMemory). element_of c.args.tag m.elements) c.memory.ensures))
+
+pub returns-in-Some : goal.returns-in-Some
+returns-in-Some g c = λ history.
+    let s : Session = session_of c.args.self.now history in
+    subst (λ (o : Option Element). Obeys c.args.self.now.agent.mid_line (replied_by c.args.origin.now.source.now c.args.origin.now.line s (elim o as (λ _. Carried) [ None ↦ refuses (no_element c.args.tag) | Some e ↦ removed s e ]))
+    c.remove_element.new.self c.args.out.now c.remove_element.new.out c.remove_element.result)
+    (c.in-Some.ensures ∙ ap (λ (m : WorkingMemory). element_of c.args.tag m.elements) c.memory.ensures) (c.remove_element.ensures history)
+
+pub returns-in-None : goal.returns-in-None
+returns-in-None g c = λ history.
+    let s : Session = session_of c.args.self.now history in
+    subst (λ (o : Option Element). Obeys c.args.self.now.agent.mid_line (replied_by c.args.origin.now.source.now c.args.origin.now.line s (elim o as (λ _. Carried) [ None ↦ refuses (no_element c.args.tag) | Some e ↦ removed s e ]))
+    c.refuse.new.self c.args.out.now c.refuse.new.out c.refuse.result)
+    (c.in-None.ensures ∙ ap (λ (m : WorkingMemory). element_of c.args.tag m.elements) c.memory.ensures) (c.refuse.ensures history)

@@ -1,0 +1,18 @@
+use Rattle.std.proofs.Common.{◌≡◌, Option, None, map, sym, subst}
+use Rattle.soar_sym.specs.declared.symbol.Sym.{Sym}
+use Rattle.defs_run.specs.Sessions.{label_in, labelled, resolved}
+use Rattle.defs_run.specs.declared.form.Operand.{Operand}
+use Rattle.soar_cmd.specs.Asked.{operand_seen}
+use Rattle.soar_agent.specs.Labels.{Makes}
+use Rattle.session_parts.specs.Labels.{label_seen}
+use Rattle.soar_agent.specs.States.{session_of}
+use Rattle.soar_agent.proofs.state.Session.resolve.Goals as goal
+
+pub returns-in-Some-clause-known : goal.returns-in-Some-clause-known
+returns-in-Some-clause-known g c = c.in-Some.ensures.known c.args.self.now.agent.parts.table
+
+pub returns-in-None-clause-symbol : goal.returns-in-None-clause-symbol
+returns-in-None-clause-symbol g c = λ history.
+    let none : None ≡ label_in (map label_seen c.args.self.now.labels) c.in-Label.name = cc (c.in-None.ensures.symbol, c.as_slice.ensures, c.as_str.ensures) in
+    subst (λ (o : Operand). Makes c.make_label.new.self (resolved (session_of c.args.self.now history) (operand_seen o)) history c.make_label.result) (sym c.in-Label.is)
+    (subst (λ (o : Option Sym). Makes c.make_label.new.self (labelled (session_of c.args.self.now history) c.in-Label.name o) history c.make_label.result) none (c.make_label.ensures.symbol history))
