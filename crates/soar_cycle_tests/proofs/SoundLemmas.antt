@@ -1,8 +1,9 @@
 -- An agent whose table has gained words.
-use Rattle.std.proofs.Common.{◌≡◌, ◌≤◌, List, map, length, arith}
+use Rattle.std.proofs.Common.{◌≡◌, ◌≤◌, List, map, length, arith, subst}
 use Rattle.soar_sym.specs.Words.{Texts}
 use Rattle.defs_match.specs.Rules.{rule_seen}
 use Rattle.input_queue.specs.Seen.{triple_queued}
+use Rattle.soar_cycle.specs.Agents.{AgentSeen, IsSoundAgent, with_table}
 use Rattle.wave_parts.specs.Seen.{IsSound}
 use Rattle.wave_parts.specs.declared.parts.Parts.{Parts as PartsKept}
 use Rattle.wave_parts.proofs.FiringKnown.{are_rows_grown, are_rules_grown}
@@ -29,3 +30,6 @@ grown_sound a table grown sound = record {
   output_known = triples_grown a.table table a.output grown sound.output_known;
   selection_known = selection_grown a.table table sound.selected grown sound.selection_known;
 }
+
+pub grown_agent : (a : AgentSeen) (lent table : Texts) → IsSoundAgent a → lent ≡ a.parts.table → length lent ≤ length table → IsSoundAgent (with_table a table)
+grown_agent a lent table sound is grown = λ stands. grown_sound a.parts table (subst (λ t. length t ≤ length table) is grown) (sound stands)

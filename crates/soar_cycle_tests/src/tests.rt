@@ -10,7 +10,8 @@ use inputs::{changes_at_once, waits_for_input};
 use std::test::Fail;
 
 /// An operator that is proposed until it is applied, and a text once it is gone.
-const GO: &str = "sp {propose (state <s> ^type state -^done <d>) --> (<s> ^operator <o> +) (<o> ^name go)}
+const GO: &str =
+    "sp {propose (state <s> ^type state -^done <d>) --> (<s> ^operator <o> +) (<o> ^name go)}
 sp {apply (state <s> ^operator.name go) --> (<s> ^done yes)}
 sp {tell (state <s> ^done yes -^operator <o>) --> (write |still done|)}";
 
@@ -39,16 +40,21 @@ const STEPS: &[(&str, &str, &str, &str)] = &[
 #[test]
 fn steps_answer_and_write_this(rt: HostRuntime) -> Result<(), Fail> {
     for (rules, steps, answers, written) in STEPS {
-        assert!(rt; runs(rt.alloc(), rules, steps, answers, written)?, "{steps} of {rules}");
+        assert!(rt;
+            runs(rt.alloc(), rules, steps, answers, written)?,
+            "{steps} of {rules}"
+        );
     }
     Ok(())
 }
 
 /// Two operators to draw from.
-const TWO: &str = "sp {two (state <s> ^type state) --> (<s> ^operator <o1> + =) (<o1> ^name a) (<s> ^operator <o2> + =) (<o2> ^name b)}";
+const TWO: &str =
+    "sp {two (state <s> ^type state) --> (<s> ^operator <o1> + =) (<o1> ^name a) (<s> ^operator <o2> + =) (<o2> ^name b)}";
 
 /// An operator alone, and two once it was applied.
-const ONE_THEN_TWO: &str = "sp {one (state <s> ^type state -^done <d>) --> (<s> ^operator <o> +) (<o> ^name one)}
+const ONE_THEN_TWO: &str =
+    "sp {one (state <s> ^type state -^done <d>) --> (<s> ^operator <o> +) (<o> ^name one)}
 sp {apply (state <s> ^operator.name one) --> (<s> ^done yes)}
 sp {two (state <s> ^done yes) --> (<s> ^operator <o1> + =) (<o1> ^name a) (<s> ^operator <o2> + =) (<o2> ^name b)}";
 
@@ -57,13 +63,21 @@ const DRAWS: &[(&[u64], &str, &str, &str)] = &[
     (&[1], TWO, "cc", "1: O: O2 (b)\n"),
     (&[2], TWO, "cc", "1: O: O1 (a)\n"),
     // without a draw no word is taken
-    (&[1, 0], ONE_THEN_TWO, "cc", "1: O: O1 (one)\n2: O: O3 (b)\n"),
+    (
+        &[1, 0],
+        ONE_THEN_TWO,
+        "cc",
+        "1: O: O1 (one)\n2: O: O3 (b)\n",
+    ),
 ];
 
 #[test]
 fn random_words_draw_operators(rt: HostRuntime) -> Result<(), Fail> {
     for (words, rules, cycles, written) in DRAWS {
-        assert!(rt; draws(rt.alloc(), words, rules, cycles, written)?, "{written}");
+        assert!(rt;
+            draws(rt.alloc(), words, rules, cycles, written)?,
+            "{written}"
+        );
     }
     Ok(())
 }

@@ -19,15 +19,17 @@ const LINK: &str = "sp {link (state <s> ^io <i>) (<i> ^input-link <l>) --> }";
 pub fn begins(alloc: Global) -> Result<bool, Stop> {
     let agent = Agent::new(alloc, Direct::new(alloc)?)?;
     let goals = agent.goals().as_slice();
-    Ok(goals.len() == 1
-        && goals[0].id == S1
-        && agent.memory().last_tag() == 5
-        && agent.letters().last(b'I') == 3
-        && agent.symbols().word_count() == 24
-        && agent.rules().is_empty()
-        && agent.standing() == Standing::Stands
-        && !agent.halted()
-        && !agent.mid_line())
+    Ok(
+        goals.len() == 1
+            && goals[0].id == S1
+            && agent.memory().last_tag() == 5
+            && agent.letters().last(b'I') == 3
+            && agent.symbols().word_count() == 24
+            && agent.rules().is_empty()
+            && agent.standing() == Standing::Stands
+            && !agent.halted()
+            && !agent.mid_line(),
+    )
 }
 
 /// Whether a rule that is loaded once more has the next number, and alone has its name.

@@ -4,8 +4,8 @@ ghost use Rattle.cycle_parts.specs.Calls.{IsTripleKnown};
 ghost use Rattle.soar_sym.specs.Words.{Texts};
 
 use super::rules::agent_of;
-use soar_cycle::{Agent, Phase, Stop};
 use match_direct::Direct;
+use soar_cycle::{Agent, Phase, Stop};
 use soar_sym::{Sym, Text, Triple};
 use std::alloc::Global;
 
