@@ -16,7 +16,7 @@ use Rattle.wave_parts.specs.Resettles.{resettled_now}
 use Rattle.wave_parts.specs.Seen.{agent_of}
 use Rattle.wave_parts.specs.Stands.{Stands}
 use Rattle.wave_parts.specs.declared.parts.Parts.{Parts as PartsKept}
-use Rattle.wave_parts.proofs.StandsLemmas.{of_each_state, stands_at}
+use Rattle.wave_parts.proofs.StandsLemmas.{of_each_state, remembers_same, stands_at}
 use Rattle.cycle_parts.specs.Stepping.{QuietStep}
 
 -- ---- the number of cycles
@@ -61,9 +61,9 @@ pub takes_input : (a new : PartsKept) (inputs : List Triple) (cycles : ℕ) (res
     → (s : Agent) → Stands a s → QuietStep (after_input s) new result
 takes_input a new inputs cycles result changed counted settled =
     of_each_state (λ (s : Agent). QuietStep (after_input s) new result) a
-    (λ history. subst (λ (s : AgentStep). QuietStep s new result) (sym (input_is a history inputs cycles changed counted.0))
+    (λ history remembers. subst (λ (s : AgentStep). QuietStep s new result) (sym (input_is a history inputs cycles changed counted.0))
     (in_cycle_steps cycles (resettled_now (agent_of (with_inputs a inputs cycles) history)) new result (omega (arith, counted.0, counted.1))
-    (settled (agent_of (with_inputs a inputs cycles) history) (stands_at (with_inputs a inputs cycles) history))))
+    (settled (agent_of (with_inputs a inputs cycles) history) (stands_at (with_inputs a inputs cycles) history (remembers_same a (with_inputs a inputs cycles) history refl refl refl refl remembers)))))
 
 stops_at : (a : PartsKept) (history : List RecordedFiring) → 18446744073709551615 < suc a.cycles → first_passed (after_input (agent_of a history)).totals ≡ Some which.Counts
 unfolding after_input resettled
@@ -72,5 +72,5 @@ stops_at a history over = ap (λ o. or_limit o (first_passed (resettled_now (age
 -- a cycle too many
 pub input_stops : (a new : PartsKept) (why : Stop) → Counts (a.cycles + 1) (Err why) → (s : Agent) → Stands a s → QuietStep {T = Unit {0}} (after_input s) new (Err why)
 input_stops a new (stop.Limit limit) over =
-    of_each_state (λ (s : Agent). first_passed (after_input s).totals ≡ Some limit) a (λ history. stops_at a history (omega (arith, over.1)) ∙ ap Some (sym over.0))
+    of_each_state (λ (s : Agent). first_passed (after_input s).totals ≡ Some limit) a (λ history remembers. stops_at a history (omega (arith, over.1)) ∙ ap Some (sym over.0))
 input_stops a new stop.NoMemory over = absurd over

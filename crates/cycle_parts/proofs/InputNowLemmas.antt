@@ -9,7 +9,7 @@ use Rattle.wave_parts.specs.Resettles.{resettled_now}
 use Rattle.wave_parts.specs.Seen.{agent_of}
 use Rattle.wave_parts.specs.Stands.{Stands}
 use Rattle.wave_parts.specs.declared.parts.Parts.{Parts as PartsKept}
-use Rattle.wave_parts.proofs.StandsLemmas.{of_each_state, stands_at}
+use Rattle.wave_parts.proofs.StandsLemmas.{of_each_state, remembers_same, stands_at}
 use Rattle.cycle_parts.specs.Calls.{input_step, with_input}
 use Rattle.cycle_parts.specs.Stepping.{QuietStep}
 use Rattle.cycle_parts.proofs.LoadedLemmas.{with_inputs}
@@ -23,5 +23,5 @@ pub settled_inputs : (a new : PartsKept) (inputs : List Triple) (adds : Bool) (t
     → ((s : Agent) → Stands (with_inputs inputs a) s → QuietStep (resettled_now s) new result) → (s : Agent) → Stands a s → QuietStep (input_step adds t s) new result
 settled_inputs a new inputs adds t result are settled =
     of_each_state (λ (s : Agent). QuietStep (input_step adds t s) new result) a
-    (λ history. subst (λ (s : AgentStep). QuietStep s new result) (ap (λ (changed : List Triple). resettled_now (agent_of (with_inputs changed a) history)) are ∙ same_step a history adds t)
-    (settled (agent_of (with_inputs inputs a) history) (stands_at (with_inputs inputs a) history)))
+    (λ history remembers. subst (λ (s : AgentStep). QuietStep s new result) (ap (λ (changed : List Triple). resettled_now (agent_of (with_inputs changed a) history)) are ∙ same_step a history adds t)
+    (settled (agent_of (with_inputs inputs a) history) (stands_at (with_inputs inputs a) history (remembers_same a (with_inputs inputs a) history refl refl refl refl remembers))))

@@ -1,3 +1,4 @@
+pub mod AlikeLemmas
 pub mod DecidingLemmas
 pub mod EventLemmas
 pub mod InputLemmas
@@ -8,9 +9,11 @@ pub mod LoadedLemmas
 pub mod NumberLemmas
 pub mod OperatorLemmas
 pub mod OutputLemmas
+pub mod PushedLemmas
 pub mod QuietLemmas
 pub mod SoundLemmas
 pub mod SteppingLemmas
 pub mod TakingLemmas
 pub mod TextLemmas
+pub mod WalkedLemmas
 pub mod WavingLemmas

@@ -13,7 +13,7 @@ use Rattle.defs_run.specs.Carrying.{is_named}
 use Rattle.soar_settle.specs.Known.{AreRulesKnown, AreTriplesKnown}
 use Rattle.input_queue.specs.Seen.{triple_queued}
 use Rattle.input_queue.specs.declared.queued.Queued.{Queued}
-use Rattle.wave_parts.specs.Firables.{IsBelowRules, AreNumbered}
+use Rattle.pending_work.specs.Firables.{IsBelowRules, AreNumbered}
 use Rattle.wave_parts.specs.Seen.{AreNoJustifications, AreUpTo, IsSound}
 use Rattle.wave_parts.specs.declared.parts.Parts.{Parts as PartsKept}
 use Rattle.cycle_parts.specs.Calls.{IsTripleKnown, with_input}
@@ -106,14 +106,20 @@ pub sound_queued : (a : PartsKept) (queue : List Queued) (q : Queued) → IsSoun
 sound_queued a queue q sound known are =
     let seen : map triple_queued queue ≡ map triple_queued a.queue ++ q.triple ∷ [] = ap (map triple_queued) are ∙ map-append triple_queued a.queue (q ∷ []) in
     record {
-      selected = sound.selected;
-      one_goal = sound.one_goal;
+      goals_some = sound.goals_some;
+      goals_few = sound.goals_few;
+      goals_known = sound.goals_known;
+      depends_fit = sound.depends_fit;
       element_limit = sound.element_limit;
       row_limit = sound.row_limit;
       few_rows = sound.few_rows;
       rows_in_range = sound.rows_in_range;
-      live_at_top = sound.live_at_top;
+      rows_of_firings = sound.rows_of_firings;
+      makers_of_firings = sound.makers_of_firings;
+      recorded_up_to = sound.recorded_up_to;
+      makers_earlier = sound.makers_earlier;
       first_words = sound.first_words;
+      top_numbered = sound.top_numbered;
       numbered = sound.numbered;
       numbers_given = sound.numbers_given;
       none_learned = sound.none_learned;
@@ -123,7 +129,6 @@ sound_queued a queue q sound known are =
       inputs_known = sound.inputs_known;
       queue_known = subst (AreTriplesKnown a.table) (sym seen) (triples_last a.table (map triple_queued a.queue) q.triple sound.queue_known known);
       output_known = sound.output_known;
-      selection_known = sound.selection_known;
     }
 
 -- the parts with other inputs
@@ -132,14 +137,20 @@ with_inputs inputs a = record a { inputs = inputs }
 
 pub sound_with_inputs : (a : PartsKept) (inputs : List Triple) → IsSound a → AreTriplesKnown a.table inputs → IsSound (with_inputs inputs a)
 sound_with_inputs a inputs sound known = record {
-  selected = sound.selected;
-  one_goal = sound.one_goal;
+  goals_some = sound.goals_some;
+  goals_few = sound.goals_few;
+  goals_known = sound.goals_known;
+  depends_fit = sound.depends_fit;
   element_limit = sound.element_limit;
   row_limit = sound.row_limit;
   few_rows = sound.few_rows;
   rows_in_range = sound.rows_in_range;
-  live_at_top = sound.live_at_top;
+  rows_of_firings = sound.rows_of_firings;
+  makers_of_firings = sound.makers_of_firings;
+  recorded_up_to = sound.recorded_up_to;
+  makers_earlier = sound.makers_earlier;
   first_words = sound.first_words;
+  top_numbered = sound.top_numbered;
   numbered = sound.numbered;
   numbers_given = sound.numbers_given;
   none_learned = sound.none_learned;
@@ -149,7 +160,6 @@ sound_with_inputs a inputs sound known = record {
   inputs_known = known;
   queue_known = sound.queue_known;
   output_known = sound.output_known;
-  selection_known = sound.selection_known;
 }
 
 pub input_known : (words : Texts) (adds : Bool) (t : Triple) (inputs : List Triple) → AreTriplesKnown words inputs → IsTripleKnown words t → AreTriplesKnown words (with_input adds t inputs)
@@ -173,14 +183,20 @@ sound_loaded a rules number production sound known user next are =
     let rule : RuleOf = record { number = number; production = production } in
     let given : AreUpTo last (filter p old) = up_to_filter p last old sound.numbers_given in
     record {
-      selected = sound.selected;
-      one_goal = sound.one_goal;
+      goals_some = sound.goals_some;
+      goals_few = sound.goals_few;
+      goals_known = sound.goals_known;
+      depends_fit = sound.depends_fit;
       element_limit = sound.element_limit;
       row_limit = sound.row_limit;
       few_rows = sound.few_rows;
       rows_in_range = sound.rows_in_range;
-      live_at_top = sound.live_at_top;
+      rows_of_firings = sound.rows_of_firings;
+      makers_of_firings = sound.makers_of_firings;
+      recorded_up_to = sound.recorded_up_to;
+      makers_earlier = sound.makers_earlier;
       first_words = sound.first_words;
+      top_numbered = sound.top_numbered;
       numbered = subst AreNumbered (sym are) (numbered_last last (filter p old) rule (numbered_filter p old sound.numbered) given less);
       numbers_given = subst (AreUpTo number) (sym are) (up_to_last last (filter p old) rule given less);
       none_learned = subst AreNoJustifications (sym are) (unlearned_last (filter p old) rule (unlearned_filter p old sound.none_learned) user);
@@ -190,5 +206,4 @@ sound_loaded a rules number production sound known user next are =
       inputs_known = sound.inputs_known;
       queue_known = sound.queue_known;
       output_known = sound.output_known;
-      selection_known = sound.selection_known;
     }

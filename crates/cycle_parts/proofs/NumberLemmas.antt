@@ -6,7 +6,7 @@ use Rattle.defs_match.specs.Contents.{HasRule, is_numbered, with_rule, without_r
 use Rattle.defs_match.specs.Rules.{RuleOf, rule_seen}
 use Rattle.defs_match.specs.declared.rule.Rule.{Rule}
 use Rattle.matching_laws.proofs.TagLemmas.{itself, below_apart}
-use Rattle.wave_parts.specs.Firables.{IsBelowRules, AreNumbered}
+use Rattle.pending_work.specs.Firables.{IsBelowRules, AreNumbered}
 use Rattle.wave_parts.specs.Seen.{AreUpTo}
 use Rattle.cycle_parts.proofs.ListLemmas.{map_remove}
 

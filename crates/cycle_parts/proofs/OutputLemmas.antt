@@ -15,9 +15,10 @@ use Rattle.defs_soar.specs.Trace.{Written, followed_by, line_text, piece_of, pie
 use Rattle.soar_settle.specs.Known.{AreTriplesKnown}
 use Rattle.trace_lines.specs.Saying.{IsTripleKnown, SaysLine, SaysLines, text_of_line}
 use Rattle.wave_parts.specs.Seen.{agent_of}
+use Rattle.wave_parts.specs.Remembers.{Remembers}
 use Rattle.wave_parts.specs.Stands.{Stands}
 use Rattle.wave_parts.specs.declared.parts.Parts.{Parts as PartsKept}
-use Rattle.wave_parts.proofs.StandsLemmas.{of_each_state, stands_at}
+use Rattle.wave_parts.proofs.StandsLemmas.{of_each_state, remembers_same, stands_at}
 use Rattle.cycle_parts.specs.Stepping.{WentStep}
 use Rattle.cycle_parts.proofs.SteppingLemmas.{stepped_at}
 
@@ -72,14 +73,14 @@ output_at : (a : PartsKept) (history : List RecordedFiring) (now : List Triple) 
 unfolding after_output
 output_at a history now shown = ap (output_step a history) shown
 
-gives_at : (a : PartsKept) (history : List RecordedFiring) (now gone new : List Triple) (mid new_mid : Bool) (before after : List ℕ)
+gives_at : (a : PartsKept) (history : List RecordedFiring) → Remembers a history → (now gone new : List Triple) (mid new_mid : Bool) (before after : List ℕ)
     → gone ≡ in_order a.table (without_triples now a.output) → new ≡ in_order a.table (without_triples a.output now) → SaysLines a.table (lines_of gone new a.halted) mid before new_mid after
     → WentStep mid (output_step a history now) (record a { output = now }) new_mid before after
 unfolding pieces_of
-gives_at a history now gone new mid new_mid before after gone_is new_is says =
+gives_at a history remembers now gone new mid new_mid before after gone_is new_is says =
     let said = subst (λ (events : List Event). SaysLines a.table events mid before new_mid after) (λ i. lines_of (gone_is i) (new_is i) a.halted) says in
     record {
-      stepped = stepped_at (record a { output = now }) (output_step a history now) refl (record { stands = stands_at (record a { output = now }) history; within = refl });
+      stepped = stepped_at (record a { output = now }) (output_step a history now) refl (record { stands = stands_at (record a { output = now }) history (remembers_same a (record a { output = now }) history refl refl refl refl remembers); within = refl });
       text = said.0;
       mid_line = said.1;
     }
@@ -90,5 +91,5 @@ pub gives_output : (a : PartsKept) (now gone new : List Triple) (mid new_mid : B
     → (s : Agent) → Stands a s → WentStep mid (after_output s) (record a { output = now }) new_mid before after
 gives_output a now gone new mid new_mid before after shown gone_is new_is says =
     of_each_state (λ (s : Agent). WentStep mid (after_output s) (record a { output = now }) new_mid before after) a
-    (λ history. subst (λ (s : AgentStep). WentStep mid s (record a { output = now }) new_mid before after) (output_at a history now (shown (agent_of a history) refl refl))
-    (gives_at a history now gone new mid new_mid before after gone_is new_is says))
+    (λ history remembers. subst (λ (s : AgentStep). WentStep mid s (record a { output = now }) new_mid before after) (output_at a history now (shown (agent_of a history) refl refl))
+    (gives_at a history remembers now gone new mid new_mid before after gone_is new_is says))

@@ -7,12 +7,12 @@ use Rattle.defs_soar.specs.Trace.{Written, is_mid_after}
 use Rattle.soar_settle.specs.declared.stop.Stop.{Stop}
 use Rattle.soar_settle.specs.declared.stop.Stop.TheVariants as stop
 use Rattle.wave_parts.specs.Carrying.{Carried, Carries, CarriesOut}
-use Rattle.wave_parts.specs.Firables.{IsPending}
+use Rattle.pending_work.specs.Firables.{IsPending}
 use Rattle.wave_parts.specs.Seen.{agent_of, pending_of, written_of}
 use Rattle.wave_parts.specs.Stands.{Stands}
 use Rattle.wave_parts.specs.declared.carrying.Done.{Done}
 use Rattle.wave_parts.specs.declared.parts.Parts.{Parts as PartsKept}
-use Rattle.wave_parts.specs.declared.work.Work.{Work}
+use Rattle.pending_work.specs.declared.work.Work.{Work}
 use Rattle.wave_parts.proofs.StandsLemmas.{of_each_state, stands_at}
 use Rattle.cycle_parts.specs.Stepping.{WentStep, step_written}
 use Rattle.cycle_parts.specs.Waving.{Rested, TellsWork, WavesFrom, Worked, wave_at, waved_by}
@@ -22,7 +22,7 @@ use Rattle.cycle_parts.proofs.QuietLemmas.{wave_quiet}
 pub rests : (proposing : Bool) (old new : PartsKept) (mid : Bool) (text : List ℕ) → is_none (pending_of proposing old) ≡ true → new ≡ old
     → (s : Agent) → Stands old s → Rested proposing s old new mid mid text text
 rests proposing old new mid text none same s stands = record {
-  none = of_each_state (λ (t : Agent). is_none (pending proposing t) ≡ true) old (λ history. none) s stands;
+  none = of_each_state (λ (t : Agent). is_none (pending proposing t) ≡ true) old (λ history remembers. none) s stands;
   same = same;
   text = refl;
   mid_line = refl;
@@ -37,7 +37,7 @@ IsWork proposing old work = IsPending (map rule_seen old.rules) old.memory.eleme
 carries_at : (proposing : Bool) (old new : PartsKept) (work : Work) (said : List ℕ) (result : Result Done Stop) → IsWork proposing old work → CarriesOut old new work [] said result
     → (s : Agent) → Stands old s → Carries new [] said (wave_at proposing s) result
 carries_at proposing old new work said result pend carries =
-    of_each_state (λ (s : Agent). Carries new [] said (wave_at proposing s) result) old (λ history. carries (agent_of old history) (stands_at old history) (pending_of proposing old) pend)
+    of_each_state (λ (s : Agent). Carries new [] said (wave_at proposing s) result) old (λ history remembers. carries (agent_of old history) (stands_at old history remembers) (pending_of proposing old) pend)
 
 -- ---- what is written
 
@@ -55,7 +55,7 @@ went_at proposing new mid new_mid halted said before after s carried text mid_is
 -- ---- each answer
 
 some_pending : (proposing : Bool) (old : PartsKept) → is_none (pending_of proposing old) ≡ false → (s : Agent) → Stands old s → is_none (pending proposing s) ≡ false
-some_pending proposing old some = of_each_state (λ (s : Agent). is_none (pending proposing s) ≡ false) old (λ history. some)
+some_pending proposing old some = of_each_state (λ (s : Agent). is_none (pending proposing s) ≡ false) old (λ history remembers. some)
 
 waves_by : (proposing halted : Bool) (s : Agent) (old new : PartsKept) (mid new_mid : Bool) (before after : List ℕ)
     → Worked proposing s halted new mid new_mid before after → WavesFrom proposing s old new mid new_mid before after (Ok (waved_by halted))
@@ -90,4 +90,4 @@ told_by false true h = refl
 told_by false false h = absurd (cc)
 
 pub tells_work : (proposing : Bool) (old : PartsKept) (b : Bool) → b ≡ not (is_none (pending_of proposing old)) → (s : Agent) → Stands old s → TellsWork proposing s (Ok b)
-tells_work proposing old b h = of_each_state (λ (s : Agent). TellsWork proposing s (Ok b)) old (λ history. told_by b (is_none (pending_of proposing old)) h)
+tells_work proposing old b h = of_each_state (λ (s : Agent). TellsWork proposing s (Ok b)) old (λ history remembers. told_by b (is_none (pending_of proposing old)) h)

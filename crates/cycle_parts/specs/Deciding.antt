@@ -1,60 +1,56 @@
--- A decision of parts with one goal: what it comes to, what is said of it, and the parts afterwards. No public clause cites this module.
-use Rattle.std.specs.Prelude.{List, [], ◌∷◌, drop, Option, Some, None, if◌then◌else◌, IfSome}
-use Rattle.soar_sym.specs.Words.{Texts, IsKnown}
-use Rattle.defs_soar.specs.declared.choice.Mode.TheVariants as mode
-use Rattle.defs_soar.specs.declared.goal.Goal.{Goal}
-use Rattle.defs_soar.specs.declared.goal.Selection.{Selection}
-use Rattle.defs_soar.specs.Decision.{first_symbol, names_of_operator}
-use Rattle.defs_soar.specs.Events.{Event, selects}
-use Rattle.defs_soar.specs.Walk.{View}
-use Rattle.soar_decide.specs.Outcomes as outcome
-use Rattle.trace_lines.specs.Saying.{selection_event}
-use Rattle.trace_lines.specs.declared.selection.Selected.{Selected}
-use Rattle.wave_parts.specs.Seen.{IsSelectionKnown, top_with}
-use Rattle.wave_parts.specs.declared.parts.Parts.{Parts as PartsKept}
+-- The steps of a decision: the walk over the goals, and then a selection, a substate, or a halt at the limit of goals.
+use Rattle.std.specs.Prelude.{◌+◌, Bool, true, List, [], ◌∷◌, ◌++◌, length, nat_lt, if◌then◌else◌, Option, None}
+use Rattle.soar_sym.specs.Letters.{last_of, with_last}
+use Rattle.soar_sym.specs.declared.symbol.Sym.{Sym}
+use Rattle.soar_sym.specs.declared.symbol.Sym.TheVariants.{Ident}
+use Rattle.defs_soar.specs.declared.goal.Impasse.{Impasse}
+use Rattle.defs_soar.specs.declared.goal.Item.{Item}
+use Rattle.defs_soar.specs.Agents.{Agent}
+use Rattle.defs_soar.specs.Decision.{cut_below, new_goal, selection_events, view_of, with_decision, without_words}
+use Rattle.defs_soar.specs.Events.{reaches_goal_limit, substates}
+use Rattle.defs_soar.specs.Limits.{identifiers_to}
+use Rattle.defs_soar.specs.Resettling.{AgentStep}
+use Rattle.defs_soar.specs.Walk.{Decided, Walked, meets, selects_operator, walked}
+use Rattle.wave_parts.specs.Resettles.{resettled_now}
 
--- ---- what it comes to
+-- ---- the walk
 
--- what the decision looks at
-abbrev pub view_in : PartsKept → View
-view_in a = record { words = a.table; rows = a.prefs.rows; elements = a.memory.elements; mode = mode.Softmax; random = a.random }
+-- the walk over all goals of a state
+abbrev pub walk_of : Agent → Walked
+walk_of s = walked (view_of s) None s.holding.goals
 
-abbrev pub outcome_first : View → List Goal → outcome.Outcome
-outcome_first v [] = outcome.stays
-outcome_first v (goal ∷ goals) = outcome.outcome_at v goal
+-- the state with the goals that stay; with the others their firings have gone, and the instance-supported rows of these
+abbrev pub walked_state : Agent → Walked → Agent
+walked_state s w = let t = cut_below s w.goals in record s { holding = record s.holding { goals = w.goals; rows = t.rows; live = t.live } }
 
--- the outcome at the top goal
-abbrev pub outcome_in : PartsKept → outcome.Outcome
-outcome_in a = outcome_first (view_in a) a.goals
+-- ---- what follows it, from such a state
 
--- an operator that is selected is a symbol of the table
-abbrev pub IsOutcomeKnown : Texts → outcome.Outcome → Type 0
-IsOutcomeKnown words outcome.stays = Unit {0}
-IsOutcomeKnown words (outcome.selects selection takes) = IsSelectionKnown words selection
-IsOutcomeKnown words (outcome.meets why items) = Unit {0}
+-- the operator that the last goal has selected now is told
+abbrev pub selection_step : Agent → Option Sym → Bool → AgentStep
+selection_step s operator takes = with_decision (selection_events s s.holding.goals operator) (resettled_now (record s { queues = without_words takes s.queues }))
 
--- ---- what is said
+-- the letters give the next state
+abbrev pub with_substate : Agent → Impasse → List Item → Agent
+with_substate s why items =
+    let number = last_of s.names.letters 83 + 1 in
+    record s {
+      names = record s.names { letters = with_last s.names.letters 83 number };
+      holding = record s.holding { goals = s.holding.goals ++ new_goal (Ident 83 number) why items ∷ [] };
+    }
 
-abbrev pub line_of : PartsKept → Option Selection → List Event
-line_of a None = []
-line_of a (Some selection) = selects a.cycles 0 selection.operator (first_symbol (names_of_operator a.table a.memory.elements selection.operator)) ∷ []
+abbrev pub substate_step : Agent → Impasse → List Item → AgentStep
+substate_step s why items =
+    let number = last_of s.names.letters 83 + 1 in
+    let step = resettled_now (with_substate s why items) in
+    with_decision (substates s.counts.cycles (length s.holding.goals) (Ident 83 number) why ∷ []) (record step { totals = identifiers_to number ∷ step.totals })
 
-abbrev pub line_by : PartsKept → outcome.Outcome → List Event
-line_by a outcome.stays = []
-line_by a (outcome.selects selection takes) = line_of a selection
-line_by a (outcome.meets why items) = []
+-- where a goal too many would be due, the agent halts
+abbrev pub limit_step : Agent → AgentStep
+limit_step s = let step = with_decision (reaches_goal_limit ∷ []) (resettled_now s) in record step { halted = true }
 
-abbrev pub line_said : Option Selected → List Event
-line_said None = []
-line_said (Some selected) = selection_event selected ∷ []
+abbrev pub impasse_step : Agent → Impasse → List Item → AgentStep
+impasse_step s why items = if nat_lt (length s.holding.goals) 100 then substate_step s why items else limit_step s
 
-abbrev pub IsSaidKnown : Texts → Option Selected → Type 0
-IsSaidKnown words None = Unit {0}
-IsSaidKnown words (Some selected) = IsKnown words selected.operator × IfSome selected.name (IsKnown words)
-
--- ---- the parts afterwards
-
-abbrev pub parts_after : PartsKept → outcome.Outcome → PartsKept
-parts_after a outcome.stays = a
-parts_after a (outcome.selects selection takes) = record a { goals = top_with selection ∷ []; random = if takes then drop 1 a.random else a.random }
-parts_after a (outcome.meets why items) = record a { goals = top_with None ∷ [] }
+abbrev pub decision_step : Agent → Decided → AgentStep
+decision_step s (selects_operator operator takes) = selection_step s operator takes
+decision_step s (meets why items) = impasse_step s why items

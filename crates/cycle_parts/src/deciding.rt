@@ -1,36 +1,52 @@
 // The decision.
-ghost use Rattle.std.specs.Prelude.{◌≡◌, OnOk};
+ghost use Rattle.std.specs.Prelude.{◌≡◌, IfOk, OnOk};
 ghost use Rattle.defs_soar.specs.Agents.{Agent as AgentOf};
-ghost use Rattle.defs_soar.specs.Decision.{decided_alone};
+ghost use Rattle.defs_soar.specs.Decision.{decided_by};
 ghost use Rattle.cycle_parts.specs.Bonds.{Bond};
 ghost use Rattle.cycle_parts.specs.Stepping.{GoesStep};
 ghost use Rattle.wave_parts.specs.Seen.{IsSound};
 ghost use Rattle.wave_parts.specs.Stands.{Stands};
 
 use crate::engine::Engine;
-use crate::selecting::{outcome_at_top, say_selected, selected_by, take_outcome};
-use decision_laws::decisions_follow_outcomes;
+use crate::walking::walk_goals;
+use decision_walk::Decided;
 use defs_match::Matcher;
 use soar_sym::Text;
 use std::alloc::Global;
 use wave_parts::Stop;
 
+/// How many goals there may be.
+const MOST_GOALS: usize = 100;
+
 impl<M: Matcher> Engine<M> {
-    /// Decides: the selected operator stays where it is left, else one that is left is selected, which a line tells. An
-    /// impasse ends the selection (Soar manual, chapter 2, decision procedure).
-    pub fn decide(&mut self, alloc: Global, out: &mut Text, mid_line: &mut bool) -> Result<(), Stop>
+    /// Decides, from the top goal down: a selected operator that is left stays, else one that is left is selected; an
+    /// impasse makes a substate, unless the goal below is there for it (Soar manual, chapter 2, decision procedure).
+    /// Tells whether the limit of goals halts the agent.
+    pub fn decide(
+        &mut self,
+        alloc: Global,
+        out: &mut Text,
+        mid_line: &mut bool,
+    ) -> Result<bool, Stop>
         requires sound { IsSound self.old.parts }
         requires bond { Bond (M.rules self.old.matcher) (M.elements self.old.matcher) (M.failed self.old.matcher) self.old.parts }
-        ensures step { (s : AgentOf) → Stands self.old.parts s → GoesStep mid_line.old (decided_alone s) self.new.parts mid_line.new out.old out.new result }
+        ensures step { (s : AgentOf) → Stands self.old.parts s → GoesStep mid_line.old (decided_by s) self.new.parts mid_line.new out.old out.new result }
+        ensures limit { (s : AgentOf) → Stands self.old.parts s → IfOk result (λ halted. halted ≡ (decided_by s).halted) }
         ensures sound { OnOk result (IsSound self.new.parts) }
         ensures bond { OnOk result (Bond (M.rules self.new.matcher) (M.elements self.new.matcher) (M.failed self.new.matcher) self.new.parts) }
     {
-        decisions_follow_outcomes();
-        let outcome = outcome_at_top(alloc, &self.parts)?;
-        let selected = selected_by(alloc, &self.parts, &outcome)?;
-        take_outcome(alloc, &mut self.parts, &outcome);
-        self.resettle(alloc)?;
-        say_selected(&self.parts.table, &selected, out, mid_line)?;
-        Ok(())
+        match walk_goals(alloc, &mut self.parts)? {
+            Decided::Selects {
+                operator,
+                takes_word,
+            } => self.select(alloc, operator, takes_word, out, mid_line),
+            Decided::Meets { why, items } => {
+                if self.parts.goals.list().len() < MOST_GOALS {
+                    self.make_substate(alloc, why, items, out, mid_line)
+                } else {
+                    self.halt_at_limit(alloc, out, mid_line)
+                }
+            }
+        }
     }
 }

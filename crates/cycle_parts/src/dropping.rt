@@ -2,7 +2,7 @@
 ghost use Rattle.std.specs.Prelude.{◌≡◌, ◌<◌, false, filter, length, map, not, remove};
 ghost use Rattle.defs_match.specs.Rules.{rule_seen};
 ghost use Rattle.defs_run.specs.Carrying.{is_named};
-ghost use Rattle.wave_parts.specs.Firables.{AreNumbered};
+ghost use Rattle.pending_work.specs.Firables.{AreNumbered};
 
 use defs_match::{Matcher, Rule};
 use soar_sym::{List, Sym, is_symbol};

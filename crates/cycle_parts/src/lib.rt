@@ -10,12 +10,14 @@ mod input_phase;
 mod inputs;
 mod loading;
 mod output_phase;
+mod pushing;
 mod queues;
 mod selecting;
 mod settling;
 mod taking;
 mod telling;
 mod triples;
+mod walking;
 mod waving;
 
 pub use engine::Engine;

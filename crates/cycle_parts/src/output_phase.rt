@@ -33,7 +33,7 @@ impl<M: Matcher> Engine<M> {
         ensures sound { OnOk result (IsSound self.new.parts) }
         ensures bond { OnOk result (Bond (M.rules self.new.matcher) (M.elements self.new.matcher) (M.failed self.new.matcher) self.new.parts) }
     {
-        let now = output_of(alloc, &self.parts.memory, &self.parts.goals)?;
+        let now = output_of(alloc, &self.parts.memory, self.parts.goals.list())?;
         let changes = output_changes(alloc, &self.parts.table, &self.parts.output, &now)?;
         say_output(
             &self.parts.table,

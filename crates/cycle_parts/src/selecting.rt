@@ -1,115 +1,103 @@
-// What the top goal comes to in a decision, and what that changes.
-ghost use Rattle.std.specs.Prelude.{◌≡◌, ◌∷◌, [], IfOk, OnOk};
-ghost use Rattle.soar_decide.specs.Outcomes.{outcome_seen};
-ghost use Rattle.soar_settle.specs.Known.{AreElementsKnown};
-ghost use Rattle.trace_lines.specs.Saying.{SaysLines};
-ghost use Rattle.cycle_parts.specs.Deciding.{IsOutcomeKnown, IsSaidKnown, line_by, line_said, outcome_in, parts_after};
-ghost use Rattle.wave_parts.specs.Seen.{IsSound, top_with};
+// What follows the walk of a decision: a selection, a substate, or a halt at the limit of goals.
+ghost use Rattle.std.specs.Prelude.{◌≡◌, ◌<◌, Some, false, true, length, IfOk, OnOk};
+ghost use Rattle.soar_goals.specs.Known.{AreItemsKnown};
+ghost use Rattle.defs_soar.specs.Agents.{Agent as AgentOf};
+ghost use Rattle.soar_sym.specs.Words.{IsKnown};
+ghost use Rattle.cycle_parts.specs.Bonds.{Bond};
+ghost use Rattle.cycle_parts.specs.Deciding.{limit_step, selection_step, substate_step};
+ghost use Rattle.cycle_parts.specs.Stepping.{GoesStep};
+ghost use Rattle.wave_parts.specs.Seen.{IsSound};
+ghost use Rattle.wave_parts.specs.Stands.{Stands};
 
-use defs_soar::{Goal, Impasse, Mode, Selection};
+use crate::engine::Engine;
+use crate::pushing::push_goal;
+use defs_match::Matcher;
+use defs_soar::{Impasse, Item};
 use input_queue::drop_word;
-use row_laws::rows_fit_decisions;
-use soar_decide::{Outcome, View, decide};
-use soar_sym::{List, NoMemory, Sym, SymTable, Text};
+use soar_sym::{List, Sym, Text};
 use std::alloc::Global;
-use trace_lines::{Selected, operator_name, say_selection};
-use wave_parts::Parts;
+use trace_lines::{NewGoal, Selected, operator_name, say_goal_limit, say_selection, say_substate};
+use wave_parts::Stop;
 
-/// The top state.
-const TOP: Sym = Sym::Ident {
-    letter: b'S',
-    number: 1,
-};
-
-/// What the top goal comes to.
-pub fn outcome_at_top(alloc: Global, parts: &Parts) -> Result<Outcome, NoMemory>
-    requires sound { IsSound parts.now }
-    ensures outcome { IfOk result (λ outcome. outcome_seen outcome ≡ outcome_in parts.now) }
-    ensures known { IfOk result (λ outcome. IsOutcomeKnown parts.now.table (outcome_seen outcome)) }
-{
-    rows_fit_decisions();
-    let view = View {
-        alloc,
-        table: &parts.table,
-        prefs: &parts.prefs,
-        memory: &parts.memory,
-        mode: Mode::Softmax,
-        random: parts.random.as_slice(),
-    };
-    match parts.goals.get(0) {
-        Some(goal) => decide(&view, goal),
-        None => unreachable!(),
+impl<M: Matcher> Engine<M> {
+    /// Settles once the last goal has an operator selected, and tells it by the name that it had before.
+    pub fn select(
+        &mut self,
+        alloc: Global,
+        operator: Sym,
+        takes_word: bool,
+        out: &mut Text,
+        mid_line: &mut bool,
+    ) -> Result<bool, Stop>
+        requires sound { IsSound self.old.parts }
+        requires bond { Bond (M.rules self.old.matcher) (M.elements self.old.matcher) (M.failed self.old.matcher) self.old.parts }
+        requires known { IsKnown self.old.parts.table operator }
+        ensures step { (s : AgentOf) → Stands self.old.parts s → GoesStep mid_line.old (selection_step s (Some operator) takes_word) self.new.parts mid_line.new out.old out.new result }
+        ensures limit { IfOk result (λ halted. halted ≡ false) }
+        ensures sound { OnOk result (IsSound self.new.parts) }
+        ensures bond { OnOk result (Bond (M.rules self.new.matcher) (M.elements self.new.matcher) (M.failed self.new.matcher) self.new.parts) }
+    {
+        let name = operator_name(alloc, &self.parts.table, &self.parts.memory, operator)?;
+        let selected = Selected {
+            cycle: self.parts.cycles,
+            below: self.parts.goals.list().len() - 1,
+            operator,
+            name,
+        };
+        drop_word(&mut self.parts.random, takes_word);
+        self.resettle(alloc)?;
+        say_selection(&self.parts.table, &selected, out, mid_line)?;
+        Ok(false)
     }
-}
 
-/// What is said of an outcome: the operator that is selected, with its name as it is before anything settles.
-pub fn selected_by(
-    alloc: Global,
-    parts: &Parts,
-    outcome: &Outcome,
-) -> Result<Option<Selected>, NoMemory>
-    requires elements { AreElementsKnown parts.now.table parts.now.memory.elements }
-    requires operator { IsOutcomeKnown parts.now.table (outcome_seen outcome.now) }
-    ensures line { IfOk result (λ said. line_said said ≡ line_by parts.now (outcome_seen outcome.now)) }
-    ensures known { IfOk result (λ said. IsSaidKnown parts.now.table said) }
-{
-    match outcome {
-        Outcome::Selects { selection, .. } => {
-            let operator = selection.operator;
-            let name = operator_name(alloc, &parts.table, &parts.memory, operator)?;
-            Ok(Some(Selected {
-                cycle: parts.cycles,
-                below: 0,
-                operator,
-                name,
-            }))
-        }
-        Outcome::Stays | Outcome::Impasse { .. } => Ok(None),
+    /// Makes a substate below the last goal, and tells it.
+    pub fn make_substate(
+        &mut self,
+        alloc: Global,
+        why: Impasse,
+        items: List<Item>,
+        out: &mut Text,
+        mid_line: &mut bool,
+    ) -> Result<bool, Stop>
+        requires sound { IsSound self.old.parts }
+        requires bond { Bond (M.rules self.old.matcher) (M.elements self.old.matcher) (M.failed self.old.matcher) self.old.parts }
+        requires room { length self.old.parts.goals < 100 }
+        requires known { AreItemsKnown self.old.parts.table items }
+        ensures step { (s : AgentOf) → Stands self.old.parts s → GoesStep mid_line.old (substate_step s why items) self.new.parts mid_line.new out.old out.new result }
+        ensures limit { IfOk result (λ halted. halted ≡ false) }
+        ensures sound { OnOk result (IsSound self.new.parts) }
+        ensures bond { OnOk result (Bond (M.rules self.new.matcher) (M.elements self.new.matcher) (M.failed self.new.matcher) self.new.parts) }
+    {
+        let below = self.parts.goals.list().len();
+        let goal = push_goal(alloc, &mut self.parts, why, items)?;
+        self.resettle(alloc)?;
+        let made = NewGoal {
+            cycle: self.parts.cycles,
+            below,
+            goal,
+            impasse: why,
+        };
+        say_substate(&self.parts.table, &made, out, mid_line)?;
+        Ok(false)
     }
-}
 
-/// Appends the line of a selection, where there is one.
-pub fn say_selected(
-    table: &SymTable,
-    selected: &Option<Selected>,
-    out: &mut Text,
-    mid_line: &mut bool,
-) -> Result<(), NoMemory>
-    requires { IsSaidKnown table.now selected.now }
-    ensures { OnOk result (SaysLines table.now (line_said selected.now) mid_line.old out.old mid_line.new out.new) }
-{
-    match selected {
-        Some(selected) => say_selection(table, selected, out, mid_line),
-        None => Ok(()),
-    }
-}
-
-/// Makes an outcome the selection of the top goal. A draw takes a random word.
-pub fn take_outcome(alloc: Global, parts: &mut Parts, outcome: &Outcome)
-    requires { IsSound parts.old }
-    ensures { parts.new ≡ parts_after parts.old (outcome_seen outcome.now) }
-{
-    match outcome {
-        Outcome::Stays => {}
-        Outcome::Selects {
-            selection,
-            takes_word,
-        } => {
-            parts.goals.set(0, top_with(alloc, Some(*selection)));
-            drop_word(&mut parts.random, *takes_word);
-        }
-        Outcome::Impasse { .. } => parts.goals.set(0, top_with(alloc, None)),
-    }
-}
-
-/// The top state with what is selected there.
-fn top_with(alloc: Global, selected: Option<Selection>) -> Goal
-    ensures { result ≡ top_with selected }
-{
-    Goal {
-        id: TOP,
-        impasse: Impasse::Top,
-        items: List::new(alloc),
-        selected,
+    /// Settles, and halts since a goal too many would be due.
+    pub fn halt_at_limit(
+        &mut self,
+        alloc: Global,
+        out: &mut Text,
+        mid_line: &mut bool,
+    ) -> Result<bool, Stop>
+        requires sound { IsSound self.old.parts }
+        requires bond { Bond (M.rules self.old.matcher) (M.elements self.old.matcher) (M.failed self.old.matcher) self.old.parts }
+        ensures step { (s : AgentOf) → Stands self.old.parts s → GoesStep mid_line.old (limit_step s) self.new.parts mid_line.new out.old out.new result }
+        ensures limit { IfOk result (λ halted. halted ≡ true) }
+        ensures sound { OnOk result (IsSound self.new.parts) }
+        ensures bond { OnOk result (Bond (M.rules self.new.matcher) (M.elements self.new.matcher) (M.failed self.new.matcher) self.new.parts) }
+    {
+        self.resettle(alloc)?;
+        self.parts.halted = true;
+        say_goal_limit(out, mid_line)?;
+        Ok(true)
     }
 }

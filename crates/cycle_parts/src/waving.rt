@@ -7,8 +7,9 @@ ghost use Rattle.defs_soar.specs.Trace.{is_mid_after};
 ghost use Rattle.soar_settle.specs.Known.{AreInstancesKnown};
 ghost use Rattle.cycle_parts.specs.Bonds.{Bond};
 ghost use Rattle.cycle_parts.specs.Waving.{TellsWork, WavesFrom, is_proposing, waved_by};
-ghost use Rattle.wave_parts.specs.Carrying.{CarriesOut, is_nothing};
-ghost use Rattle.wave_parts.specs.Firables.{AreBound, IsPending};
+ghost use Rattle.pending_work.specs.Working.{is_nothing};
+ghost use Rattle.wave_parts.specs.Carrying.{CarriesOut};
+ghost use Rattle.pending_work.specs.Firables.{AreBound, IsPending};
 ghost use Rattle.wave_parts.specs.Seen.{IsSound, pending_of};
 ghost use Rattle.wave_parts.specs.Stands.{Stands};
 

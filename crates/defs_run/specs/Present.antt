@@ -1,4 +1,4 @@
--- The present stage: the commands that are built, what is read of them, and that a run makes no substates and learns nothing.
+-- The present stage: the commands that are built, what is read of them, and that a run learns nothing.
 use Rattle.std.specs.Prelude.{ℕ, false, List, map, drop, Option, Some, None, option_and_then, Result, Ok, Err, if◌then◌else◌, codes}
 use Rattle.std.specs.Str.{bytes_eq}
 use Rattle.soar_sym.specs.Words.{Texts}
@@ -7,7 +7,7 @@ use Rattle.soar_edge.specs.declared.filed.Filed.{Filed}
 use Rattle.defs_text.specs.Lexing.{lexed, Spelled}
 use Rattle.defs_soar.specs.Agents.{Agent}
 use Rattle.defs_soar.specs.Cycle.{run}
-use Rattle.defs_soar.specs.Decision.{decided_alone}
+use Rattle.defs_soar.specs.Decision.{decided_by}
 use Rattle.defs_soar.specs.Learning.{without_learning}
 use Rattle.defs_soar.specs.Phases.{Course}
 use Rattle.defs_run.specs.Arguments.{Argument, argument_in}
@@ -68,10 +68,10 @@ read_present words text =
     else if bytes_eq (first_run text) (codes "random") then read_random words text
     else read_by words text (form_of (first_run text))
 
--- ---- running: without substates and without learning
+-- ---- running: without learning
 
 abbrev pub run_present : ℕ → Agent → Course
-run_present = run decided_alone without_learning
+run_present = run decided_by without_learning
 
 -- ---- the stage
 

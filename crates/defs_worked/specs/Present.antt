@@ -12,7 +12,8 @@ WritesNow input text answer = present_transcript [] [] input ≡ record { text =
 abbrev pub MadeAndGone : Type 0
 MadeAndGone =
     WritesNow (codes "sp {p (state <s> ^a <x>) --> (<s> ^b <x>)}\nadd-wme S1 ^a 1\nrun 1\nprint S1\nremove-wme 6\nrun 1\nprint S1\n")
-    (codes "3: (S1 ^io I1)\n4: (S1 ^superstate nil)\n5: (S1 ^type state)\n6: (S1 ^a 1)\n7: (S1 ^b 1)\n3: (S1 ^io I1)\n4: (S1 ^superstate nil)\n5: (S1 ^type state)\n") status.Done
+    (codes "1:   ==>S: S2 (state no-change)\n3: (S1 ^io I1)\n4: (S1 ^superstate nil)\n5: (S1 ^type state)\n6: (S1 ^a 1)\n7: (S1 ^b 1)\n2:     ==>S: S3 (state no-change)\n3: (S1 ^io I1)\n4: (S1 ^superstate nil)\n5: (S1 ^type state)\n")
+    status.Done
 
 -- what is not built yet, and elements that are not there or no inputs
 abbrev pub NotBuiltYet : Type 0
@@ -102,12 +103,12 @@ abbrev pub CountedNow : Type 0
 CountedNow =
     WritesNow
     (codes "sp {init :o-support (state <s> ^superstate nil) --> (<s> ^n 0)}\nsp {count*propose (state <s> ^superstate nil ^n <x>) --> (<s> ^operator <o> +) (<o> ^name count ^from <x>)}\nsp {count*apply (state <s> ^operator <o> ^n <x>) (<o> ^name count ^from <x>) --> (<s> ^n <x> - (+ <x> 1))}\nrun 4\nprint S1\n")
-    (codes "2: O: O1 (count)\n3: O: O2 (count)\n4: O: O3 (count)\n3: (S1 ^io I1)\n4: (S1 ^superstate nil)\n5: (S1 ^type state)\n20: (S1 ^operator O3)\n21: (S1 ^n 3)\n24: (S1 ^operator O4 +)\n")
+    (codes "1:   ==>S: S2 (state no-change)\n2: O: O1 (count)\n3: O: O2 (count)\n4: O: O3 (count)\n3: (S1 ^io I1)\n4: (S1 ^superstate nil)\n5: (S1 ^type state)\n26: (S1 ^operator O3)\n27: (S1 ^n 3)\n30: (S1 ^operator O4 +)\n")
     status.Done
 
--- an impasse is not told
+-- what the output link shows is told after the substate
 abbrev pub ShownNow : Type 0
-ShownNow = WritesNow (codes "sp {o (state <s> ^superstate nil ^io.output-link <ol>) --> (<ol> ^say hi)}\nrun 1\n") (codes "out + (I3 ^say hi)\n") status.Done
+ShownNow = WritesNow (codes "sp {o (state <s> ^superstate nil ^io.output-link <ol>) --> (<ol> ^say hi)}\nrun 1\n") (codes "1:   ==>S: S2 (state no-change)\nout + (I3 ^say hi)\n") status.Done
 
 -- a text is ended before a line, and a halted agent does not run
 abbrev pub HaltedNow : Type 0
@@ -121,5 +122,37 @@ abbrev pub QueuedNow : Type 0
 QueuedNow =
     WritesNow
     (codes "input add S1 ^a <n>\ninput add <n> ^b 1\ninput remove <n> ^b 1\nprint S1\nrun 1\nprint S1\nprint <n>\ninput add S1 ^operator x\ninput add S1 ^a Q1\ninput add S1\nrandom\nrandom 18446744073709551615\nrandom 18446744073709551616\nrandom -1\n")
-    (codes "3: (S1 ^io I1)\n4: (S1 ^superstate nil)\n5: (S1 ^type state)\n3: (S1 ^io I1)\n4: (S1 ^superstate nil)\n5: (S1 ^type state)\n6: (S1 ^a N1)\nno elements\nerror 36 -:8: reserved attribute\nerror 31 -:9: unknown identifier Q1\nerror 18 -:10: not built\nerror 18 -:11: not built\nerror 14 -:13: number too wide at byte 7\nerror 18 -:14: not built\n")
+    (codes "3: (S1 ^io I1)\n4: (S1 ^superstate nil)\n5: (S1 ^type state)\n1:   ==>S: S2 (state no-change)\n3: (S1 ^io I1)\n4: (S1 ^superstate nil)\n5: (S1 ^type state)\n6: (S1 ^a N1)\nno elements\nerror 36 -:8: reserved attribute\nerror 31 -:9: unknown identifier Q1\nerror 18 -:10: not built\nerror 18 -:11: not built\nerror 14 -:13: number too wide at byte 7\nerror 18 -:14: not built\n")
     status.Refusals
+
+-- ---- impasses and substates
+
+-- each of two operators is better than the other, and both are items of the substate
+abbrev pub ConflictNow : Type 0
+ConflictNow =
+    WritesNow (codes "sp {prop (state <s> ^superstate nil ^cand <n>) --> (<s> ^operator <o> +) (<o> ^name <n>)}\nsp {cycle (state <s> ^operator <a> + ^operator <b> +) (<a> ^name x) (<b> ^name y) --> (<s> ^operator <a> > <b>) (<s> ^operator <b> > <a>)}\nadd-wme S1 ^cand x\nadd-wme S1 ^cand y\nrun 1\nprint S2\n")
+    (codes "1:   ==>S: S2 (conflict)\n12: (S2 ^attribute operator)\n13: (S2 ^choices multiple)\n14: (S2 ^impasse conflict)\n15: (S2 ^item O1)\n16: (S2 ^item O2)\n17: (S2 ^quiescence t)\n18: (S2 ^superstate S1)\n19: (S2 ^type state)\n") status.Done
+
+-- an operator that is required and prohibited
+abbrev pub ConstraintNow : Type 0
+ConstraintNow =
+    WritesNow (codes "sp {c (state <s> ^superstate nil) --> (<s> ^operator <o> + ! ~)}\nrun 1\n")
+    (codes "1:   ==>S: S2 (constraint-failure)\n") status.Done
+
+-- the selected operator stays, and nothing came of it
+abbrev pub KeptNow : Type 0
+KeptNow =
+    WritesNow (codes "sp {wait (state <s> ^superstate nil) --> (<s> ^operator <o> +) (<o> ^name wait)}\nrun 2\nprint S2\n")
+    (codes "1: O: O1 (wait)\n2:   ==>S: S2 (operator no-change)\n9: (S2 ^attribute operator)\n10: (S2 ^choices none)\n11: (S2 ^impasse no-change)\n12: (S2 ^quiescence t)\n13: (S2 ^superstate S1)\n14: (S2 ^type state)\n") status.Done
+
+-- a tie gets a further item by input: its substate stays, and so does the one below
+abbrev pub TieRenewedNow : Type 0
+TieRenewedNow =
+    WritesNow (codes "sp {prop (state <s> ^superstate nil ^cand <n>) --> (<s> ^operator <o> +) (<o> ^name <n>)}\nadd-wme S1 ^cand x\nadd-wme S1 ^cand y\nrun 1\ninput add S1 ^cand z\nrun 1\nprint S2\n")
+    (codes "1:   ==>S: S2 (tie)\n2:     ==>S: S3 (state no-change)\n12: (S2 ^attribute operator)\n13: (S2 ^choices multiple)\n14: (S2 ^impasse tie)\n15: (S2 ^item O1)\n16: (S2 ^item O2)\n18: (S2 ^non-numeric O1)\n19: (S2 ^non-numeric O2)\n21: (S2 ^quiescence t)\n22: (S2 ^superstate S1)\n23: (S2 ^type state)\n27: (S2 ^item O3)\n28: (S2 ^item-count 3)\n29: (S2 ^non-numeric O3)\n30: (S2 ^non-numeric-count 3)\n") status.Done
+
+-- two substates go with an element on which the higher one depends
+abbrev pub DependencyGoneNow : Type 0
+DependencyGoneNow =
+    WritesNow (codes "sp {sub*propose (state <s> ^superstate <ss>) (<ss> ^flag on) --> (<s> ^operator <o> +) (<o> ^name note)}\nsp {sub*apply (state <s> ^operator <o>) (<o> ^name note) --> (<s> ^noted yes)}\nadd-wme S1 ^flag on\nrun 3\ninput remove S1 ^flag on\nrun 1\n")
+    (codes "1:   ==>S: S2 (state no-change)\n2:   O: O1 (note)\n3:     ==>S: S3 (operator no-change)\n4:   ==>S: S4 (state no-change)\n") status.Done

@@ -105,4 +105,9 @@ pub fn worked_present()
     ensures shown { present.ShownNow }
     ensures halted { present.HaltedNow }
     ensures queued { present.QueuedNow }
+    ensures conflict { present.ConflictNow }
+    ensures constraint { present.ConstraintNow }
+    ensures kept { present.KeptNow }
+    ensures tie_renewed { present.TieRenewedNow }
+    ensures dependency_gone { present.DependencyGoneNow }
 {}

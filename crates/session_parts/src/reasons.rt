@@ -23,6 +23,7 @@ pub enum Reason<'a> {
     AlreadyThere(u32),
     ReservedAttribute,
     Halted,
+    NotOfTheTopState,
 }
 
 /// The number of a refusal.
@@ -39,6 +40,7 @@ pub fn number_of(reason: &Reason<'_>) -> u32
         Reason::AlreadyThere(_) => 35,
         Reason::ReservedAttribute => 36,
         Reason::Halted => 37,
+        Reason::NotOfTheTopState => 38,
     }
 }
 
@@ -57,6 +59,7 @@ pub fn text_of(alloc: Global, table: &SymTable, reason: &Reason<'_>) -> Result<T
         Reason::AlreadyThere(tag) => with_number(alloc, "already there as ", u64::from(tag)),
         Reason::ReservedAttribute => Ok(Text::from_str(alloc, "reserved attribute")?),
         Reason::Halted => Ok(Text::from_str(alloc, "halted")?),
+        Reason::NotOfTheTopState => Ok(Text::from_str(alloc, "not of the top state")?),
     }
 }
 

@@ -1,10 +1,10 @@
-// Identifiers of commands that there are not, or that no goal reaches.
+// Identifiers of commands that there are not, or that no goal reaches, and of which level they are.
 ghost use Rattle.std.specs.Prelude.{◌≡◌, Some, None, IfOk, map, if◌then◌else◌};
 ghost use Rattle.soar_sym.specs.Words.{IsKnown};
 ghost use Rattle.soar_wm.specs.WorkingMemory.{tag_of, triple_of};
 ghost use Rattle.defs_text.specs.Symbols.{symbol_text};
 ghost use Rattle.defs_soar.specs.Goals.{plain_triple};
-ghost use Rattle.defs_run.specs.Inputs.{first_unknown, unreached_in, unreached_symbol};
+ghost use Rattle.defs_run.specs.Inputs.{first_unknown, is_top_level, unreached_in, unreached_symbol};
 ghost use Rattle.defs_run.specs.Sessions.{Session, bracketed, unknown_in};
 ghost use Rattle.soar_levels.specs.Told.{TellsLevels};
 ghost use Rattle.soar_cmd.specs.Asked.{operand_seen};
@@ -101,6 +101,17 @@ impl Lookup<'_> {
             Ok(None)
         } else {
             Ok(Some(symbol_text(self.alloc, self.table, symbol)?))
+        }
+    }
+
+    /// Whether a symbol is an identifier of the first level.
+    pub fn is_top_level(&self, symbol: Sym) -> Result<bool, NoMemory>
+        ensures { (s : Session) → IfOk result (λ is_top. is_top ≡ is_top_level (session_with self.now s) symbol) }
+    {
+        let levels = self.levels()?;
+        match levels.level_of(symbol) {
+            Some(level) => Ok(level == 1),
+            None => Ok(false),
         }
     }
 

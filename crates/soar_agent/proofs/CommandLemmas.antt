@@ -1,5 +1,5 @@
 -- The words of a command join the table before it is carried out, and what was said is appended.
-use Rattle.std.proofs.Common.{◌≡◌, ℕ, ◌-◌, ◌^◌, ◌<◌, Bool, true, false, List, [], ◌∷◌, ◌++◌, length, Result, Ok, Err, sym, ap, subst, ◌∙◌, append-nil}
+use Rattle.std.proofs.Common.{◌≡◌, ℕ, ◌-◌, ◌^◌, ◌<◌, Bool, true, false, List, [], ◌∷◌, ◌++◌, length, Result, Ok, Err, IfOk, sym, ap, subst, ◌∙◌, append-nil}
 use Rattle.soar_sym.specs.Words.{Texts}
 use Rattle.defs_soar.specs.declared.limit.Which.TheVariants as which
 use Rattle.defs_soar.specs.History.{RecordedFiring}
@@ -40,7 +40,7 @@ outcomes_same : {M : Type 0} (mid : Bool) (first second : Reply) (new : SessionK
 outcomes_same mid first second new before after (Ok outcome.Done) same o = obeys_same mid first second new before after (Ok false) same o
 outcomes_same mid first second new before after (Ok outcome.Refused) same o = obeys_same mid first second new before after (Ok true) same o
 outcomes_same mid first second new before after (Ok (outcome.Run count)) same o =
-    record { history = o.history; comes = same_then first second _ same o.comes; text = o.text; mid_line = o.mid_line; kept = o.kept }
+    record { history = o.history; remembers = o.remembers; comes = same_then first second _ same o.comes; text = o.text; mid_line = o.mid_line; kept = o.kept }
 outcomes_same mid first second new before after (Err why) same o = obeys_same mid first second new before after (Err why) same o
 
 outcomes_by : {M : Type 0} (mid : Bool) (reply : Reply) (new : SessionKept M) (before after : List ℕ) (answer : Result Bool Stop) → Obeys mid reply new before after answer
@@ -54,16 +54,20 @@ pub comes_as : {M : Type 0} (mid : Bool) (reply : Reply) (new : SessionKept M) (
     → Obeys mid reply new before after answer → Outcomes mid reply new before after result
 comes_as mid reply new before after answer result is obeys = subst (λ (r : Result Outcome Stop). Outcomes mid reply new before after r) (sym is) (outcomes_by mid reply new before after answer obeys)
 
-pub outcome_ready : {M : Type 0} (mid : Bool) (reply : Reply) (new : SessionKept M) (before after : List ℕ) (answer : Outcome) → Outcomes mid reply new before after (Ok answer) → IsReady new.agent
-outcome_ready mid reply new before after outcome.Done o = o.kept
-outcome_ready mid reply new before after outcome.Refused o = o.kept
-outcome_ready mid reply new before after (outcome.Run count) o = o.kept
+pub outcome_ready : {M : Type 0} (new : SessionKept M) (answer : Result Bool Stop) (result : Result Outcome Stop) → result ≡ outcome_by answer → IfOk answer (λ _. IsReady new.agent)
+    → IfOk result (λ _. IsReady new.agent)
+outcome_ready new answer result is ready = subst (λ (r : Result Outcome Stop). IfOk r (λ _. IsReady new.agent)) (sym is) (by answer ready)
+  where
+    by : (a : Result Bool Stop) → IfOk a (λ _. IsReady new.agent) → IfOk (outcome_by a) (λ _. IsReady new.agent)
+    by (Ok true) h = h
+    by (Ok false) h = h
+    by (Err why) h = tt
 
 -- an order that asks for no cycles
 pub carries_as : {M : Type 0} (old new : SessionKept M) (from : List ℕ) (line : ℕ) (carried : Session → Carried) (before after : List ℕ) (answer : Result Bool Stop) (result : Result Outcome Stop)
     → result ≡ outcome_by answer → Carries old new from line carried before after answer → CarriesOut old new from line carried before after result
-carries_as old new from line carried before after answer result is carries = λ history.
-    comes_as old.agent.mid_line (replied_by from line (session_of old history) (carried (session_of old history))) new before after answer result is (carries history)
+carries_as old new from line carried before after answer result is carries = λ history remembers.
+    comes_as old.agent.mid_line (replied_by from line (session_of old history) (carried (session_of old history))) new before after answer result is (carries history remembers)
 
 -- ---- what was read, carried out
 
@@ -93,6 +97,7 @@ pub said_outcome : {M : Type 0} (mid : Bool) (reply : Reply) (new : SessionKept 
     → Outcomes mid reply new first piece (Ok answer) → after ≡ before ++ piece → Outcomes mid reply new before after (Ok answer)
 said_outcome mid reply new first piece before after outcome.Done none o appended = record {
   history = o.history;
+  remembers = o.remembers;
   session = o.session;
   within = o.within;
   text = appended ∙ ap (λ t. before ++ t) (o.text ∙ ap (λ t. t ++ (written_of mid reply).text) none);
@@ -101,6 +106,7 @@ said_outcome mid reply new first piece before after outcome.Done none o appended
 }
 said_outcome mid reply new first piece before after outcome.Refused none o appended = record {
   history = o.history;
+  remembers = o.remembers;
   session = o.session;
   within = o.within;
   text = appended ∙ ap (λ t. before ++ t) (o.text ∙ ap (λ t. t ++ (written_of mid reply).text) none);
@@ -108,13 +114,14 @@ said_outcome mid reply new first piece before after outcome.Refused none o appen
   kept = o.kept;
 }
 said_outcome mid reply new first piece before after (outcome.Run count) none o appended =
-    record { history = o.history; comes = o.comes; text = appended ∙ (ap (λ t. before ++ t) (o.text ∙ none) ∙ append-nil before); mid_line = o.mid_line; kept = o.kept }
+    record { history = o.history; remembers = o.remembers; comes = o.comes; text = appended ∙ (ap (λ t. before ++ t) (o.text ∙ none) ∙ append-nil before); mid_line = o.mid_line; kept = o.kept }
 
 -- a command that is refused, as its reply says
 pub refused_said : {M : Type 0} (mid : Bool) (reply : Reply) (new : SessionKept M) (first piece before after : List ℕ) (answer : Bool) → first ≡ []
     → Obeys mid reply new first piece (Ok answer) → after ≡ before ++ piece → (reply.refused ≡ true) → Outcomes mid reply new before after (Ok outcome.Refused)
 refused_said mid reply new first piece before after answer none o appended refused = record {
   history = o.history;
+  remembers = o.remembers;
   session = o.session;
   within = o.within;
   text = appended ∙ ap (λ t. before ++ t) (o.text ∙ ap (λ t. t ++ (written_of mid reply).text) none);
@@ -144,11 +151,11 @@ with_standing standing s = record s { standing = standing }
 outcome_left : {M : Type 0} (mid : Bool) (reply : Reply) (new : SessionKept M) (standing : Standing) (before after : List ℕ) (answer : Outcome) → Outcomes mid reply new before after (Ok answer)
     → Outcomes mid reply (with_standing standing new) before after (Ok answer)
 outcome_left mid reply new standing before after outcome.Done o =
-    record { history = o.history; session = o.session; within = o.within; text = o.text; refused = o.refused; kept = o.kept }
+    record { history = o.history; remembers = o.remembers; session = o.session; within = o.within; text = o.text; refused = o.refused; kept = o.kept }
 outcome_left mid reply new standing before after outcome.Refused o =
-    record { history = o.history; session = o.session; within = o.within; text = o.text; refused = o.refused; kept = o.kept }
+    record { history = o.history; remembers = o.remembers; session = o.session; within = o.within; text = o.text; refused = o.refused; kept = o.kept }
 outcome_left mid reply new standing before after (outcome.Run count) o =
-    record { history = o.history; comes = o.comes; text = o.text; mid_line = o.mid_line; kept = o.kept }
+    record { history = o.history; remembers = o.remembers; comes = o.comes; text = o.text; mid_line = o.mid_line; kept = o.kept }
 
 pub command_left : {M : Type 0} (s : Session) (reply : Reply) (new : SessionKept M) (standing : Standing) (before after : List ℕ) (result : Result Outcome Stop) → Commands s reply new before after result
     → Commands s reply (with_standing standing new) before after result

@@ -48,6 +48,7 @@ follows s new c history before after went same ready =
     let front : front_told watch s.agent.mid_line (map told_of c.steps) ≡ front_said s.agent.mid_line c.steps = front_of_steps s.agent.mid_line c.steps in
     record {
       history = c.agent.history;
+      remembers = went.stands.remembers;
       session = ap (λ (labels : List Label). record (session_of new c.agent.history) { labels = map label_seen labels }) same
           ∙ (ap (λ (a : Agent). record (session_of s history) { agent = a; mid_line = new.agent.mid_line }) (sym (state_is new.agent.parts c.agent went.stands))
           ∙ (ap (λ (mid : Bool). record (session_of s history) { agent = c.agent; mid_line = mid }) went.mid_line

@@ -3,7 +3,7 @@ use Rattle.std.proofs.Common.{◌≡◌, ℕ, ◌≤◌, Bool, List, [], ◌∷�
 use Rattle.std.specs.Prelude.{IsTrue}
 use Rattle.std.proofs.lemmas.Bool.Decides.{nat_tests}
 use Rattle.std.proofs.lemmas.List.{map-append}
-use Rattle.soar_sym.specs.Words.{Texts}
+use Rattle.soar_sym.specs.Words.{Texts, IsKnown}
 use Rattle.soar_sym.specs.declared.symbol.Sym.{Sym}
 use Rattle.soar_sym.specs.declared.symbol.Sym.TheVariants.{Ident}
 use Rattle.soar_wm.specs.WorkingMemory.{elements_of}
@@ -35,8 +35,8 @@ use Rattle.soar_agent.proofs.SessionLemmas.{obeys_same, drawn_same, drawn_stops}
 
 -- ---- a new label
 
-pub label_lettered : (letter : ℕ) (a : Agent) (new : PartsKept) (symbol : Sym) → 65 ≤ letter → letter ≤ 90 → GivesFresh letter a new (Ok symbol) → IsTrue (is_lettered symbol)
-label_lettered letter a new symbol low high gives = subst (λ (s : Sym). IsTrue (is_lettered s)) (sym gives.0) (grind (arith, nat_tests, low, high))
+pub known_lettered : (words : Texts) (letter number : ℕ) → IsKnown words (Ident letter number) → IsTrue (is_lettered (Ident letter number))
+known_lettered words letter number known = grind (arith, nat_tests, known.0, known.1)
 
 -- the session with another agent and other labels
 abbrev pub with_labels : {M : Type 0} → AgentSeen → List LabelKept → SessionKept M → SessionKept M
@@ -59,6 +59,7 @@ makes_label s b labels label letter name history first named are same gives =
       ap (λ agent. shape agent (map label_seen labels) b.mid_line) arrived
           ∙ (ap (λ others. shape step.agent others b.mid_line) more ∙ ap (λ mid. shape step.agent (map label_seen s.labels ++ one ∷ []) mid) same),
       at.1.within,
+      at.1.stands.remembers,
     )
 
 pub makes_none : {M : Type 0} (s new : SessionKept M) (letter : ℕ) (name : List ℕ) (history : List RecordedFiring) (why : Stop)

@@ -14,6 +14,7 @@ use Rattle.defs_run.specs.Orders.{Refusal, refusal_text}
 use Rattle.defs_run.specs.Sessions.{Reply, quiet, with_agent, as_lines, says, draws, refused_by}
 use Rattle.soar_settle.specs.declared.stop.Stop.{Stop}
 use Rattle.soar_settle.specs.declared.stop.Stop.TheVariants as stop
+use Rattle.wave_parts.specs.Remembers.{Remembers}
 use Rattle.wave_parts.specs.Seen.{Stepped, agent_of}
 use Rattle.wave_parts.specs.declared.parts.Parts.{Parts as PartsKept}
 use Rattle.wave_parts.proofs.StandsLemmas.{state_is}
@@ -35,10 +36,11 @@ with_kept b s = record s { agent = b }
 -- ---- lines
 
 lines_said : {M : Type 0} (s : SessionKept M) (b : AgentSeen) (lines : List (List ℕ)) (new_mid : Bool) (history : List RecordedFiring) (before after : List ℕ)
-    → IsReady s.agent → b ≡ record s.agent { mid_line = new_mid } → Says lines s.agent.mid_line before new_mid after
+    → Remembers s.agent.parts history → IsReady s.agent → b ≡ record s.agent { mid_line = new_mid } → Says lines s.agent.mid_line before new_mid after
     → Obeys s.agent.mid_line (says (session_of s history) lines) (with_kept b s) before after (Ok false)
-lines_said s b lines new_mid history before after ready is said = record {
+lines_said s b lines new_mid history before after remembers ready is said = record {
   history = history;
+  remembers = subst (λ (c : AgentSeen). Remembers c.parts history) (sym is) remembers;
   session = ap (λ (c : AgentSeen). session_of (with_kept c s) history) is ∙ ap (λ (mid : Bool). record (session_of s history) { mid_line = mid }) said.1;
   within = refl;
   text = said.0 ∙ ap (λ t. before ++ t) (sym (append-nil (rendered 1 s.agent.mid_line (as_lines lines)).text));
@@ -47,19 +49,20 @@ lines_said s b lines new_mid history before after ready is said = record {
 }
 
 pub says_lines : {M : Type 0} (s : SessionKept M) (b : AgentSeen) (spoken lines : List (List ℕ)) (mid new_mid : Bool) (history : List RecordedFiring) (before after : List ℕ)
-    → IsReady s.agent → b ≡ record s.agent { mid_line = new_mid } → spoken ≡ lines → mid ≡ s.agent.mid_line → Says spoken mid before new_mid after
+    → Remembers s.agent.parts history → IsReady s.agent → b ≡ record s.agent { mid_line = new_mid } → spoken ≡ lines → mid ≡ s.agent.mid_line → Says spoken mid before new_mid after
     → Obeys s.agent.mid_line (says (session_of s history) lines) (with_kept b s) before after (Ok false)
-says_lines s b spoken lines mid new_mid history before after ready is same ends said =
-    lines_said s b lines new_mid history before after ready is
+says_lines s b spoken lines mid new_mid history before after remembers ready is same ends said =
+    lines_said s b lines new_mid history before after remembers ready is
     (subst (λ (m : Bool). Says lines m before new_mid after) ends (subst (λ (l : List (List ℕ)). Says l mid before new_mid after) same said))
 
 pub refuses : {M : Type 0} (s : SessionKept M) (b : AgentSeen) (r : Refusal) (from : List ℕ) (line : ℕ) (history : List RecordedFiring) (before after : List ℕ)
-    → IsReady s.agent → b ≡ record s.agent { mid_line = false } → after ≡ before ++ line_text s.agent.mid_line (refusal_text r from line)
+    → Remembers s.agent.parts history → IsReady s.agent → b ≡ record s.agent { mid_line = false } → after ≡ before ++ line_text s.agent.mid_line (refusal_text r from line)
     → Obeys s.agent.mid_line (refused_by r from line (session_of s history)) (with_kept b s) before after (Ok true)
-refuses s b r from line history before after ready is text =
+refuses s b r from line history before after remembers ready is text =
     let text_of : List ℕ = line_text s.agent.mid_line (refusal_text r from line) in
     record {
       history = history;
+      remembers = subst (λ (c : AgentSeen). Remembers c.parts history) (sym is) remembers;
       session = ap (λ (c : AgentSeen). session_of (with_kept c s) history) is;
       within = refl;
       text = text ∙ ap (λ t. before ++ t) (sym (append-nil text_of) ∙ sym (append-nil (text_of ++ [])));
@@ -89,6 +92,7 @@ pub quiet_done : {M : Type 0} (s : SessionKept M) (b : AgentSeen) (to : Agent) (
     → Obeys s.agent.mid_line (quiet (with_agent (session_of s history) to)) (with_kept b s) said said (Ok false)
 quiet_done s b to totals history said ready same stepped = record {
   history = to.history;
+  remembers = stepped.stands.remembers;
   session = arrives s b (drawn to totals) history refl stepped same;
   within = refl;
   text = sym (append-nil said);
@@ -130,6 +134,7 @@ settles s b inputs history said ready same stepped =
     let front : front_told watch s.agent.mid_line (told_by old step ∷ []) ≡ nothing s.agent.mid_line = settling_front s.agent.mid_line old (held_with old inputs) in
     record {
       history = (halting step).history;
+      remembers = stepped.stands.remembers;
       session = arrives s b step history (settling_goes_on old (held_with old inputs)) stepped same
           ∙ ap (λ (w : Written). record (session_of s history) { agent = step.agent; mid_line = w.mid_line }) (sym front);
       within = ap (λ o. or_limit o None) stepped.within;

@@ -30,6 +30,7 @@ pub obeys_same : {M : Type 0} (mid : Bool) (first second : Reply) (new : Session
     → Obeys mid second new before after result → Obeys mid first new before after result
 obeys_same mid first second new before after (Ok answer) same r = record {
   history = r.history;
+  remembers = r.remembers;
   session = r.session
       ∙ sym (ap (λ (s : Session). record s { mid_line = (front_told watch mid first.told).mid_line }) same.session
       ∙ ap (λ (w : Written). record second.session { mid_line = w.mid_line }) (same.front mid));

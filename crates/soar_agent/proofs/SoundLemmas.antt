@@ -1,4 +1,4 @@
--- An agent stays sound when its table gains words, and words of what it holds.
+-- An agent stays sound and remembers when its table gains words, and words of what it holds.
 use Rattle.std.proofs.Common.{◌≡◌, ℕ, ◌==◌, ◌≤◌, Bool, true, false, cond, List, [], ◌∷◌, length, map, Some, subst, arith}
 use Rattle.soar_sym.specs.Words.{Texts}
 use Rattle.soar_sym.specs.declared.symbol.Sym.{Sym}
@@ -8,11 +8,13 @@ use Rattle.soar_wm.specs.WorkingMemory.{element_of, triple_of}
 use Rattle.defs_match.specs.Rules.{RuleOf, rule_seen}
 use Rattle.defs_soar.specs.declared.preference.Preference.{Preference}
 use Rattle.defs_soar.specs.Dependencies.{symbols_of_wish}
+use Rattle.defs_soar.specs.History.{RecordedFiring}
 use Rattle.soar_settle.specs.Known.{AreElementsKnown, AreRulesKnown, AreRowsKnown}
 use Rattle.input_queue.specs.Seen.{triple_queued}
 use Rattle.soar_cmd.proofs.WordLemmas.{symbol_stays}
+use Rattle.wave_parts.specs.Remembers.{Remembers}
 use Rattle.wave_parts.specs.Seen.{IsSound}
-use Rattle.wave_parts.proofs.GrownLemmas.{elements_grown, selection_grown, triples_grown}
+use Rattle.wave_parts.proofs.GrownLemmas.{elements_grown, goals_grown, triples_grown}
 use Rattle.cycle_parts.specs.Calls.{IsTripleKnown}
 use Rattle.soar_cycle.specs.Agents.{AgentSeen, with_table}
 use Rattle.soar_agent.specs.States.{IsReady}
@@ -36,14 +38,20 @@ ready_read a table more ready =
     let sound : IsSound a.parts = ready.1 in (
       ready.0,
       record {
-        selected = sound.selected;
-        one_goal = sound.one_goal;
+        goals_some = sound.goals_some;
+        goals_few = sound.goals_few;
+        goals_known = goals_grown a.parts.table table a.parts.letters a.parts.letters a.parts.goals more (λ letter. omega arith) sound.goals_known;
+        depends_fit = sound.depends_fit;
         element_limit = sound.element_limit;
         row_limit = sound.row_limit;
         few_rows = sound.few_rows;
         rows_in_range = sound.rows_in_range;
-        live_at_top = sound.live_at_top;
+        rows_of_firings = sound.rows_of_firings;
+        makers_of_firings = sound.makers_of_firings;
+        recorded_up_to = sound.recorded_up_to;
+        makers_earlier = sound.makers_earlier;
         first_words = omega (arith, more, sound.first_words);
+        top_numbered = sound.top_numbered;
         numbered = sound.numbered;
         numbers_given = sound.numbers_given;
         none_learned = sound.none_learned;
@@ -53,9 +61,12 @@ ready_read a table more ready =
         inputs_known = triples_grown a.parts.table table a.parts.inputs more sound.inputs_known;
         queue_known = triples_grown a.parts.table table (map triple_queued a.parts.queue) more sound.queue_known;
         output_known = triples_grown a.parts.table table a.parts.output more sound.output_known;
-        selection_known = selection_grown a.parts.table table sound.selected more sound.selection_known;
       },
     )
+
+-- what is remembered is in no word
+pub remembers_read : (a : AgentSeen) (table : Texts) (history : List RecordedFiring) → Remembers a.parts history → Remembers (with_table a table).parts history
+remembers_read a table history r = record { firings_are = r.firings_are; depends_are = r.depends_are; goals_numbered = r.goals_numbered }
 
 -- ---- the element of a tag
 

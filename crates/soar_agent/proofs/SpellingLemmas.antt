@@ -34,7 +34,7 @@ spells old one two new id attr value i a v history first second third =
     let next : Makes two q history (Ok a) = behind one two r attr history (Ok a) first.1 second in
     let last : Makes new p history (Ok v) = behind two new q value history (Ok v) next.1 third in
     let triple : plain_triple i a v ≡ plain_triple r.symbol q.symbol p.symbol = λ k. plain_triple (first.0 k) (next.0 k) (last.0 k) in
-    (triple, last.1, passed_behind r.totals (q.totals ++ p.totals) first.2 ∙ (passed_behind q.totals p.totals next.2 ∙ last.2))
+    (triple, last.1, passed_behind r.totals (q.totals ++ p.totals) first.2 ∙ (passed_behind q.totals p.totals next.2 ∙ last.2), last.3)
 
 pub id_none : {M : Type 0} (old new : SessionKept M) (id attr value : Operand) (history : List RecordedFiring) (why : Stop)
     → Makes new (resolved (session_of old history) id) history (Err why) → Spells new (spelled (session_of old history) id attr value) history (Err why)

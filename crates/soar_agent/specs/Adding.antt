@@ -1,11 +1,11 @@
 -- Adding an element, once its identifier and its attribute are symbols.
-use Rattle.std.specs.Prelude.{ℕ, List, [], ◌∷◌, ◌++◌, None, if◌then◌else◌}
+use Rattle.std.specs.Prelude.{ℕ, not, List, [], ◌∷◌, ◌++◌, None, if◌then◌else◌}
 use Rattle.soar_sym.specs.declared.symbol.Sym.{Sym}
 use Rattle.soar_sym.specs.declared.symbol.Triple.{Triple}
 use Rattle.soar_wm.specs.WorkingMemory.{tag_of}
 use Rattle.defs_soar.specs.Goals.{is_operator_slot, plain_triple}
-use Rattle.defs_run.specs.Inputs.{Carried, refuses, Spelled, unless_there, with_inputs}
-use Rattle.defs_run.specs.Orders.{Operand, reserved_attribute}
+use Rattle.defs_run.specs.Inputs.{Carried, refuses, Spelled, is_top_level, unless_there, with_inputs}
+use Rattle.defs_run.specs.Orders.{Operand, not_of_the_top_state, reserved_attribute}
 use Rattle.defs_run.specs.Sessions.{Session, Resolved, Reply, draws, labelled, resolved}
 
 -- the triple with a value, in the session in which that stands for a symbol
@@ -23,6 +23,10 @@ adds_by id attr value s = unless_twice (spelled_by id attr (resolved s value))
 -- the same where the attribute is not reserved
 abbrev pub adds_to : Sym → Sym → Operand → Session → Carried
 adds_to id attr value s = if is_operator_slot s.agent.holding.goals id attr then refuses reserved_attribute else adds_by id attr value s
+
+-- the same where the identifier is of the top level
+abbrev pub adds_at_top : Sym → Sym → Operand → Session → Carried
+adds_at_top id attr value s = if not (is_top_level s id) then refuses not_of_the_top_state else adds_to id attr value s
 
 -- the value is a label that is used for the first time
 abbrev pub adds_labelled : Sym → Sym → List ℕ → Session → Carried

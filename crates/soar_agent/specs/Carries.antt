@@ -6,14 +6,16 @@ use Rattle.defs_run.specs.Inputs.{Carried}
 use Rattle.defs_run.specs.Runs.{replied_by}
 use Rattle.defs_run.specs.Sessions.{Session, Reply}
 use Rattle.soar_settle.specs.declared.stop.Stop.{Stop}
+use Rattle.wave_parts.specs.Remembers.{Remembers}
 use Rattle.soar_cycle.specs.Agents.{with_table as agent_with_table}
 use Rattle.soar_agent.specs.States.{session_of}
 use Rattle.soar_agent.specs.Steps.{Obeys}
 use Rattle.soar_agent.specs.declared.state.Session.{Session as SessionKept}
 
--- what a command does in the session, as the reply to it says, with each history of firings
+-- what a command does in the session, as the reply to it says, with each history of firings that its parts remember
 abbrev pub Replies : {M : Type 0} → SessionKept M → SessionKept M → (Session → Reply) → List ℕ → List ℕ → Result Bool Stop → Type 0
-Replies old new reply before after result = (history : List RecordedFiring) → Obeys old.agent.mid_line (reply (session_of old history)) new before after result
+Replies old new reply before after result =
+    (history : List RecordedFiring) → Remembers old.agent.parts history → Obeys old.agent.mid_line (reply (session_of old history)) new before after result
 
 -- the same where nothing is said
 abbrev pub RepliesNothing : {M : Type 0} → SessionKept M → SessionKept M → (Session → Reply) → Result Bool Stop → Type 0

@@ -11,6 +11,7 @@ use Rattle.defs_run.specs.Runs.{replied_by}
 use Rattle.defs_run.specs.Sessions.{Session, Reply}
 use Rattle.soar_settle.specs.declared.stop.Stop.{Stop}
 use Rattle.soar_settle.specs.declared.stop.Stop.TheVariants as stop
+use Rattle.wave_parts.specs.Remembers.{Remembers}
 use Rattle.wave_parts.specs.Seen.{agent_of}
 use Rattle.cycle_parts.specs.Stepping.{watch}
 use Rattle.soar_cycle.specs.Agents.{AgentSeen}
@@ -35,6 +36,7 @@ pub record IsSame (first second : Reply) : Type 0 where
 -- nothing was appended, and what is still to do for the reply is so many cycles
 pub record AsksToRun {M : Type 0} (mid : Bool) (reply : Reply) (new : SessionKept M) (before after : List ℕ) (count : ℕ) : Type 0 where
   pub history : List RecordedFiring
+  pub remembers : Remembers new.agent.parts history
   pub comes : IsSame reply (followed (session_of new history) (run_present count (agent_of new.agent.parts history)))
   pub text : after ≡ before
   pub mid_line : new.agent.mid_line ≡ mid
@@ -55,7 +57,7 @@ outcome_by (Err why) = Err why
 
 -- an order of a command on the line of a number
 abbrev pub CarriesOut : {M : Type 0} → SessionKept M → SessionKept M → List ℕ → ℕ → (Session → Carried) → List ℕ → List ℕ → Result Outcome Stop → Type 0
-CarriesOut old new from line carried before after result = (history : List RecordedFiring) → let s = session_of old history in
+CarriesOut old new from line carried before after result = (history : List RecordedFiring) → Remembers old.agent.parts history → let s = session_of old history in
     Outcomes old.agent.mid_line (replied_by from line s (carried s)) new before after result
 
 -- at a limit the line of that is appended too, and nothing where there is no memory

@@ -6,6 +6,7 @@ use Rattle.defs_soar.specs.Trace.{Written}
 use Rattle.defs_run.specs.Sessions.{Reply}
 use Rattle.soar_settle.specs.declared.stop.Stop.{Stop}
 use Rattle.soar_settle.specs.declared.stop.Stop.TheVariants as stop
+use Rattle.wave_parts.specs.Remembers.{Remembers}
 use Rattle.cycle_parts.specs.Stepping.{watch}
 use Rattle.soar_agent.specs.States.{IsReady, session_of}
 use Rattle.soar_agent.specs.Telling.{limit_told, front_told}
@@ -18,6 +19,7 @@ written_of mid reply = front_told watch mid reply.told
 -- the step passed no limit, its lines were appended, and it was refused or not
 pub record Replied {M : Type 0} (mid : Bool) (reply : Reply) (new : SessionKept M) (before after : List ℕ) (answer : Bool) : Type 0 where
   pub history : List RecordedFiring
+  pub remembers : Remembers new.agent.parts history
   pub session : session_of new history ≡ record reply.session { mid_line = (written_of mid reply).mid_line }
   pub within : limit_told reply.told ≡ None
   pub text : after ≡ before ++ (written_of mid reply).text

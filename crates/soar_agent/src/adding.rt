@@ -1,5 +1,5 @@
 // Adding an element to the inputs.
-ghost use Rattle.std.specs.Prelude.{◌≡◌, true, None, List as ListOf};
+ghost use Rattle.std.specs.Prelude.{◌≡◌, true, None, List as ListOf, IfOk};
 ghost use Rattle.soar_sym.specs.Words.{IsKnown};
 ghost use Rattle.defs_soar.specs.History.{RecordedFiring};
 ghost use Rattle.defs_run.specs.Carrying.{carried_out};
@@ -9,7 +9,7 @@ ghost use Rattle.defs_run.specs.Present.{run_present};
 ghost use Rattle.soar_cmd.specs.Asked.{operand_seen};
 ghost use Rattle.soar_cmd.specs.Known.{IsAdditionKnown, IsOperandKnown};
 ghost use Rattle.cycle_parts.specs.Calls.{IsTripleKnown};
-ghost use Rattle.soar_agent.specs.Adding.{adds_by, adds_labelled, adds_to, adds_triple, makes_labelled};
+ghost use Rattle.soar_agent.specs.Adding.{adds_at_top, adds_by, adds_labelled, adds_to, adds_triple, makes_labelled};
 ghost use Rattle.soar_agent.specs.Carries.{Carries, RepliesNothing};
 ghost use Rattle.soar_agent.specs.States.{IsReady, session_of};
 
@@ -31,8 +31,9 @@ impl<M: Matcher> Session<M> {
     ) -> Result<bool, Stop>
         requires ready { IsReady self.old.agent }
         requires known { IsAdditionKnown self.old.agent.parts.table addition }
-        ensures { Carries self.old self.new origin.now.source.now origin.now.line
+        ensures reply { Carries self.old self.new origin.now.source.now origin.now.line
             (carried_out run_present (add_wme (operand_seen addition.id) (operand_seen addition.attr) (operand_seen addition.value))) out.old out.new result }
+        ensures ready { IfOk result (λ _. IsReady self.new.agent) }
     {
         match self.lookup(out.allocator()).first_unknown(true, &addition)? {
             Some(text) => self.refuse(origin, &Reason::UnknownIdentifier(text.as_str()), out),
@@ -51,12 +52,35 @@ impl<M: Matcher> Session<M> {
         requires known { IsAdditionKnown self.old.agent.parts.table addition }
         requires given { (history : ListOf RecordedFiring) →
             first_unknown true (session_of self.old history) (operand_seen addition.id) (operand_seen addition.attr) (operand_seen addition.value) ≡ None }
-        ensures { Carries self.old self.new origin.now.source.now origin.now.line
+        ensures reply { Carries self.old self.new origin.now.source.now origin.now.line
             (λ s. added (spelled s (operand_seen addition.id) (operand_seen addition.attr) (operand_seen addition.value))) out.old out.new result }
+        ensures ready { IfOk result (λ _. IsReady self.new.agent) }
     {
         let id = self.resolve(addition.id)?;
         let attr = self.resolve(addition.attr)?;
-        self.add_unless_reserved(origin, Slot { id, attr }, addition.value, out)
+        self.add_at_top(origin, Slot { id, attr }, addition.value, out)
+    }
+
+    /// Adds an element to an identifier, unless this is not of the top level.
+    fn add_at_top(
+        &mut self,
+        origin: &Origin<'_>,
+        slot: Slot,
+        value: Operand,
+        out: &mut Text,
+    ) -> Result<bool, Stop>
+        requires ready { IsReady self.old.agent }
+        requires id { IsKnown self.old.agent.parts.table slot.id }
+        requires attr { IsKnown self.old.agent.parts.table slot.attr }
+        requires value { IsOperandKnown self.old.agent.parts.table value }
+        ensures reply { Carries self.old self.new origin.now.source.now origin.now.line (adds_at_top slot.id slot.attr (operand_seen value)) out.old out.new result }
+        ensures ready { IfOk result (λ _. IsReady self.new.agent) }
+    {
+        if self.lookup(out.allocator()).is_top_level(slot.id)? {
+            self.add_unless_reserved(origin, slot, value, out)
+        } else {
+            self.refuse(origin, &Reason::NotOfTheTopState, out)
+        }
     }
 
     /// Adds an element to an identifier of the top level, unless its attribute is reserved.
@@ -71,7 +95,8 @@ impl<M: Matcher> Session<M> {
         requires id { IsKnown self.old.agent.parts.table slot.id }
         requires attr { IsKnown self.old.agent.parts.table slot.attr }
         requires value { IsOperandKnown self.old.agent.parts.table value }
-        ensures { Carries self.old self.new origin.now.source.now origin.now.line (adds_to slot.id slot.attr (operand_seen value)) out.old out.new result }
+        ensures reply { Carries self.old self.new origin.now.source.now origin.now.line (adds_to slot.id slot.attr (operand_seen value)) out.old out.new result }
+        ensures ready { IfOk result (λ _. IsReady self.new.agent) }
     {
         if is_operator_slot(self.agent.goals().as_slice(), slot.id, slot.attr) {
             self.refuse(origin, &Reason::ReservedAttribute, out)
@@ -92,7 +117,8 @@ impl<M: Matcher> Session<M> {
         requires id { IsKnown self.old.agent.parts.table slot.id }
         requires attr { IsKnown self.old.agent.parts.table slot.attr }
         requires value { IsOperandKnown self.old.agent.parts.table value }
-        ensures { Carries self.old self.new origin.now.source.now origin.now.line (adds_by slot.id slot.attr (operand_seen value)) out.old out.new result }
+        ensures reply { Carries self.old self.new origin.now.source.now origin.now.line (adds_by slot.id slot.attr (operand_seen value)) out.old out.new result }
+        ensures ready { IfOk result (λ _. IsReady self.new.agent) }
     {
         match value {
             Operand::Symbol(value) => self.add_triple(origin, slot.with(value), out),
@@ -112,7 +138,8 @@ impl<M: Matcher> Session<M> {
     ) -> Result<bool, Stop>
         requires ready { IsReady self.old.agent }
         requires known { IsTripleKnown self.old.agent.parts.table triple }
-        ensures { Carries self.old self.new origin.now.source.now origin.now.line (adds_triple triple) out.old out.new result }
+        ensures reply { Carries self.old self.new origin.now.source.now origin.now.line (adds_triple triple) out.old out.new result }
+        ensures ready { IfOk result (λ _. IsReady self.new.agent) }
     {
         match self.agent.memory().find(triple) {
             Some(tag) => self.refuse(origin, &Reason::AlreadyThere(tag), out),
@@ -131,7 +158,8 @@ impl<M: Matcher> Session<M> {
         requires ready { IsReady self.old.agent }
         requires id { IsKnown self.old.agent.parts.table slot.id }
         requires attr { IsKnown self.old.agent.parts.table slot.attr }
-        ensures { Carries self.old self.new origin.now.source.now origin.now.line (adds_labelled slot.id slot.attr name) out.old out.new result }
+        ensures reply { Carries self.old self.new origin.now.source.now origin.now.line (adds_labelled slot.id slot.attr name) out.old out.new result }
+        ensures ready { IfOk result (λ _. IsReady self.new.agent) }
     {
         match self
             .lookup(out.allocator())
@@ -147,7 +175,8 @@ impl<M: Matcher> Session<M> {
         requires ready { IsReady self.old.agent }
         requires id { IsKnown self.old.agent.parts.table slot.id }
         requires attr { IsKnown self.old.agent.parts.table slot.attr }
-        ensures { RepliesNothing self.old self.new (makes_labelled slot.id slot.attr name) result }
+        ensures reply { RepliesNothing self.old self.new (makes_labelled slot.id slot.attr name) result }
+        ensures ready { IfOk result (λ _. IsReady self.new.agent) }
     {
         match self.make_label(name) {
             Ok(value) => self.change_inputs(true, slot.with(value)),

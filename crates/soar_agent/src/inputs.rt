@@ -1,4 +1,5 @@
 // The inputs of the agent.
+ghost use Rattle.std.specs.Prelude.{IfOk};
 ghost use Rattle.defs_run.specs.Inputs.{with_inputs};
 ghost use Rattle.cycle_parts.specs.Calls.{IsTripleKnown, with_input};
 ghost use Rattle.soar_agent.specs.Carries.{RepliesNothing};
@@ -14,7 +15,8 @@ impl<M: Matcher> Session<M> {
     pub fn change_inputs(&mut self, adds: bool, triple: Triple) -> Result<bool, Stop>
         requires ready { IsReady self.old.agent }
         requires known { IsTripleKnown self.old.agent.parts.table triple }
-        ensures { RepliesNothing self.old self.new (with_inputs (with_input adds triple self.old.agent.parts.inputs)) result }
+        ensures reply { RepliesNothing self.old self.new (with_inputs (with_input adds triple self.old.agent.parts.inputs)) result }
+        ensures ready { IfOk result (λ _. IsReady self.new.agent) }
     {
         match self.agent.input_now(adds, triple) {
             Ok(()) => Ok(false),

@@ -4,6 +4,7 @@ ghost use Rattle.soar_sym.specs.Words.{IsKnown};
 ghost use Rattle.soar_sym.specs.declared.symbol.Sym.{Sym as SymOf};
 ghost use Rattle.defs_run.specs.Sessions.{labelled, resolved};
 ghost use Rattle.defs_soar.specs.History.{RecordedFiring};
+ghost use Rattle.wave_parts.specs.Remembers.{Remembers};
 ghost use Rattle.soar_cmd.specs.Asked.{operand_seen};
 ghost use Rattle.soar_cmd.specs.Known.{IsOperandKnown};
 ghost use Rattle.session_parts.specs.Labels.{label_seen, symbol_in};
@@ -22,7 +23,7 @@ impl<M: Matcher> Session<M> {
     pub fn resolve(&mut self, operand: Operand) -> Result<Sym, Stop>
         requires ready { IsReady self.old.agent }
         requires known { IsOperandKnown self.old.agent.parts.table operand }
-        ensures symbol { (history : ListOf RecordedFiring) → Makes self.new (resolved (session_of self.old history) (operand_seen operand)) history result }
+        ensures symbol { (history : ListOf RecordedFiring) → Remembers self.old.agent.parts history → Makes self.new (resolved (session_of self.old history) (operand_seen operand)) history result }
         ensures known { IfOk result (λ symbol. IsKnown self.new.agent.parts.table symbol) }
         ensures standing { (symbol : SymOf) → symbol_in (map label_seen self.old.labels) (operand_seen operand) ≡ Some symbol → (result ≡ Ok symbol) × (self.new ≡ self.old) }
         ensures table { IfOk result (λ _. self.new.agent.parts.table ≡ self.old.agent.parts.table) }
@@ -41,7 +42,7 @@ impl<M: Matcher> Session<M> {
     /// Makes a label, which stands for the next identifier of its letter.
     pub fn make_label(&mut self, name: Text) -> Result<Sym, Stop>
         requires { IsReady self.old.agent }
-        ensures symbol { (history : ListOf RecordedFiring) → Makes self.new (labelled (session_of self.old history) name None) history result }
+        ensures symbol { (history : ListOf RecordedFiring) → Remembers self.old.agent.parts history → Makes self.new (labelled (session_of self.old history) name None) history result }
         ensures known { IfOk result (λ symbol. IsKnown self.new.agent.parts.table symbol) }
         ensures table { IfOk result (λ _. self.new.agent.parts.table ≡ self.old.agent.parts.table) }
         ensures ready { IfOk result (λ _. IsReady self.new.agent) }
@@ -49,10 +50,13 @@ impl<M: Matcher> Session<M> {
     {
         let letter = letter_from(name.as_str().as_bytes());
         match self.agent.fresh(letter) {
-            Ok(symbol) => {
+            Ok(Sym::Ident { letter, number }) => {
+                let symbol = Sym::Ident { letter, number };
                 self.labels.push(Label { name, symbol })?;
                 Ok(symbol)
             }
+            // an agent gives identifiers alone
+            Ok(_) => Err(Stop::NoMemory),
             Err(stop) => Err(stop),
         }
     }

@@ -1,4 +1,5 @@
 // Commands that look at the agent.
+ghost use Rattle.std.specs.Prelude.{IfOk};
 ghost use Rattle.soar_sym.specs.Words.{IsKnown};
 ghost use Rattle.soar_wm.specs.WorkingMemory.{elements_of};
 ghost use Rattle.defs_run.specs.Carrying.{carried_out, lists_elements};
@@ -22,7 +23,8 @@ impl<M: Matcher> Session<M> {
     /// Says the conflict set.
     pub fn list_matches(&mut self, out: &mut Text) -> Result<bool, Stop>
         requires { IsReady self.old.agent }
-        ensures { Replies self.old self.new (λ s. says s (conflict_lines s.agent)) out.old out.new result }
+        ensures reply { Replies self.old self.new (λ s. says s (conflict_lines s.agent)) out.old out.new result }
+        ensures ready { IfOk result (λ _. IsReady self.new.agent) }
     {
         // an agent that stands for a state meets no limit here
         let Ok(instances) = self.agent.conflict() else {
@@ -49,7 +51,8 @@ impl<M: Matcher> Session<M> {
     ) -> Result<bool, Stop>
         requires ready { IsReady self.old.agent }
         requires known { IsOperandKnown self.old.agent.parts.table id }
-        ensures { Carries self.old self.new origin.now.source.now origin.now.line (carried_out run_present (print_id (operand_seen id))) out.old out.new result }
+        ensures reply { Carries self.old self.new origin.now.source.now origin.now.line (carried_out run_present (print_id (operand_seen id))) out.old out.new result }
+        ensures ready { IfOk result (λ _. IsReady self.new.agent) }
     {
         match self.lookup(out.allocator()).unknown_in(&id)? {
             Some(text) => self.refuse(origin, &Reason::UnknownIdentifier(text.as_str()), out),
@@ -60,7 +63,8 @@ impl<M: Matcher> Session<M> {
     fn list_given(&mut self, id: Operand, out: &mut Text) -> Result<bool, Stop>
         requires ready { IsReady self.old.agent }
         requires known { IsOperandKnown self.old.agent.parts.table id }
-        ensures { Replies self.old self.new (λ s. lists_elements s (operand_seen id)) out.old out.new result }
+        ensures reply { Replies self.old self.new (λ s. lists_elements s (operand_seen id)) out.old out.new result }
+        ensures ready { IfOk result (λ _. IsReady self.new.agent) }
     {
         match self.resolve(id) {
             Ok(symbol) => self.list_symbol(symbol, out),
@@ -70,7 +74,8 @@ impl<M: Matcher> Session<M> {
 
     fn list_symbol(&mut self, id: Sym, out: &mut Text) -> Result<bool, Stop>
         requires { IsReady self.old.agent }
-        ensures { Replies self.old self.new (λ s. says s (element_lines s.agent.names.words (elements_of id s.agent.holding.elements))) out.old out.new result }
+        ensures reply { Replies self.old self.new (λ s. says s (element_lines s.agent.names.words (elements_of id s.agent.holding.elements))) out.old out.new result }
+        ensures ready { IfOk result (λ _. IsReady self.new.agent) }
     {
         let agent = &self.agent;
         let mut mid_line = agent.mid_line();
@@ -88,7 +93,8 @@ impl<M: Matcher> Session<M> {
     ) -> Result<bool, Stop>
         requires ready { IsReady self.old.agent }
         requires known { IsKnown self.old.agent.parts.table name }
-        ensures { Carries self.old self.new origin.now.source.now origin.now.line (carried_out run_present (print_name name)) out.old out.new result }
+        ensures reply { Carries self.old self.new origin.now.source.now origin.now.line (carried_out run_present (print_name name)) out.old out.new result }
+        ensures ready { IfOk result (λ _. IsReady self.new.agent) }
     {
         match rule_named(self.agent.rules().as_slice(), name) {
             Some(rule) => {

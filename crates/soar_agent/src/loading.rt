@@ -1,5 +1,5 @@
 // Loading a production.
-ghost use Rattle.std.specs.Prelude.{◌≡◌, false, true};
+ghost use Rattle.std.specs.Prelude.{◌≡◌, false, true, IfOk};
 ghost use Rattle.soar_rule.specs.AsItStands.{can_be_matched};
 ghost use Rattle.soar_rule.specs.Productions.{production_seen};
 ghost use Rattle.soar_rule.specs.Symbols.{AreKnown, symbols_of};
@@ -20,7 +20,8 @@ impl<M: Matcher> Session<M> {
         requires known { AreKnown self.old.agent.parts.table (symbols_of (production_seen production)) }
         requires unlearned { is_justification production.kind ≡ false }
         requires matchable { can_be_matched (production_seen production) ≡ true }
-        ensures { RepliesNothing self.old self.new (loaded (production_seen production)) result }
+        ensures reply { RepliesNothing self.old self.new (loaded (production_seen production)) result }
+        ensures ready { IfOk result (λ _. IsReady self.new.agent) }
     {
         match self.agent.load(production) {
             Ok(()) => Ok(false),

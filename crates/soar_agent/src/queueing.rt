@@ -5,6 +5,7 @@ ghost use Rattle.defs_run.specs.Inputs.{queued, spelled, with_queued, with_rando
 ghost use Rattle.defs_run.specs.Orders.{queue};
 ghost use Rattle.defs_run.specs.Present.{run_present};
 ghost use Rattle.defs_soar.specs.History.{RecordedFiring};
+ghost use Rattle.wave_parts.specs.Remembers.{Remembers};
 ghost use Rattle.soar_cmd.specs.Asked.{operand_seen};
 ghost use Rattle.soar_cmd.specs.Known.{IsAdditionKnown};
 ghost use Rattle.cycle_parts.specs.Calls.{IsTripleKnown};
@@ -31,8 +32,9 @@ impl<M: Matcher> Session<M> {
     ) -> Result<bool, Stop>
         requires ready { IsReady self.old.agent }
         requires known { IsAdditionKnown self.old.agent.parts.table addition }
-        ensures { Carries self.old self.new origin.now.source.now origin.now.line
+        ensures reply { Carries self.old self.new origin.now.source.now origin.now.line
             (carried_out run_present (queue adds (operand_seen addition.id) (operand_seen addition.attr) (operand_seen addition.value))) out.old out.new result }
+        ensures ready { IfOk result (λ _. IsReady self.new.agent) }
     {
         match self
             .lookup(out.allocator())
@@ -53,8 +55,9 @@ impl<M: Matcher> Session<M> {
     ) -> Result<bool, Stop>
         requires ready { IsReady self.old.agent }
         requires known { IsAdditionKnown self.old.agent.parts.table addition }
-        ensures { Carries self.old self.new origin.now.source.now origin.now.line
+        ensures reply { Carries self.old self.new origin.now.source.now origin.now.line
             (λ s. queued adds (spelled s (operand_seen addition.id) (operand_seen addition.attr) (operand_seen addition.value))) out.old out.new result }
+        ensures ready { IfOk result (λ _. IsReady self.new.agent) }
     {
         if self.lookup(out.allocator()).is_reserved(&addition) {
             self.refuse(origin, &Reason::ReservedAttribute, out)
@@ -67,8 +70,9 @@ impl<M: Matcher> Session<M> {
     fn queue_spelled(&mut self, adds: bool, addition: Addition) -> Result<bool, Stop>
         requires ready { IsReady self.old.agent }
         requires known { IsAdditionKnown self.old.agent.parts.table addition }
-        ensures { RepliesNothing self.old self.new
+        ensures reply { RepliesNothing self.old self.new
             (λ s. with_queued adds (spelled s (operand_seen addition.id) (operand_seen addition.attr) (operand_seen addition.value))) result }
+        ensures ready { IfOk result (λ _. IsReady self.new.agent) }
     {
         match self.spell(addition) {
             Ok(triple) => self.put_queued(adds, triple),
@@ -80,7 +84,7 @@ impl<M: Matcher> Session<M> {
     fn spell(&mut self, addition: Addition) -> Result<Triple, Stop>
         requires ready { IsReady self.old.agent }
         requires known { IsAdditionKnown self.old.agent.parts.table addition }
-        ensures triple { (history : ListOf RecordedFiring) →
+        ensures triple { (history : ListOf RecordedFiring) → Remembers self.old.agent.parts history →
             Spells self.new (spelled (session_of self.old history) (operand_seen addition.id) (operand_seen addition.attr) (operand_seen addition.value)) history result }
         ensures known { IfOk result (λ triple. IsTripleKnown self.new.agent.parts.table triple) }
         ensures ready { IfOk result (λ _. IsReady self.new.agent) }
@@ -96,7 +100,8 @@ impl<M: Matcher> Session<M> {
     fn put_queued(&mut self, adds: bool, triple: Triple) -> Result<bool, Stop>
         requires ready { IsReady self.old.agent }
         requires known { IsTripleKnown self.old.agent.parts.table triple }
-        ensures { RepliesNothing self.old self.new (queues_triple adds triple) result }
+        ensures reply { RepliesNothing self.old self.new (queues_triple adds triple) result }
+        ensures ready { IfOk result (λ _. IsReady self.new.agent) }
     {
         match self.agent.queue(adds, triple) {
             Ok(()) => Ok(false),
@@ -107,7 +112,8 @@ impl<M: Matcher> Session<M> {
     /// Puts random words behind those that wait for draws.
     pub fn put_random(&mut self, words: &List<u64>) -> Result<bool, Stop>
         requires { IsReady self.old.agent }
-        ensures { RepliesNothing self.old self.new (with_random words.now) result }
+        ensures reply { RepliesNothing self.old self.new (with_random words.now) result }
+        ensures ready { IfOk result (λ _. IsReady self.new.agent) }
     {
         match self.agent.random(words) {
             Ok(()) => Ok(false),

@@ -3,6 +3,7 @@ ghost use Rattle.std.specs.Prelude.{◌≡◌, List as ListOf, IfOk};
 ghost use Rattle.defs_run.specs.Orders.{unfinished_command};
 ghost use Rattle.defs_run.specs.Sessions.{refused_by};
 ghost use Rattle.defs_soar.specs.History.{RecordedFiring};
+ghost use Rattle.wave_parts.specs.Remembers.{Remembers};
 ghost use Rattle.soar_cycle.specs.Agents.{standing_after};
 ghost use Rattle.session_parts.specs.Reasons.{IsReasonKnown, refusal_by};
 ghost use Rattle.soar_agent.specs.Carries.{Replies};
@@ -27,7 +28,8 @@ impl<M: Matcher> Session<M> {
     ) -> Result<bool, Stop>
         requires ready { IsReady self.old.agent }
         requires known { IsReasonKnown self.old.agent.parts.table reason.now }
-        ensures { Replies self.old self.new (refused_by (refusal_by self.old.agent.parts.table reason.now) origin.now.source.now origin.now.line) out.old out.new result }
+        ensures reply { Replies self.old self.new (refused_by (refusal_by self.old.agent.parts.table reason.now) origin.now.source.now origin.now.line) out.old out.new result }
+        ensures ready { IfOk result (λ _. IsReady self.new.agent) }
     {
         let mut mid_line = self.agent.mid_line();
         say_refusal(self.agent.symbols(), origin, reason, out, &mut mid_line)?;
@@ -43,7 +45,7 @@ impl<M: Matcher> Session<M> {
         text: &mut Text,
     ) -> Result<Outcome, Stop>
         requires { IsSoundSession self.old }
-        ensures refused { self.old.standing ≡ Standing.Stands → (history : ListOf RecordedFiring) → let s = session_of self.old history in
+        ensures refused { self.old.standing ≡ Standing.Stands → (history : ListOf RecordedFiring) → Remembers self.old.agent.parts history → let s = session_of self.old history in
             Commands s (refused_by unfinished_command source.now line s) self.new text.old text.new result }
         ensures standing { self.new.standing ≡ standing_after self.old.standing result }
         ensures stopped { StaysStopped self.old.standing text.old text.new result }
@@ -60,7 +62,7 @@ impl<M: Matcher> Session<M> {
 
     fn say_unfinished(&mut self, source: &str, line: u64, text: &mut Text) -> Result<Outcome, Stop>
         requires { IsReady self.old.agent }
-        ensures refused { (history : ListOf RecordedFiring) → let s = session_of self.old history in
+        ensures refused { (history : ListOf RecordedFiring) → Remembers self.old.agent.parts history → let s = session_of self.old history in
             Commands s (refused_by unfinished_command source.now line s) self.new text.old text.new result }
         ensures ready { IfOk result (λ _. IsReady self.new.agent) }
     {

@@ -1,4 +1,5 @@
 // Removing an element by its tag.
+ghost use Rattle.std.specs.Prelude.{IfOk};
 ghost use Rattle.soar_wm.specs.WorkingMemory.{triple_of};
 ghost use Rattle.defs_run.specs.Carrying.{carried_out};
 ghost use Rattle.defs_run.specs.Inputs.{removed};
@@ -19,7 +20,8 @@ impl<M: Matcher> Session<M> {
     /// Takes the element of a tag from the inputs.
     pub fn remove(&mut self, origin: &Origin<'_>, tag: u64, out: &mut Text) -> Result<bool, Stop>
         requires { IsReady self.old.agent }
-        ensures { Carries self.old self.new origin.now.source.now origin.now.line (carried_out run_present (remove_wme tag)) out.old out.new result }
+        ensures reply { Carries self.old self.new origin.now.source.now origin.now.line (carried_out run_present (remove_wme tag)) out.old out.new result }
+        ensures ready { IfOk result (λ _. IsReady self.new.agent) }
     {
         match element_of(self.agent.memory(), tag) {
             Some(element) => self.remove_element(origin, element, out),
@@ -35,7 +37,8 @@ impl<M: Matcher> Session<M> {
     ) -> Result<bool, Stop>
         requires ready { IsReady self.old.agent }
         requires known { IsTripleKnown self.old.agent.parts.table (triple_of element) }
-        ensures { Carries self.old self.new origin.now.source.now origin.now.line (λ s. removed s element) out.old out.new result }
+        ensures reply { Carries self.old self.new origin.now.source.now origin.now.line (λ s. removed s element) out.old out.new result }
+        ensures ready { IfOk result (λ _. IsReady self.new.agent) }
     {
         let triple = triple_of(element);
         if self.agent.is_input(triple) {

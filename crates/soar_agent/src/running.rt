@@ -1,12 +1,13 @@
 // Running cycles.
 ghost use Rattle.std.specs.Prelude.{◌≡◌, List as ListOf, IfOk};
 ghost use Rattle.defs_soar.specs.Cycle.{cycle};
-ghost use Rattle.defs_soar.specs.Decision.{decided_alone};
+ghost use Rattle.defs_soar.specs.Decision.{decided_by};
 ghost use Rattle.defs_soar.specs.History.{RecordedFiring};
 ghost use Rattle.defs_soar.specs.Learning.{without_learning};
 ghost use Rattle.defs_run.specs.Carrying.{carried_out};
 ghost use Rattle.defs_run.specs.Orders.{run_cycles};
 ghost use Rattle.defs_run.specs.Present.{run_present};
+ghost use Rattle.wave_parts.specs.Remembers.{Remembers};
 ghost use Rattle.wave_parts.specs.Seen.{agent_of};
 ghost use Rattle.soar_cycle.specs.Agents.{standing_after};
 ghost use Rattle.soar_agent.specs.Commands.{CarriesOut, Cycled};
@@ -29,7 +30,8 @@ impl<M: Matcher> Session<M> {
         out: &mut Text,
     ) -> Result<Outcome, Stop>
         requires { IsReady self.old.agent }
-        ensures { CarriesOut self.old self.new origin.now.source.now origin.now.line (carried_out run_present (run_cycles count)) out.old out.new result }
+        ensures command { CarriesOut self.old self.new origin.now.source.now origin.now.line (carried_out run_present (run_cycles count)) out.old out.new result }
+        ensures ready { IfOk result (λ _. IsReady self.new.agent) }
     {
         if self.agent.halted() {
             return outcome_of(self.refuse(origin, &Reason::Halted, out));
@@ -41,8 +43,8 @@ impl<M: Matcher> Session<M> {
     /// nothing where there is no memory. True exactly where the agent is halted in the end.
     pub fn cycle(&mut self, text: &mut Text) -> Result<bool, Stop>
         requires { IsSoundSession self.old }
-        ensures course { self.old.standing ≡ Standing.Stands → (history : ListOf RecordedFiring) →
-            Cycled self.old.agent.mid_line (cycle decided_alone without_learning (agent_of self.old.agent.parts history)) self.new.agent text.old text.new result }
+        ensures course { self.old.standing ≡ Standing.Stands → (history : ListOf RecordedFiring) → Remembers self.old.agent.parts history →
+            Cycled self.old.agent.mid_line (cycle decided_by without_learning (agent_of self.old.agent.parts history)) self.new.agent text.old text.new result }
         ensures halted { IfOk result (λ halted. halted ≡ self.new.agent.parts.halted) }
         ensures labels { self.new.labels ≡ self.old.labels }
         ensures standing { self.new.standing ≡ standing_after self.old.standing result }
@@ -60,8 +62,8 @@ impl<M: Matcher> Session<M> {
 
     fn run_cycle(&mut self, text: &mut Text) -> Result<bool, Stop>
         requires { IsReady self.old.agent }
-        ensures course { (history : ListOf RecordedFiring) →
-            Cycled self.old.agent.mid_line (cycle decided_alone without_learning (agent_of self.old.agent.parts history)) self.new.agent text.old text.new result }
+        ensures course { (history : ListOf RecordedFiring) → Remembers self.old.agent.parts history →
+            Cycled self.old.agent.mid_line (cycle decided_by without_learning (agent_of self.old.agent.parts history)) self.new.agent text.old text.new result }
         ensures halted { IfOk result (λ halted. halted ≡ self.new.agent.parts.halted) }
         ensures labels { self.new.labels ≡ self.old.labels }
         ensures ready { IfOk result (λ _. IsReady self.new.agent) }

@@ -6,6 +6,7 @@ ghost use Rattle.defs_run.specs.Runs.{obeyed};
 ghost use Rattle.defs_run.specs.Sessions.{first_session};
 ghost use Rattle.soar_cmd.specs.Asked.{order_seen};
 ghost use Rattle.soar_cmd.specs.Known.{IsOrderKnown};
+ghost use Rattle.wave_parts.specs.Remembers.{Remembers};
 ghost use Rattle.soar_cycle.specs.Agents.{standing_after};
 ghost use Rattle.soar_agent.specs.Commands.{CarriesOut, Commands, Outcomes};
 ghost use Rattle.soar_agent.specs.States.{IsReady, IsSoundSession, StaysStopped, session_of};
@@ -30,6 +31,7 @@ impl<M: Matcher + Drop> Session<M> {
         requires rules { M.rules matcher ≡ [] }
         requires elements { M.elements matcher ≡ [] }
         ensures stands { IfOk result (λ s. session_of s [] ≡ first_session 1) }
+        ensures remembers { IfOk result (λ s. Remembers s.agent.parts []) }
         ensures standing { IfOk result (λ s. s.standing ≡ Standing.Stands) }
         ensures sound { IfOk result (λ s. IsSoundSession s) }
     {
@@ -47,7 +49,7 @@ impl<M: Matcher> Session<M> {
     pub fn command(&mut self, c: &Command, source: &str, text: &mut Text) -> Result<Outcome, Stop>
         requires short { length c.now.text ≤ 2 ^ 26 }
         requires sound { IsSoundSession self.old }
-        ensures command { self.old.standing ≡ Standing.Stands → (history : ListOf RecordedFiring) → let s = session_of self.old history in
+        ensures command { self.old.standing ≡ Standing.Stands → (history : ListOf RecordedFiring) → Remembers self.old.agent.parts history → let s = session_of self.old history in
             Commands s (obeyed present_stage source.now c.now.line c.now.text s) self.new text.old text.new result }
         ensures standing { self.new.standing ≡ standing_after self.old.standing result }
         ensures stopped { StaysStopped self.old.standing text.old text.new result }
@@ -65,7 +67,7 @@ impl<M: Matcher> Session<M> {
     fn answer(&mut self, c: &Command, source: &str, text: &mut Text) -> Result<Outcome, Stop>
         requires short { length c.now.text ≤ 2 ^ 26 }
         requires ready { IsReady self.old.agent }
-        ensures command { (history : ListOf RecordedFiring) → let s = session_of self.old history in
+        ensures command { (history : ListOf RecordedFiring) → Remembers self.old.agent.parts history → let s = session_of self.old history in
             Commands s (obeyed present_stage source.now c.now.line c.now.text s) self.new text.old text.new result }
         ensures ready { IfOk result (λ _. IsReady self.new.agent) }
     {
@@ -83,8 +85,9 @@ impl<M: Matcher> Session<M> {
     fn obey(&mut self, c: &Command, source: &str, out: &mut Text) -> Result<Outcome, Stop>
         requires short { length c.now.text ≤ 2 ^ 26 }
         requires ready { IsReady self.old.agent }
-        ensures { (history : ListOf RecordedFiring) → let s = session_of self.old history in
+        ensures command { (history : ListOf RecordedFiring) → Remembers self.old.agent.parts history → let s = session_of self.old history in
             Outcomes self.old.agent.mid_line (obeyed present_stage source.now c.now.line c.now.text s) self.new out.old out.new result }
+        ensures ready { IfOk result (λ _. IsReady self.new.agent) }
     {
         let origin = &Origin {
             source,
@@ -113,7 +116,8 @@ impl<M: Matcher> Session<M> {
     ) -> Result<Outcome, Stop>
         requires ready { IsReady self.old.agent }
         requires known { IsOrderKnown self.old.agent.parts.table order }
-        ensures { CarriesOut self.old self.new origin.now.source.now origin.now.line (carried_out run_present (order_seen order)) out.old out.new result }
+        ensures command { CarriesOut self.old self.new origin.now.source.now origin.now.line (carried_out run_present (order_seen order)) out.old out.new result }
+        ensures ready { IfOk result (λ _. IsReady self.new.agent) }
     {
         match order {
             Order::Load(production) => outcome_of(self.load(production)),

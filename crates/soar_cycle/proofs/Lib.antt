@@ -1,4 +1,3 @@
-pub mod CallLemmas
 pub mod CourseLemmas
 pub mod CycleLemmas
 pub mod GoingLemmas

@@ -1,7 +1,7 @@
 -- The phases of a cycle, each behind the course of those before it.
 use Rattle.std.specs.Prelude.{ℕ, Bool, true, List, Result}
 use Rattle.defs_soar.specs.Cycle.{after_input, then_application, then_decision, then_phase, unless_halted}
-use Rattle.defs_soar.specs.Decision.{decided_alone}
+use Rattle.defs_soar.specs.Decision.{decided_by}
 use Rattle.defs_soar.specs.Events.{proposal_phase}
 use Rattle.defs_soar.specs.Learning.{without_learning}
 use Rattle.defs_soar.specs.Phases.{Course, then_step}
@@ -16,7 +16,7 @@ abbrev pub with_proposals : Course → Course
 with_proposals c = then_phase without_learning proposal_phase true c
 
 abbrev pub with_decision : Course → Course
-with_decision c = unless_halted (then_decision decided_alone) c
+with_decision c = unless_halted (then_decision decided_by) c
 
 abbrev pub with_application : Course → Course
 with_application c = unless_halted (then_application without_learning) c

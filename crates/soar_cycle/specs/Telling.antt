@@ -8,8 +8,3 @@ abbrev pub Tells : {T : Type 0} → Result T Stop → List ℕ → List ℕ → 
 Tells answer said before after (Ok done) = (answer ≡ Ok done) × (after ≡ before ++ said)
 Tells answer said before after (Err (stop.Limit limit)) = (answer ≡ Err (stop.Limit limit)) × (after ≡ before ++ said)
 Tells answer said before after (Err stop.NoMemory) = after ≡ before
-
--- a decision that reaches no limit of goals
-abbrev pub without_limit : Result (Unit {0}) Stop → Result Bool Stop
-without_limit (Ok done) = Ok false
-without_limit (Err why) = Err why

@@ -17,7 +17,7 @@ use std::alloc::Global;
 use std::marker::Model;
 use wave_parts::Stop;
 
-/// An agent with the top state alone, over any matcher, which holds its rules and working memory.
+/// An agent over any matcher, which holds its rules and working memory.
 #[derive(Drop)]
 pub struct Agent<M: Matcher> {
     pub(crate) engine: Engine<M>,
@@ -102,7 +102,7 @@ impl<M: Matcher> Agent<M> {
     pub fn goals(&self) -> &List<Goal>
         ensures { result.now ≡ self.now.parts.goals }
     {
-        &self.engine.parts.goals
+        self.engine.parts.goals.list()
     }
 
     /// Whether a triple is an input.

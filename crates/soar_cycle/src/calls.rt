@@ -1,5 +1,5 @@
 // The calls by which a session works. Each changes the part of the state that it names.
-ghost use Rattle.std.specs.Prelude.{◌≡◌, ◌≤◌, false, map, true, Ok, Err, IfOk, MatchResult};
+ghost use Rattle.std.specs.Prelude.{◌≡◌, ◌≤◌, false, map, true, Ok, Err, IfErr, IfOk, MatchResult};
 ghost use Rattle.defs_soar.specs.Agents.{Agent as AgentOf};
 ghost use Rattle.soar_cycle.specs.Agents.{IsSoundAgent, IsStopped, standing_after};
 ghost use Rattle.wave_parts.specs.Stands.{Stands};
@@ -119,6 +119,7 @@ impl<M: Matcher> Agent<M> {
     pub fn conflict(&mut self) -> Result<List<Instance>, Stop>
         requires sound { IsSoundAgent self.old }
         ensures conflict { self.old.standing ≡ Standing.Stands → IfOk result (λ instances. instances ≡ conflict (map rule_seen self.old.parts.rules) self.old.parts.memory.elements) }
+        ensures limit { self.old.standing ≡ Standing.Stands → IfErr result (λ why. why ≡ Stop.NoMemory) }
         ensures parts { self.new.parts ≡ self.old.parts }
         ensures standing { self.new.standing ≡ standing_after self.old.standing result }
         ensures stopped { IsStopped self.old.standing result }

@@ -2,7 +2,7 @@
 ghost use Rattle.std.specs.Prelude.{◌≡◌, IfOk, OnOk};
 ghost use Rattle.defs_soar.specs.Agents.{Agent as AgentOf};
 ghost use Rattle.defs_soar.specs.Cycle.{cycle, then_output};
-ghost use Rattle.defs_soar.specs.Decision.{decided_alone};
+ghost use Rattle.defs_soar.specs.Decision.{decided_by};
 ghost use Rattle.defs_soar.specs.Learning.{without_learning};
 ghost use Rattle.cycle_parts.specs.Bonds.{Bond};
 ghost use Rattle.soar_cycle.specs.Courses.{Goes};
@@ -27,7 +27,7 @@ pub fn run_cycle<M: Matcher>(
 ) -> Result<bool, Stop>
     requires sound { IsSound engine.old.parts }
     requires bond { Bond (M.rules engine.old.matcher) (M.elements engine.old.matcher) (M.failed engine.old.matcher) engine.old.parts }
-    ensures cycle { (s : AgentOf) → Stands engine.old.parts s → Goes mid_line.old (cycle decided_alone without_learning s) engine.new.parts mid_line.new out.old out.new result }
+    ensures cycle { (s : AgentOf) → Stands engine.old.parts s → Goes mid_line.old (cycle decided_by without_learning s) engine.new.parts mid_line.new out.old out.new result }
     ensures halted { IfOk result (λ halted. halted ≡ engine.new.parts.halted) }
     ensures sound { OnOk result (IsSound engine.new.parts) }
     ensures bond { OnOk result (Bond (M.rules engine.new.matcher) (M.elements engine.new.matcher) (M.failed engine.new.matcher) engine.new.parts) }
@@ -88,7 +88,8 @@ fn decide<M: Matcher>(
     if engine.parts.halted {
         return Ok(());
     }
-    engine.decide(alloc, out, mid_line)
+    engine.decide(alloc, out, mid_line)?;
+    Ok(())
 }
 
 fn apply<M: Matcher>(

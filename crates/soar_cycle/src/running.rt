@@ -4,12 +4,12 @@ ghost use Rattle.defs_soar.specs.Agents.{Agent as AgentOf};
 ghost use Rattle.soar_cycle.specs.Agents.{IsSoundAgent, IsStopped, standing_after};
 ghost use Rattle.wave_parts.specs.Stands.{Stands};
 ghost use Rattle.defs_soar.specs.Cycle.{cycle};
-ghost use Rattle.defs_soar.specs.Decision.{decided_alone};
+ghost use Rattle.defs_soar.specs.Decision.{decided_by};
 ghost use Rattle.defs_soar.specs.Learning.{without_learning};
 ghost use Rattle.cycle_parts.specs.Stepping.{GoesStep};
 ghost use Rattle.cycle_parts.specs.Waving.{WavesFrom, is_proposing};
 ghost use Rattle.soar_cycle.specs.Courses.{Goes, IsEndOf, phase_course, phased};
-ghost use Rattle.soar_cycle.specs.Telling.{Tells, without_limit};
+ghost use Rattle.soar_cycle.specs.Telling.{Tells};
 
 use crate::agent::Agent;
 use crate::cycle::run_cycle;
@@ -69,11 +69,11 @@ impl<M: Matcher> Agent<M> {
         answer
     }
 
-    /// Decides, and tells a selection. True exactly where the limit of goals halted the agent, which makes no substates yet.
+    /// Decides, and tells a selection or a new substate. True exactly where the limit of goals halted the agent.
     pub fn decide(&mut self, text: &mut Text) -> Result<bool, Stop>
         requires sound { IsSoundAgent self.old }
-        ensures step { self.old.standing ≡ Standing.Stands → (s : AgentOf) → Stands self.old.parts s → GoesStep self.old.mid_line (decided_alone s) self.new.parts self.new.mid_line text.old text.new result }
-        ensures limit { IfOk result (λ halted. halted ≡ false) }
+        ensures step { self.old.standing ≡ Standing.Stands → (s : AgentOf) → Stands self.old.parts s → GoesStep self.old.mid_line (decided_by s) self.new.parts self.new.mid_line text.old text.new result }
+        ensures limit { self.old.standing ≡ Standing.Stands → (s : AgentOf) → Stands self.old.parts s → IfOk result (λ halted. halted ≡ (decided_by s).halted) }
         ensures standing { self.new.standing ≡ standing_after self.old.standing result }
         ensures stopped { IsStopped self.old.standing result }
         ensures sound { IsSoundAgent self.new }
@@ -83,10 +83,9 @@ impl<M: Matcher> Agent<M> {
             return Err(stop);
         }
         let mut said = Text::new(self.alloc);
-        let answer = decided(
-            self.engine
-                .decide(self.alloc, &mut said, &mut self.mid_line),
-        );
+        let answer = self
+            .engine
+            .decide(self.alloc, &mut said, &mut self.mid_line);
         let answer = tell(answer, &said, text);
         self.standing = standing_after(self.standing, &answer);
         answer
@@ -95,7 +94,7 @@ impl<M: Matcher> Agent<M> {
     /// Runs a cycle: input, proposal, decision, application, output. True exactly where the agent is halted in the end.
     pub fn cycle(&mut self, text: &mut Text) -> Result<bool, Stop>
         requires sound { IsSoundAgent self.old }
-        ensures step { self.old.standing ≡ Standing.Stands → (s : AgentOf) → Stands self.old.parts s → Goes self.old.mid_line (cycle decided_alone without_learning s) self.new.parts self.new.mid_line text.old text.new result }
+        ensures step { self.old.standing ≡ Standing.Stands → (s : AgentOf) → Stands self.old.parts s → Goes self.old.mid_line (cycle decided_by without_learning s) self.new.parts self.new.mid_line text.old text.new result }
         ensures halted { IfOk result (λ halted. halted ≡ self.new.parts.halted) }
         ensures standing { self.new.standing ≡ standing_after self.old.standing result }
         ensures stopped { IsStopped self.old.standing result }
@@ -123,15 +122,5 @@ fn tell<T: Copy>(answer: Result<T, Stop>, said: &Text, text: &mut Text) -> Resul
             Ok(()) => told,
             Err(_) => Err(Stop::NoMemory),
         },
-    }
-}
-
-/// No decision reaches the limit of goals as long as none makes a substate.
-fn decided(answer: Result<(), Stop>) -> Result<bool, Stop>
-    ensures { result ≡ without_limit answer }
-{
-    match answer {
-        Ok(()) => Ok(false),
-        Err(stop) => Err(stop),
     }
 }

@@ -13,6 +13,7 @@ use Rattle.defs_soar.specs.Trace.{Written, followed_by, line_text}
 use Rattle.defs_run.specs.Present.{run_present}
 use Rattle.soar_settle.specs.declared.stop.Stop.{Stop}
 use Rattle.soar_settle.specs.declared.stop.Stop.TheVariants as stop
+use Rattle.wave_parts.specs.Remembers.{Remembers}
 use Rattle.wave_parts.specs.Seen.{agent_of}
 use Rattle.wave_parts.proofs.StandsLemmas.{of_each_state, stands_at}
 use Rattle.soar_cycle.specs.Agents.{AgentSeen}
@@ -93,14 +94,14 @@ appends_none None = tt
 appends_none (Some text) = ap Some (sym (append-nil text))
 
 -- before the first of them
-pub none_behind : (a : AgentSeen) (count left : ℕ) (history : List RecordedFiring) (o : Option (List ℕ)) → left ≡ count
+pub none_behind : (a : AgentSeen) (count left : ℕ) (history : List RecordedFiring) (o : Option (List ℕ)) → Remembers a.parts history → left ≡ count
     → RunBehind a.mid_line left (run_present count (agent_of a.parts history)) a o o
-none_behind a count left history o all =
+none_behind a count left history o remembers all =
     let s : Agent = agent_of a.parts history in
     record {
       course = still s;
       said = [];
-      went = none_went a.mid_line s a.parts [] (stands_at a.parts history);
+      went = none_went a.mid_line s a.parts [] (stands_at a.parts history remembers);
       rest = ap (λ n. cycles_behind n (still s)) all ∙ sym (run_turns count s);
       appended = appends_none o;
     }
@@ -116,14 +117,14 @@ next_left : (mid : Bool) (left next : ℕ) (whole : Course) (a : AgentSeen) (old
 next_left mid left next whole a old now more goes r =
     sym (next_turn next r.course (halted_behind false mid left whole a old now r goes)) ∙ ap (λ n. cycles_behind n r.course) (sym more) ∙ r.rest
 
--- what holds of the next cycle with each history
+-- what holds of the next cycle with each history that is remembered
 next_cycle : (P : Course → Type 0) (mid : Bool) (left : ℕ) (whole : Course) (a : AgentSeen) (old now : Option (List ℕ)) → (r : RunBehind mid left whole a old now)
-    → ((history : List RecordedFiring) → P (cycle_of (agent_of a.parts history))) → P (cycle_of r.course.agent)
+    → ((history : List RecordedFiring) → Remembers a.parts history → P (cycle_of (agent_of a.parts history))) → P (cycle_of r.course.agent)
 next_cycle P mid left whole a old now r holds = of_each_state (λ s. P (cycle_of s)) a.parts holds r.course.agent r.went.stands
 
 -- one more
 pub one_behind : (mid : Bool) (left next : ℕ) (whole : Course) (a new : AgentSeen) (old between now : Option (List ℕ)) → left ≡ suc next → a.parts.halted ≡ false
-    → RunBehind mid left whole a old between → ((history : List RecordedFiring) → WritesCycle a.mid_line (cycle_of (agent_of a.parts history)) new between now (Ok true))
+    → RunBehind mid left whole a old between → ((history : List RecordedFiring) → Remembers a.parts history → WritesCycle a.mid_line (cycle_of (agent_of a.parts history)) new between now (Ok true))
     → RunBehind mid next whole new old now
 one_behind mid left next whole a new old between now more goes r writes =
     let one = next_cycle (λ c. WritesCycle a.mid_line c new between now (Ok true)) mid left whole a old between r writes in
@@ -139,7 +140,7 @@ one_behind mid left next whole a new old between now more goes r writes =
 
 -- some of the next cycle's text
 pub some_behind : (mid : Bool) (left next : ℕ) (whole : Course) (a : AgentSeen) (old between now : Option (List ℕ)) → left ≡ suc next → a.parts.halted ≡ false
-    → RunBehind mid left whole a old between → ((history : List RecordedFiring) → AppendsSome between now (course_text a.mid_line (cycle_of (agent_of a.parts history))))
+    → RunBehind mid left whole a old between → ((history : List RecordedFiring) → Remembers a.parts history → AppendsSome between now (course_text a.mid_line (cycle_of (agent_of a.parts history))))
     → AppendsSome old now (course_text mid whole)
 some_behind mid left next whole a old between now more goes r some =
     let c : Course = cycle_of r.course.agent in
@@ -154,7 +155,7 @@ some_behind mid left next whole a old between now more goes r some =
 
 -- the next cycle passes a limit
 pub stops_behind : (mid : Bool) (left next : ℕ) (whole : Course) (a new : AgentSeen) (old between now : Option (List ℕ)) → left ≡ suc next → a.parts.halted ≡ false
-    → RunBehind mid left whole a old between → ((history : List RecordedFiring) → WritesCycle a.mid_line (cycle_of (agent_of a.parts history)) new between now (Ok false))
+    → RunBehind mid left whole a old between → ((history : List RecordedFiring) → Remembers a.parts history → WritesCycle a.mid_line (cycle_of (agent_of a.parts history)) new between now (Ok false))
     → Appends old now (course_text mid whole) × PassesLimit whole
 stops_behind mid left next whole a new old between now more goes r writes =
     let one = next_cycle (λ c. WritesCycle a.mid_line c new between now (Ok false)) mid left whole a old between r writes in

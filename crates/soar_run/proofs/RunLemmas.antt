@@ -10,6 +10,7 @@ use Rattle.defs_soar.specs.History.{RecordedFiring}
 use Rattle.defs_soar.specs.declared.limit.Which.{Which}
 use Rattle.defs_run.specs.Sessions.{Session, Reply, first_session}
 use Rattle.defs_run.specs.Transcripts.{Transcript}
+use Rattle.wave_parts.specs.Remembers.{Remembers}
 use Rattle.soar_run.specs.Runs.{reply_to, session_after, ended, before, after_reply, run_from}
 use Rattle.soar_agent.specs.Writing.{step_text}
 use Rattle.soar_run.specs.Spoken.{Passed}
@@ -76,9 +77,10 @@ front_is_some old new bytes more all = appends_some_then old new new bytes [] mo
 
 -- ---- the parts of the loop
 
--- what a run wrote before these commands, and a history with which the code's session stands for one from where they give the rest
+-- what a run wrote before these commands, and a history with which the code's session, which remembers it, stands for one from where they give the rest
 pub record IsBehind {M : Type 0} (old now : Option (List ℕ)) (goes_on : Bool) (session : SessionKept M) (refused : Bool) (cuts : List Cut) (run : Transcript) : Type 0 where
   pub history : List RecordedFiring
+  pub remembers : Remembers session.agent.parts history
   pub done : List ℕ
   pub appended : Appends old now done
   pub text : done ++ (run_from goes_on (session_of session history) refused cuts).text ≡ run.text
@@ -89,6 +91,7 @@ pub at_cuts : {M : Type 0} (old now : Option (List ℕ)) (goes_on refused : Bool
     → all ≡ cuts → IsBehind old now goes_on session refused all run → IsBehind old now goes_on session refused cuts run
 at_cuts old now goes_on refused session all cuts run is p = record {
   history = p.history;
+  remembers = p.remembers;
   done = p.done;
   appended = p.appended;
   text = ap (λ cs. p.done ++ (run_from goes_on (session_of session p.history) refused cs).text) (sym is) ∙ p.text;
@@ -108,6 +111,7 @@ next_behind old mid now goes_on refused answer again session new c cuts run p re
     let step = after_passed goes_on refused answer s new c cuts replied passed ∙ ap (λ b. before text (run_from goes_on (session_of new passed.history) b cuts)) (sym is) in
     record {
       history = passed.history;
+      remembers = passed.remembers;
       done = p.done ++ text;
       appended = appends_then old mid now p.done text p.appended written;
       text = append_assoc p.done text _ ∙ ap (λ (t : Transcript). p.done ++ t.text) (sym step) ∙ p.text;

@@ -15,8 +15,8 @@ use Rattle.soar_settle.specs.declared.stop.Stop.TheVariants as stop
 use Rattle.wave_parts.specs.Seen.{agent_of}
 use Rattle.cycle_parts.specs.Stepping.{watch}
 use Rattle.soar_cycle.specs.Courses.{front_said, limit_in}
-use Rattle.soar_agent.specs.Commands.{AsksToRun, Commands, Outcomes}
-use Rattle.soar_agent.specs.States.{IsReady, session_of}
+use Rattle.soar_agent.specs.Commands.{AsksToRun, Commands}
+use Rattle.soar_agent.specs.States.{session_of}
 use Rattle.soar_agent.specs.Steps.{Obeys, Replied, written_of}
 use Rattle.soar_agent.specs.Telling.{front_told, limit_told}
 use Rattle.soar_agent.specs.Writing.{limit_line, step_text}
@@ -46,7 +46,7 @@ said_whole old new history reply first text answer none replied =
 pub passed_whole : {M : Type 0} (old new : SessionKept M) (history : List RecordedFiring) (reply : Reply) (first text : List ℕ) (answer : Bool)
     → IsReadySession new → Replied old.agent.mid_line reply new first text answer → Passed (session_of old history) reply new answer
 passed_whole old new history reply first text answer ready r =
-    record { history = r.history; session = r.session; within = r.within; refused = r.refused; kept = ready }
+    record { history = r.history; remembers = r.remembers; session = r.session; within = r.within; refused = r.refused; kept = ready }
 
 -- a refusal that is told so
 pub refused_whole : {M : Type 0} (old new : SessionKept M) (history : List RecordedFiring) (why : Refusal) (from : List ℕ) (line : ℕ) (first text : List ℕ) (answer : Outcome)
@@ -87,12 +87,6 @@ asked_answer old new last history reply first text count answered.Stopped a ran 
     (ran.0, a.comes.limit ∙ (limit_of_steps c.steps ∙ ran.1))
 
 -- ---- outcomes
-
--- behind each outcome the agent is ready
-pub outcome_ready : {M : Type 0} (mid : Bool) (reply : Reply) (new : SessionKept M) (before after : List ℕ) (o : Outcome) → Outcomes mid reply new before after (Ok o) → IsReady new.agent
-outcome_ready mid reply new before after outcome.Done is = is.kept
-outcome_ready mid reply new before after outcome.Refused is = is.kept
-outcome_ready mid reply new before after (outcome.Run count) is = is.kept
 
 -- what was put is how it went
 pub put_went : {M : Type 0} (s : Session) (reply : Reply) (new : SessionKept M) (answer : Answered) (result : Result Answered PutFault) → IfOk result (λ given. given ≡ answer)

@@ -3,7 +3,7 @@ use Rattle.std.proofs.Common.{◌≡◌, ℕ, zero, suc, Bool, true, false, List
 use Rattle.soar_rule.specs.Repeat.{Turn, ends, goes_on, turns}
 use Rattle.defs_soar.specs.Agents.{Agent}
 use Rattle.defs_soar.specs.Cycle.{course_of, one_cycle, run, then_course}
-use Rattle.defs_soar.specs.Decision.{decided_alone}
+use Rattle.defs_soar.specs.Decision.{decided_by}
 use Rattle.defs_soar.specs.Learning.{without_learning}
 use Rattle.defs_soar.specs.Phases.{Said, Course, still}
 use Rattle.defs_run.specs.Present.{run_present}
@@ -11,7 +11,7 @@ use Rattle.soar_run.specs.Cycles.{cycle_of, cycles_behind}
 
 -- the turns behind one that was taken
 abbrev rest_of : ℕ → Turn Course → Course
-rest_of n t = course_of (elim t as (λ _. Turn Course) [ ends b ↦ ends b | goes_on b ↦ turns n (one_cycle decided_alone without_learning) b ])
+rest_of n t = course_of (elim t as (λ _. Turn Course) [ ends b ↦ ends b | goes_on b ↦ turns n (one_cycle decided_by without_learning) b ])
 
 -- the turn that is next, of an agent that is halted or not
 abbrev turn_of : Course → Bool → Turn Course

@@ -3,6 +3,7 @@ use Rattle.std.specs.Prelude.{◌≡◌, Bool, List, Some, None, Result, Ok, Err
 use Rattle.defs_soar.specs.declared.limit.Which.{Which}
 use Rattle.defs_soar.specs.History.{RecordedFiring}
 use Rattle.defs_run.specs.Sessions.{Session, Reply}
+use Rattle.wave_parts.specs.Remembers.{Remembers}
 use Rattle.soar_run.specs.Ready.{IsReadySession}
 use Rattle.soar_run.specs.Runs.{session_after}
 use Rattle.soar_agent.specs.States.{session_of}
@@ -11,9 +12,10 @@ use Rattle.soar_agent.specs.declared.state.Session.{Session as SessionKept}
 use Rattle.soar_run.specs.declared.step.Answered.{Answered}
 use Rattle.soar_run.specs.declared.step.Answered.TheVariants as answered
 
--- the command passed no limit, and with some history of firings the code's session stands for the one behind it
+-- the command passed no limit, and with some history of firings that it remembers the code's session stands for the one behind it
 pub record Passed {M : Type 0} (s : Session) (reply : Reply) (new : SessionKept M) (answer : Bool) : Type 0 where
   pub history : List RecordedFiring
+  pub remembers : Remembers new.agent.parts history
   pub session : session_of new history ≡ session_after s reply
   pub within : limit_told reply.told ≡ None
   pub refused : answer ≡ reply.refused

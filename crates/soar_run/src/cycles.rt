@@ -3,9 +3,10 @@ ghost use Rattle.std.specs.Prelude.{◌≡◌, ◌-◌, ◌<◌, ◌^◌, true, 
 ghost use Rattle.soar_edge.specs.Outside.{Appends, AppendsSome, HasPutCause};
 ghost use Rattle.defs_soar.specs.History.{RecordedFiring};
 ghost use Rattle.defs_run.specs.Present.{run_present};
+ghost use Rattle.wave_parts.specs.Remembers.{Remembers};
 ghost use Rattle.wave_parts.specs.Seen.{agent_of};
 ghost use Rattle.soar_run.specs.Cycles.{IsRanOk, WritesCycle, course_text, cycle_of};
-ghost use Rattle.soar_run.specs.Ready.{IsReadySession};
+ghost use Rattle.soar_run.specs.Ready.{IsReadyAfter, IsReadySession};
 
 use crate::step::Answered;
 use defs_match::Matcher;
@@ -23,11 +24,12 @@ pub fn run_cycles<M: Matcher, O: Sink>(
 ) -> Result<Answered, PutFault>
     requires ready { IsReadySession session.old }
     requires sink { O.faults out.old < 2 ^ 64 - 1 }
-    ensures course { (history : ListOf RecordedFiring) → IsRanOk session.old.agent.mid_line (run_present count (agent_of session.old.agent.parts history)) session.old session.new result }
-    ensures written { (history : ListOf RecordedFiring) →
+    ensures course { (history : ListOf RecordedFiring) → Remembers session.old.agent.parts history → IsRanOk session.old.agent.mid_line (run_present count (agent_of session.old.agent.parts history)) session.old session.new result }
+    ensures written { (history : ListOf RecordedFiring) → Remembers session.old.agent.parts history →
         OnOk result (Appends (O.written out.old) (O.written out.new) (course_text session.old.agent.mid_line (run_present count (agent_of session.old.agent.parts history)))) }
-    ensures prefix { (history : ListOf RecordedFiring) →
+    ensures prefix { (history : ListOf RecordedFiring) → Remembers session.old.agent.parts history →
         AppendsSome (O.written out.old) (O.written out.new) (course_text session.old.agent.mid_line (run_present count (agent_of session.old.agent.parts history))) }
+    ensures ready { IsReadyAfter session.new result }
     ensures cause { HasPutCause (O.faults out.old) (O.faults out.new) result }
 {
     'cycles: for number in 0..count {
@@ -51,9 +53,9 @@ fn write_cycle<M: Matcher, O: Sink>(
 ) -> Result<bool, PutFault>
     requires ready { IsReadySession session.old }
     requires sink { O.faults out.old < 2 ^ 64 - 1 }
-    ensures course { (history : ListOf RecordedFiring) →
+    ensures course { (history : ListOf RecordedFiring) → Remembers session.old.agent.parts history →
         WritesCycle session.old.agent.mid_line (cycle_of (agent_of session.old.agent.parts history)) session.new.agent (O.written out.old) (O.written out.new) result }
-    ensures prefix { (history : ListOf RecordedFiring) →
+    ensures prefix { (history : ListOf RecordedFiring) → Remembers session.old.agent.parts history →
         AppendsSome (O.written out.old) (O.written out.new) (course_text session.old.agent.mid_line (cycle_of (agent_of session.old.agent.parts history))) }
     ensures labels { session.new.labels ≡ session.old.labels }
     ensures ready { result ≡ Ok true → IsReadySession session.new }

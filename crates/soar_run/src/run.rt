@@ -5,6 +5,7 @@ ghost use Rattle.soar_edge.specs.Cutting.{cuts_of};
 ghost use Rattle.soar_edge.specs.Outside.{Appends, AppendsSome, HasPutCause};
 ghost use Rattle.defs_soar.specs.History.{RecordedFiring};
 ghost use Rattle.defs_run.specs.Sessions.{first_session};
+ghost use Rattle.wave_parts.specs.Remembers.{Remembers};
 ghost use Rattle.soar_run.specs.Ready.{IsReadySession};
 ghost use Rattle.soar_run.specs.Runs.{end_status, run_from};
 ghost use Rattle.soar_agent.specs.States.{session_of};
@@ -41,11 +42,11 @@ fn run_commands<M: Matcher, O: Sink>(
 ) -> Result<End, PutFault>
     requires ready { IsReadySession session.old }
     requires sink { O.faults out.old < 2 ^ 64 - 1 }
-    ensures written { (history : ListOf RecordedFiring) →
+    ensures written { (history : ListOf RecordedFiring) → Remembers session.old.agent.parts history →
         OnOk result (Appends (O.written out.old) (O.written out.new) (run_from (not cutter.old.closed) (session_of session.old history) false (cuts_with cutter.old cutter.old.closed [])).text) }
-    ensures prefix { (history : ListOf RecordedFiring) →
+    ensures prefix { (history : ListOf RecordedFiring) → Remembers session.old.agent.parts history →
         AppendsSome (O.written out.old) (O.written out.new) (run_from (not cutter.old.closed) (session_of session.old history) false (cuts_with cutter.old cutter.old.closed [])).text }
-    ensures status { (history : ListOf RecordedFiring) →
+    ensures status { (history : ListOf RecordedFiring) → Remembers session.old.agent.parts history →
         IfOk result (λ end. end_status (not cutter.old.closed) end ≡ (run_from (not cutter.old.closed) (session_of session.old history) false (cuts_with cutter.old cutter.old.closed [])).status) }
     ensures cause { HasPutCause (O.faults out.old) (O.faults out.new) result }
 {
@@ -96,6 +97,7 @@ pub fn run_all<O: Sink>(
 /// The session before the first command.
 fn fresh_session(alloc: Global) -> Result<Session<Direct>, NoMemory>
     ensures stands { IfOk result (λ session. session_of session [] ≡ first_session 1) }
+    ensures remembers { IfOk result (λ session. Remembers session.agent.parts []) }
     ensures ready { IfOk result (λ session. IsReadySession session) }
 {
     let matcher = Direct::new(alloc)?;

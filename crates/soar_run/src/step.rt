@@ -4,11 +4,12 @@ ghost use Rattle.soar_edge.specs.Outside.{Appends, AppendsSome, HasPutCause};
 ghost use Rattle.soar_edge.specs.Cutting.{unfinished, whole};
 ghost use Rattle.defs_soar.specs.History.{RecordedFiring};
 ghost use Rattle.defs_run.specs.Sessions.{Reply};
+ghost use Rattle.wave_parts.specs.Remembers.{Remembers};
 ghost use Rattle.soar_agent.specs.Commands.{Outcomes};
 ghost use Rattle.soar_agent.specs.States.{session_of};
 ghost use Rattle.soar_agent.specs.Writing.{step_text};
 ghost use Rattle.soar_agent.specs.declared.state.Session.{Session as SessionKept};
-ghost use Rattle.soar_run.specs.Ready.{IsReadySession};
+ghost use Rattle.soar_run.specs.Ready.{IsReadyAfter, IsReadySession};
 ghost use Rattle.soar_run.specs.Runs.{reply_to};
 ghost use Rattle.soar_run.specs.Spoken.{IsAnsweredOk};
 
@@ -39,12 +40,13 @@ pub fn answer<M: Matcher, O: Sink>(
     requires short { length command.now.text ≤ 2 ^ 26 }
     requires ready { IsReadySession session.old }
     requires sink { O.faults out.old < 2 ^ 64 - 1 }
-    ensures answer { (history : ListOf RecordedFiring) → let s = session_of session.old history in
+    ensures answer { (history : ListOf RecordedFiring) → Remembers session.old.agent.parts history → let s = session_of session.old history in
         IsAnsweredOk s (reply_to (whole command.now.line command.now.text) s) session.new result }
-    ensures written { (history : ListOf RecordedFiring) → let s = session_of session.old history in
+    ensures written { (history : ListOf RecordedFiring) → Remembers session.old.agent.parts history → let s = session_of session.old history in
         OnOk result (Appends (O.written out.old) (O.written out.new) (step_text s (reply_to (whole command.now.line command.now.text) s))) }
-    ensures prefix { (history : ListOf RecordedFiring) → let s = session_of session.old history in
+    ensures prefix { (history : ListOf RecordedFiring) → Remembers session.old.agent.parts history → let s = session_of session.old history in
         AppendsSome (O.written out.old) (O.written out.new) (step_text s (reply_to (whole command.now.line command.now.text) s)) }
+    ensures ready { IsReadyAfter session.new result }
     ensures cause { HasPutCause (O.faults out.old) (O.faults out.new) result }
 {
     let mut text = Text::new(alloc);
@@ -74,6 +76,7 @@ fn follow<M: Matcher, O: Sink>(
         → OnOk result (Appends (O.written out.old) (O.written out.new) (step_text (session_of old history) reply)) }
     ensures prefix { (old : SessionKept M) (history : ListOf RecordedFiring) (reply : Reply) → Outcomes old.agent.mid_line reply session.old [] text.now (Ok outcome)
         → AppendsSome (O.written out.old) (O.written out.new) (step_text (session_of old history) reply) }
+    ensures ready { IsReadyAfter session.new result }
     ensures cause { HasPutCause (O.faults out.old) (O.faults out.new) result }
 {
     match outcome {
@@ -104,9 +107,9 @@ pub fn answer_unfinished<M: Matcher, O: Sink>(
 ) -> Result<(), PutFault>
     requires ready { IsReadySession session.old }
     requires sink { O.faults out.old < 2 ^ 64 - 1 }
-    ensures written { (history : ListOf RecordedFiring) → let s = session_of session.old history in
+    ensures written { (history : ListOf RecordedFiring) → Remembers session.old.agent.parts history → let s = session_of session.old history in
         OnOk result (Appends (O.written out.old) (O.written out.new) (step_text s (reply_to (unfinished line) s))) }
-    ensures prefix { (history : ListOf RecordedFiring) → let s = session_of session.old history in
+    ensures prefix { (history : ListOf RecordedFiring) → Remembers session.old.agent.parts history → let s = session_of session.old history in
         AppendsSome (O.written out.old) (O.written out.new) (step_text s (reply_to (unfinished line) s)) }
     ensures cause { HasPutCause (O.faults out.old) (O.faults out.new) result }
 {
@@ -123,7 +126,7 @@ fn refuse_unfinished<M: Matcher>(
     line: u64,
 ) -> Result<Text, NoMemory>
     requires { IsReadySession session.old }
-    ensures { (history : ListOf RecordedFiring) → let s = session_of session.old history in
+    ensures { (history : ListOf RecordedFiring) → Remembers session.old.agent.parts history → let s = session_of session.old history in
         IfOk result (λ text. text ≡ step_text s (reply_to (unfinished line) s)) }
 {
     let mut text = Text::new(alloc);

@@ -9,6 +9,7 @@ mod cases;
 mod checking;
 mod commands;
 mod failing;
+mod impasses;
 mod labels;
 mod limits;
 mod reading;

@@ -31,7 +31,7 @@ pub record RenewsRows (old new : PreferenceMemory) (gone : List ℕ) (made : Lis
   pub rows : new ≡ record old { rows = rows_after old.rows gone made }
   pub room : length (with_rows (without_firings old.rows gone) made) ≤ old.limit
 
-abbrev pub Renews : PreferenceMemory → PreferenceMemory → List ℕ → List Preference → Result (Unit {0}) Stop → Type 0
-Renews old new gone made (Ok done) = RenewsRows old new gone made
+abbrev pub Renews : PreferenceMemory → PreferenceMemory → List ℕ → List Preference → Result (List Preference) Stop → Type 0
+Renews old new gone made (Ok added) = RenewsRows old new gone made
 Renews old new gone made (Err (stop.Limit limit)) = (limit ≡ which.Preferences) × (old.limit < length (with_rows (without_firings old.rows gone) made))
 Renews old new gone made (Err stop.NoMemory) = Unit {0}

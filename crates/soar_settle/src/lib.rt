@@ -13,6 +13,7 @@ mod tagging;
 mod triples;
 
 pub use changes::Changes;
+pub use goal_elements::add_goal_elements;
 pub use renewal::renew;
 pub use settling::settle;
 pub use stop::Stop;

@@ -2,10 +2,11 @@
 use Rattle.std.specs.Prelude.{◌≡◌, ℕ, Bool, true, false, List, ◌++◌, map}
 use Rattle.soar_sym.specs.Words.{Texts, IsKnown}
 use Rattle.soar_sym.specs.declared.symbol.Triple.{Triple}
-use Rattle.defs_soar.specs.Events.{Event, Part, application_phase, proposal_phase, selects, shows, shows_no_longer}
+use Rattle.defs_soar.specs.Events.{Event, Part, application_phase, proposal_phase, selects, substates, shows, shows_no_longer}
 use Rattle.defs_soar.specs.Trace.{Piece, bare, line, line_text, piece_of, rendered}
 use Rattle.trace_lines.specs.declared.halting.Phase.{Phase}
 use Rattle.trace_lines.specs.declared.halting.Phase.TheVariants.{Application, Proposal}
+use Rattle.trace_lines.specs.declared.impasse.NewGoal.{NewGoal}
 use Rattle.trace_lines.specs.declared.selection.Selected.{Selected}
 
 -- ---- lines
@@ -32,6 +33,9 @@ SaysNothing mid before new_mid after = (after ≡ before) × (new_mid ≡ mid)
 
 abbrev pub selection_event : Selected → Event
 selection_event s = selects s.cycle s.below s.operator s.name
+
+abbrev pub goal_event : NewGoal → Event
+goal_event g = substates g.cycle g.below g.goal g.impasse
 
 abbrev pub part_of : Phase → Part
 part_of Proposal = proposal_phase

@@ -2,6 +2,7 @@
 #![tactic(auto)]
 
 mod halting;
+mod impasse;
 mod line;
 mod name;
 mod output;
@@ -9,6 +10,7 @@ mod selection;
 mod texts;
 
 pub use halting::{Phase, say_cut, say_halt};
+pub use impasse::{NewGoal, say_goal_limit, say_substate};
 pub use name::operator_name;
 pub use output::{say_output, say_outputs};
 pub use selection::{Selected, say_selection};

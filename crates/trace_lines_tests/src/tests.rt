@@ -3,16 +3,30 @@ ghost use Rattle.std.specs.List.{All};
 ghost use Rattle.soar_sym.specs.Words.{IsKnown};
 ghost use Rattle.trace_lines.specs.Names.{IsValueKnown};
 
+use defs_soar::Impasse;
 use soar_sym::architecture::{IO, NAME, NIL, OPERATOR, T};
 use soar_sym::{NoMemory, Sym, SymTable, Text, Triple};
 use soar_wm::{Element, Memory};
 use std::alloc::Global;
 use std::test::Fail;
-use trace_lines::{Phase, Selected, operator_name, say_cut, say_halt, say_outputs, say_selection};
+use trace_lines::{
+    NewGoal, Phase, Selected, operator_name, say_cut, say_goal_limit, say_halt, say_outputs,
+    say_selection, say_substate,
+};
 
 const S1: Sym = Sym::Ident {
     letter: b'S',
     number: 1,
+};
+
+const S2: Sym = Sym::Ident {
+    letter: b'S',
+    number: 2,
+};
+
+const S3: Sym = Sym::Ident {
+    letter: b'S',
+    number: 3,
 };
 
 const O1: Sym = Sym::Ident {
@@ -82,6 +96,24 @@ fn say_selections(table: &SymTable, out: &mut Text, mid_line: &mut bool) -> Resu
     say_selection(table, &named, out, mid_line)
 }
 
+fn say_goals(table: &SymTable, out: &mut Text, mid_line: &mut bool) -> Result<(), NoMemory> {
+    let second = NewGoal {
+        cycle: 21,
+        below: 1,
+        goal: S2,
+        impasse: Impasse::Tie,
+    };
+    let third = NewGoal {
+        cycle: 22,
+        below: 2,
+        goal: S3,
+        impasse: Impasse::OperatorNoChange,
+    };
+    say_substate(table, &second, out, mid_line)?;
+    say_substate(table, &third, out, mid_line)?;
+    say_goal_limit(out, mid_line)
+}
+
 fn say_phases(out: &mut Text, mid_line: &mut bool) -> Result<(), NoMemory> {
     say_cut(Phase::Proposal, out, mid_line)?;
     say_cut(Phase::Application, out, mid_line)
@@ -110,6 +142,7 @@ fn trace(alloc: Global) -> Result<Text, NoMemory> {
     let mut out = Text::from_str(alloc, "x")?;
     let mut mid_line = true;
     say_selections(&table, &mut out, &mut mid_line)?;
+    say_goals(&table, &mut out, &mut mid_line)?;
     say_phases(&mut out, &mut mid_line)?;
     say_links(&table, &mut out, &mut mid_line)?;
     say_halt(&mut out, &mut mid_line)?;
@@ -119,6 +152,9 @@ fn trace(alloc: Global) -> Result<Text, NoMemory> {
 const LINES: &str = "x
 1: O: O1
 20:     O: O1 (nil)
+21:   ==>S: S2 (tie)
+22:     ==>S: S3 (operator no-change)
+goal depth 100
 cut proposal
 cut application
 out - (S1 ^operator O1 +)

@@ -7,9 +7,9 @@ use Rattle.defs_match.specs.Rules.{RuleOf}
 use Rattle.defs_match.specs.declared.instance.Instance.{Instance}
 use Rattle.defs_soar.specs.Agents.{LiveFiring}
 use Rattle.defs_soar.specs.Pending.{Firable, Work as WorkOf, firable_of, is_none}
-use Rattle.wave_parts.specs.Carrying.{is_nothing, is_without}
-use Rattle.wave_parts.specs.Firables.{AreBound, IsPending, firables_for, rules_of}
-use Rattle.wave_parts.specs.declared.work.Work.{Work}
+use Rattle.pending_work.specs.Working.{is_nothing, is_without}
+use Rattle.pending_work.specs.Firables.{AreBound, IsPending, firables_for, rules_of}
+use Rattle.pending_work.specs.declared.work.Work.{Work}
 
 -- ---- whether something is pending
 

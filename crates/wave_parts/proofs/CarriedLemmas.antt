@@ -17,17 +17,19 @@ use Rattle.defs_soar.specs.Waves.{wave_of}
 use Rattle.soar_prefs.specs.Memory.{PreferenceMemory}
 use Rattle.wave_parts.specs.Carrying.{Carries, CarriesOut}
 use Rattle.wave_parts.specs.Counting.{Counts}
-use Rattle.wave_parts.specs.Firables.{IsPending}
-use Rattle.wave_parts.specs.FiresAll.{Begins, FiresAll, HasFired}
+use Rattle.wave_parts.specs.Firing.{standing_now}
+use Rattle.pending_work.specs.Firables.{IsPending}
+use Rattle.wave_firings.specs.FiresAll.{Begins, FiresAll, HasFired}
 use Rattle.soar_settle.specs.Renewal.{Renews, RenewsRows}
-use Rattle.wave_parts.specs.Seen.{agent_of, top_with, IsSound}
-use Rattle.wave_parts.specs.WaveParts.{fired_in, rows_made_in, rows_in_all}
+use Rattle.wave_parts.specs.Remembers.{Remembers}
+use Rattle.wave_parts.specs.Seen.{agent_of, IsSound}
+use Rattle.wave_parts.specs.WaveParts.{ended_in, fired_in, rows_made_in, rows_in_all}
 use Rattle.wave_parts.specs.declared.carrying.Done.{Done}
 use Rattle.wave_parts.specs.declared.parts.Parts.{Parts as PartsKept}
-use Rattle.wave_parts.specs.declared.firing.Fired.{Fired}
+use Rattle.wave_firings.specs.declared.firing.Fired.{Fired}
 use Rattle.soar_settle.specs.declared.stop.Stop.{Stop}
 use Rattle.soar_settle.specs.declared.stop.Stop.TheVariants as stop
-use Rattle.wave_parts.specs.declared.work.Work.{Work}
+use Rattle.pending_work.specs.declared.work.Work.{Work}
 use Rattle.wave_parts.proofs.CarryLemmas.{Counted, stops_at_waves, stops_at_retractions, stops_in_firing, stops_at_rows}
 use Rattle.wave_parts.proofs.FiredWaveLemmas.{last_within}
 use Rattle.wave_parts.proofs.StandsLemmas.{of_each_state}
@@ -48,7 +50,7 @@ carries_not new text s r why is stops = subst (Carries new text text s) (sym is)
 
 -- what carrying out does with each history it does in each state that the agent stands for
 pub of_each_wave : (old new : PartsKept) (work : Work) (before after : List ℕ) (r : Result Done Stop)
-    → ((history : List RecordedFiring) (w : WorkOf) → IsPending (map rule_seen old.rules) old.memory.elements work w → Carries new before after (wave_of without_learning (agent_of old history) w) r)
+    → ((history : List RecordedFiring) → Remembers old history → (w : WorkOf) → IsPending (map rule_seen old.rules) old.memory.elements work w → Carries new before after (wave_of without_learning (agent_of old history) w) r)
     → CarriesOut old new work before after r
 of_each_wave old new work before after r =
     of_each_state (λ (s : Agent). (w : WorkOf) → IsPending (map rule_seen old.rules) old.memory.elements work w → Carries new before after (wave_of without_learning s w) r) old
@@ -56,7 +58,7 @@ of_each_wave old new work before after r =
 -- ---- counts
 
 pub waves_stop : (old : PartsKept) (history : List RecordedFiring) (w : WorkOf) (why : Stop) → IsSound old → Counts (old.waves + 1) (Err why) → StopsAs (wave_of without_learning (agent_of old history) w) why
-waves_stop old history w (stop.Limit limit) sound c = stops_at_waves (agent_of old history) w (top_with sound.selected) sound.one_goal (omega (arith, c.1)) ∙ ap Some (sym c.0)
+waves_stop old history w (stop.Limit limit) sound c = stops_at_waves (agent_of old history) w (omega (arith, c.1)) ∙ ap Some (sym c.0)
 waves_stop old history w stop.NoMemory sound c = tt
 
 pub retracted_length : (rules : List RuleOf) (elements : List Element) (work : Work) (w : WorkOf) → IsPending rules elements work w → length work.retracted ≡ length w.retracted
@@ -65,7 +67,7 @@ retracted_length rules elements work w pend = ap length pend.retracted_are ∙ l
 pub retractions_stop : (old : PartsKept) (history : List RecordedFiring) (work : Work) (w : WorkOf) (n : ℕ) (why : Stop) → IsSound old → IsPending (map rule_seen old.rules) old.memory.elements work w
     → old.waves + 1 ≤ 18446744073709551615 → n ≡ length work.retracted → Counts (old.retractions + n) (Err why) → StopsAs (wave_of without_learning (agent_of old history) w) why
 retractions_stop old history work w n (stop.Limit limit) sound pend few is c =
-    stops_at_retractions (agent_of old history) w (top_with sound.selected) sound.one_goal (omega (arith, few)) (omega (arith, is, c.1, retracted_length _ _ work w pend)) ∙ ap Some (sym c.0)
+    stops_at_retractions (agent_of old history) w (omega (arith, few)) (omega (arith, is, c.1, retracted_length _ _ work w pend)) ∙ ap Some (sym c.0)
 retractions_stop old history work w n stop.NoMemory sound pend few is c = tt
 
 pub counted_now : (old : PartsKept) (history : List RecordedFiring) (work : Work) (w : WorkOf) (n : ℕ) → IsPending (map rule_seen old.rules) old.memory.elements work w
@@ -77,9 +79,10 @@ counted_now old history work w n pend few is few_retractions = record {
 
 -- ---- firing
 
-abbrev pub begins_now : (old : PartsKept) (history : List RecordedFiring) → Begins old.table old.letters old.goals old.memory.elements old.firings (before_wave (agent_of old history)) (first_wave (agent_of old history))
+abbrev pub begins_now : (old : PartsKept) (history : List RecordedFiring) → Begins old.table old.letters (standing_now old) old.firings (before_wave (agent_of old history)) (first_wave (agent_of old history))
 begins_now old history = record {
-  goals_are = refl;
+  reach_is = refl;
+  rows_are = refl;
   elements_are = refl;
   words_are = refl;
   letters_are = refl;
@@ -92,33 +95,33 @@ begins_now old history = record {
 
 pub firing_stop : (old : PartsKept) (history : List RecordedFiring) (work : Work) (w : WorkOf) (words : Texts) (letters : List ℕ) (why : Stop) → IsSound old
     → IsPending (map rule_seen old.rules) old.memory.elements work w → Counted (agent_of old history) w
-    → FiresAll old.table old.letters old.goals (map rule_seen old.rules) old.memory.elements work.fired old.firings words letters (Err why)
+    → FiresAll old.table old.letters (standing_now old) (map rule_seen old.rules) work.fired old.firings words letters (Err why)
     → StopsAs (wave_of without_learning (agent_of old history) w) why
 firing_stop old history work w words letters (stop.Limit limit) sound pend counted all =
     let a = agent_of old history in
-    stops_in_firing a w (top_with sound.selected) limit sound.one_goal counted
+    stops_in_firing a w limit counted
     (subst (λ firables. first_passed (with_firings (before_wave a) (first_wave a) firables).totals ≡ Some limit) pend.fired_are (all (before_wave a) (first_wave a) (begins_now old history)))
 firing_stop old history work w words letters stop.NoMemory sound pend counted all = tt
 
 pub has_fired : (old : PartsKept) (history : List RecordedFiring) (work : Work) (w : WorkOf) (words : Texts) (letters : List ℕ) (made : Fired)
     → IsPending (map rule_seen old.rules) old.memory.elements work w
-    → FiresAll old.table old.letters old.goals (map rule_seen old.rules) old.memory.elements work.fired old.firings words letters (Ok made)
-    → HasFired words letters (length work.fired) made (first_wave (agent_of old history)) (fired_in (agent_of old history) w)
+    → FiresAll old.table old.letters (standing_now old) (map rule_seen old.rules) work.fired old.firings words letters (Ok made)
+    → HasFired (before_wave (agent_of old history)) words letters (length work.fired) made (first_wave (agent_of old history)) (fired_in (agent_of old history) w)
 has_fired old history work w words letters made pend all =
     let a = agent_of old history in
-    subst (λ firables. HasFired words letters (length work.fired) made (first_wave a) (with_firings (before_wave a) (first_wave a) firables)) pend.fired_are
+    subst (λ firables. HasFired (before_wave a) words letters (length work.fired) made (first_wave a) (with_firings (before_wave a) (first_wave a) firables)) pend.fired_are
     (all (before_wave a) (first_wave a) (begins_now old history))
 
 -- the number of the last firing is within the limit
 pub firings_fit : (old : PartsKept) (history : List RecordedFiring) (work : Work) (w : WorkOf) (words : Texts) (letters : List ℕ) (made : Fired)
-    → HasFired words letters (length work.fired) made (first_wave (agent_of old history)) (fired_in (agent_of old history) w) → old.firings ≤ 18446744073709551615
+    → HasFired (before_wave (agent_of old history)) words letters (length work.fired) made (first_wave (agent_of old history)) (fired_in (agent_of old history) w) → old.firings ≤ 18446744073709551615
     → old.firings + length work.fired ≤ 18446744073709551615
 firings_fit old history work w words letters made fired fits =
     let a = agent_of old history in
     omega (arith, fired.last_is, last_within (before_wave a) (first_wave a) w.fired fired.within fits)
 
 pub firings_stop : (old : PartsKept) (history : List RecordedFiring) (work : Work) (w : WorkOf) (words : Texts) (letters : List ℕ) (made : Fired) (n : ℕ) (why : Stop)
-    → HasFired words letters (length work.fired) made (first_wave (agent_of old history)) (fired_in (agent_of old history) w) → old.firings ≤ 18446744073709551615
+    → HasFired (before_wave (agent_of old history)) words letters (length work.fired) made (first_wave (agent_of old history)) (fired_in (agent_of old history) w) → old.firings ≤ 18446744073709551615
     → n ≡ length work.fired → Counts (old.firings + n) (Err why) → StopsAs (wave_of without_learning (agent_of old history) w) why
 firings_stop old history work w words letters made n (stop.Limit limit) fired fits is over =
     absurd (omega (arith, is, over.1, firings_fit old history work w words letters made fired fits))
@@ -127,19 +130,19 @@ firings_stop old history work w words letters made n stop.NoMemory fired fits is
 -- ---- rows
 
 pub rows_all : (old : PartsKept) (history : List RecordedFiring) (work : Work) (w : WorkOf) (made : List Preference) → IsPending (map rule_seen old.rules) old.memory.elements work w
-    → made ≡ rows_made_in (fired_in (agent_of old history) w)
-    → length (with_rows (without_firings old.prefs.rows work.retracted) made) ≡ rows_in_all (agent_of old history) w.retracted (fired_in (agent_of old history) w)
+    → made ≡ rows_made_in (ended_in (agent_of old history) w)
+    → length (with_rows (without_firings old.prefs.rows work.retracted) made) ≡ rows_in_all (agent_of old history) w.retracted (ended_in (agent_of old history) w)
 rows_all old history work w made pend same = λ k. length (with_rows (without_firings old.prefs.rows (pend.retracted_are k)) (same k))
 
 pub rows_stop : (old : PartsKept) (history : List RecordedFiring) (work : Work) (w : WorkOf) (new : PreferenceMemory) (made : List Preference) (why : Stop) → IsSound old
     → IsPending (map rule_seen old.rules) old.memory.elements work w → Counted (agent_of old history) w
-    → made ≡ rows_made_in (fired_in (agent_of old history) w) → first_passed (fired_in (agent_of old history) w).totals ≡ None
+    → made ≡ rows_made_in (ended_in (agent_of old history) w) → first_passed (fired_in (agent_of old history) w).totals ≡ None
     → Renews old.prefs new work.retracted made (Err why) → StopsAs (wave_of without_learning (agent_of old history) w) why
 rows_stop old history work w new made (stop.Limit limit) sound pend counted same within over =
-    stops_at_rows (agent_of old history) w (top_with sound.selected) sound.one_goal counted within (omega (arith, sound.row_limit, over.1, rows_all old history work w made pend same)) ∙ ap Some (sym over.0)
+    stops_at_rows (agent_of old history) w counted within (omega (arith, sound.row_limit, over.1, rows_all old history work w made pend same)) ∙ ap Some (sym over.0)
 rows_stop old history work w new made stop.NoMemory sound pend counted same within over = tt
 
 pub rows_fit : (old : PartsKept) (history : List RecordedFiring) (work : Work) (w : WorkOf) (new : PreferenceMemory) (made : List Preference) → IsSound old
-    → IsPending (map rule_seen old.rules) old.memory.elements work w → made ≡ rows_made_in (fired_in (agent_of old history) w)
-    → RenewsRows old.prefs new work.retracted made → rows_in_all (agent_of old history) w.retracted (fired_in (agent_of old history) w) ≤ 1000000
+    → IsPending (map rule_seen old.rules) old.memory.elements work w → made ≡ rows_made_in (ended_in (agent_of old history) w)
+    → RenewsRows old.prefs new work.retracted made → rows_in_all (agent_of old history) w.retracted (ended_in (agent_of old history) w) ≤ 1000000
 rows_fit old history work w new made sound pend same renews = omega (arith, renews.room, sound.row_limit, rows_all old history work w made pend same)

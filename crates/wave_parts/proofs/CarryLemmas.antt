@@ -1,6 +1,5 @@
--- A wave of the top goal, from its parts.
-use Rattle.std.proofs.Common.{◌≡◌, suc, ◌+◌, ◌<◌, ◌≤◌, ◌∙◌, Bool, ◌||◌, List, [], ◌∷◌, ◌++◌, length, Some, None, sym, ap}
-use Rattle.defs_soar.specs.declared.goal.Goal.{Goal}
+-- A wave, from its parts.
+use Rattle.std.proofs.Common.{◌≡◌, suc, ◌+◌, ◌<◌, ◌≤◌, ◌∙◌, Bool, ◌||◌, List, [], ◌∷◌, ◌++◌, length, Some, None, refl, sym, ap}
 use Rattle.defs_soar.specs.declared.limit.Which.{Which}
 use Rattle.defs_soar.specs.declared.limit.Which.TheVariants as which
 use Rattle.defs_soar.specs.Agents.{Agent}
@@ -10,28 +9,19 @@ use Rattle.defs_soar.specs.Limits.{Total, preferences_to, counts_to, first_passe
 use Rattle.defs_soar.specs.Pending.{Work}
 use Rattle.defs_soar.specs.Phases.{halting}
 use Rattle.defs_soar.specs.Resettling.{resettled}
-use Rattle.defs_soar.specs.WaveAtHand.{Wave}
-use Rattle.defs_soar.specs.WaveFirings.{first_wave, before_wave}
 use Rattle.defs_soar.specs.Waves.{after_work, wave_of}
-use Rattle.wave_parts.specs.WaveParts.{fired_in, settled_after, rows_in_all}
-use Rattle.wave_parts.proofs.FiredWaveLemmas.{shallow_firings}
+use Rattle.wave_parts.specs.WaveParts.{ended_in, fired_in, settled_after, rows_in_all}
 use Rattle.wave_parts.proofs.LimitLemmas.{passes_over, passes_not, passed_here, passed_later, passed_front, passed_behind}
-use Rattle.wave_parts.proofs.QuietLemmas.{quiet_wave}
-
--- the wave that fired, with nothing left to learn from
-abbrev pub quieted : Wave → Wave
-quieted w = record w { next = [] }
 
 -- nothing is learned
-pub quiet_work : (a : Agent) (work : Work) (goal : Goal) → a.holding.goals ≡ goal ∷ [] → wave_of without_learning a work ≡ after_work a work.retracted (quieted (fired_in a work))
+pub quiet_work : (a : Agent) (work : Work) → wave_of without_learning a work ≡ after_work a work.retracted (ended_in a work)
 unfolding wave_of
-quiet_work a work goal one =
-    ap (after_work a work.retracted) (quiet_wave (before_wave a) (fired_in a work) (shallow_firings (before_wave a) goal (first_wave a) work.fired one tt))
+quiet_work a work = refl
 
 -- ---- what it draws
 
 abbrev from_rows : Agent → Work → List Total
-from_rows a work = preferences_to (rows_in_all a work.retracted (fired_in a work)) ∷ (settled_after a work.retracted (fired_in a work)).totals
+from_rows a work = preferences_to (rows_in_all a work.retracted (ended_in a work)) ∷ (settled_after a work.retracted (ended_in a work)).totals
 
 abbrev from_firing : Agent → Work → List Total
 from_firing a work = (fired_in a work).totals ++ from_rows a work
@@ -42,25 +32,26 @@ from_retractions a work = counts_to (a.counts.retractions + length work.retracte
 abbrev drawn_in : Agent → Work → List Total
 drawn_in a work = counts_to (suc a.counts.waves) ∷ from_retractions a work
 
-pub drawn_is : (a : Agent) (work : Work) (goal : Goal) → a.holding.goals ≡ goal ∷ [] → (wave_of without_learning a work).totals ≡ drawn_in a work
-unfolding resettled
-drawn_is a work goal one = ap (λ s. s.totals) (quiet_work a work goal one)
+pub drawn_is : (a : Agent) (work : Work) → (wave_of without_learning a work).totals ≡ drawn_in a work
+unfolding resettled without_learning
+drawn_is a work = ap (λ s. s.totals) (quiet_work a work)
 
-pub halted_is : (a : Agent) (work : Work) (goal : Goal) → a.holding.goals ≡ goal ∷ [] → (wave_of without_learning a work).halted ≡ (fired_in a work).halted
-halted_is a work goal one = ap (λ s. s.halted) (quiet_work a work goal one)
+pub halted_is : (a : Agent) (work : Work) → (wave_of without_learning a work).halted ≡ (fired_in a work).halted
+unfolding without_learning
+halted_is a work = ap (λ s. s.halted) (quiet_work a work)
 
 -- ---- where it stops
 
-pub stops_at_waves : (a : Agent) (work : Work) (goal : Goal) → a.holding.goals ≡ goal ∷ [] → 18446744073709551615 < suc a.counts.waves → first_passed (wave_of without_learning a work).totals ≡ Some which.Counts
-stops_at_waves a work goal one over = ap first_passed (drawn_is a work goal one) ∙ passed_here (counts_to (suc a.counts.waves)) (from_retractions a work) which.Counts (passes_over (suc a.counts.waves) which.Counts over)
+pub stops_at_waves : (a : Agent) (work : Work) → 18446744073709551615 < suc a.counts.waves → first_passed (wave_of without_learning a work).totals ≡ Some which.Counts
+stops_at_waves a work over = ap first_passed (drawn_is a work) ∙ passed_here (counts_to (suc a.counts.waves)) (from_retractions a work) which.Counts (passes_over (suc a.counts.waves) which.Counts over)
 
-past_waves : (a : Agent) (work : Work) (goal : Goal) → a.holding.goals ≡ goal ∷ [] → suc a.counts.waves ≤ 18446744073709551615
+past_waves : (a : Agent) (work : Work) → suc a.counts.waves ≤ 18446744073709551615
     → first_passed (wave_of without_learning a work).totals ≡ first_passed (from_retractions a work)
-past_waves a work goal one few = ap first_passed (drawn_is a work goal one) ∙ passed_later (counts_to (suc a.counts.waves)) (from_retractions a work) (passes_not (suc a.counts.waves) which.Counts few)
+past_waves a work few = ap first_passed (drawn_is a work) ∙ passed_later (counts_to (suc a.counts.waves)) (from_retractions a work) (passes_not (suc a.counts.waves) which.Counts few)
 
-pub stops_at_retractions : (a : Agent) (work : Work) (goal : Goal) → a.holding.goals ≡ goal ∷ [] → suc a.counts.waves ≤ 18446744073709551615
+pub stops_at_retractions : (a : Agent) (work : Work) → suc a.counts.waves ≤ 18446744073709551615
     → 18446744073709551615 < a.counts.retractions + length work.retracted → first_passed (wave_of without_learning a work).totals ≡ Some which.Counts
-stops_at_retractions a work goal one few over = past_waves a work goal one few ∙ passed_here (counts_to (a.counts.retractions + length work.retracted)) (from_firing a work) which.Counts (passes_over (a.counts.retractions + length work.retracted) which.Counts over)
+stops_at_retractions a work few over = past_waves a work few ∙ passed_here (counts_to (a.counts.retractions + length work.retracted)) (from_firing a work) which.Counts (passes_over (a.counts.retractions + length work.retracted) which.Counts over)
 
 -- ---- the counts are within their limits
 
@@ -68,37 +59,37 @@ pub record Counted (a : Agent) (work : Work) : Type 0 where
   pub waves : suc a.counts.waves ≤ 18446744073709551615
   pub retractions : a.counts.retractions + length work.retracted ≤ 18446744073709551615
 
-past_counts : (a : Agent) (work : Work) (goal : Goal) → a.holding.goals ≡ goal ∷ [] → Counted a work
+past_counts : (a : Agent) (work : Work) → Counted a work
     → first_passed (wave_of without_learning a work).totals ≡ first_passed (from_firing a work)
-past_counts a work goal one few = past_waves a work goal one few.waves ∙ passed_later (counts_to (a.counts.retractions + length work.retracted)) (from_firing a work) (passes_not (a.counts.retractions + length work.retracted) which.Counts few.retractions)
+past_counts a work few = past_waves a work few.waves ∙ passed_later (counts_to (a.counts.retractions + length work.retracted)) (from_firing a work) (passes_not (a.counts.retractions + length work.retracted) which.Counts few.retractions)
 
-pub stops_in_firing : (a : Agent) (work : Work) (goal : Goal) (limit : Which) → a.holding.goals ≡ goal ∷ [] → Counted a work
+pub stops_in_firing : (a : Agent) (work : Work) (limit : Which) → Counted a work
     → first_passed (fired_in a work).totals ≡ Some limit → first_passed (wave_of without_learning a work).totals ≡ Some limit
-stops_in_firing a work goal limit one few passed = past_counts a work goal one few ∙ passed_front (fired_in a work).totals (from_rows a work) limit passed
+stops_in_firing a work limit few passed = past_counts a work few ∙ passed_front (fired_in a work).totals (from_rows a work) limit passed
 
-past_firing : (a : Agent) (work : Work) (goal : Goal) → a.holding.goals ≡ goal ∷ [] → Counted a work → first_passed (fired_in a work).totals ≡ None
+past_firing : (a : Agent) (work : Work) → Counted a work → first_passed (fired_in a work).totals ≡ None
     → first_passed (wave_of without_learning a work).totals ≡ first_passed (from_rows a work)
-past_firing a work goal one few none = past_counts a work goal one few ∙ passed_behind (fired_in a work).totals (from_rows a work) none
+past_firing a work few none = past_counts a work few ∙ passed_behind (fired_in a work).totals (from_rows a work) none
 
-pub stops_at_rows : (a : Agent) (work : Work) (goal : Goal) → a.holding.goals ≡ goal ∷ [] → Counted a work → first_passed (fired_in a work).totals ≡ None
-    → 1000000 < rows_in_all a work.retracted (fired_in a work) → first_passed (wave_of without_learning a work).totals ≡ Some which.Preferences
-stops_at_rows a work goal one few none over = past_firing a work goal one few none ∙ passed_here (preferences_to (rows_in_all a work.retracted (fired_in a work))) (settled_after a work.retracted (fired_in a work)).totals which.Preferences
-    (passes_over (rows_in_all a work.retracted (fired_in a work)) which.Preferences over)
+pub stops_at_rows : (a : Agent) (work : Work) → Counted a work → first_passed (fired_in a work).totals ≡ None
+    → 1000000 < rows_in_all a work.retracted (ended_in a work) → first_passed (wave_of without_learning a work).totals ≡ Some which.Preferences
+stops_at_rows a work few none over = past_firing a work few none ∙ passed_here (preferences_to (rows_in_all a work.retracted (ended_in a work))) (settled_after a work.retracted (ended_in a work)).totals which.Preferences
+    (passes_over (rows_in_all a work.retracted (ended_in a work)) which.Preferences over)
 
 -- the rest is for settling to say
-pub past_rows : (a : Agent) (work : Work) (goal : Goal) → a.holding.goals ≡ goal ∷ [] → Counted a work → first_passed (fired_in a work).totals ≡ None
-    → rows_in_all a work.retracted (fired_in a work) ≤ 1000000
-    → first_passed (wave_of without_learning a work).totals ≡ first_passed (settled_after a work.retracted (fired_in a work)).totals
-past_rows a work goal one few none room = past_firing a work goal one few none ∙ passed_later (preferences_to (rows_in_all a work.retracted (fired_in a work))) (settled_after a work.retracted (fired_in a work)).totals
-    (passes_not (rows_in_all a work.retracted (fired_in a work)) which.Preferences room)
+pub past_rows : (a : Agent) (work : Work) → Counted a work → first_passed (fired_in a work).totals ≡ None
+    → rows_in_all a work.retracted (ended_in a work) ≤ 1000000
+    → first_passed (wave_of without_learning a work).totals ≡ first_passed (settled_after a work.retracted (ended_in a work)).totals
+past_rows a work few none room = past_firing a work few none ∙ passed_later (preferences_to (rows_in_all a work.retracted (ended_in a work))) (settled_after a work.retracted (ended_in a work)).totals
+    (passes_not (rows_in_all a work.retracted (ended_in a work)) which.Preferences room)
 
 -- ---- the state that it leaves
 
 abbrev pub history_after : Agent → Work → List RecordedFiring
-history_after a work = (after_work a work.retracted (quieted (fired_in a work))).agent.history
+history_after a work = (after_work a work.retracted (ended_in a work)).agent.history
 
-pub stands_after : (a s : Agent) (work : Work) (goal : Goal) (halted : Bool) → a.holding.goals ≡ goal ∷ [] → s ≡ (settled_after a work.retracted (fired_in a work)).agent → halted ≡ (fired_in a work).halted
+pub stands_after : (a s : Agent) (work : Work) (halted : Bool) → s ≡ (settled_after a work.retracted (ended_in a work)).agent → halted ≡ (fired_in a work).halted
     → record s { history = history_after a work; halted = s.halted || halted } ≡ halting (wave_of without_learning a work)
-unfolding resettled
-stands_after a s work goal halted one settled is =
-    (λ k. record (settled k) { history = history_after a work; halted = (settled k).halted || is k }) ∙ sym (ap halting (quiet_work a work goal one))
+unfolding resettled without_learning
+stands_after a s work halted settled is =
+    (λ k. record (settled k) { history = history_after a work; halted = (settled k).halted || is k }) ∙ sym (ap halting (quiet_work a work))

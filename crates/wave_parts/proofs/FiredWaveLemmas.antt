@@ -1,45 +1,18 @@
 -- What the firings of a wave leave as it was, and what they write.
 use Rattle.std.proofs.Common.{◌≡◌, ℕ, suc, ◌≤◌, ◌∙◌, Bool, true, false, cond, List, [], ◌∷◌, ◌++◌, map, flat_map, append-nil, Option, Some, None, refl, sym, ap, subst, arith}
 use Rattle.std.proofs.lemmas.Grind.{flat_map-append}
-use Rattle.std.specs.List.{list_any}
-use Rattle.soar_sym.specs.Equality.{symbol_eq}
-use Rattle.soar_wm.specs.declared.element.Element.{Element}
-use Rattle.defs_soar.specs.declared.goal.Goal.{Goal}
 use Rattle.defs_soar.specs.declared.limit.Which.{Which}
 use Rattle.defs_soar.specs.declared.limit.Which.TheVariants as which
 use Rattle.defs_soar.specs.Events.{Event, makes_wish, drops}
 use Rattle.defs_soar.specs.Limits.{counts_to, first_passed}
 use Rattle.defs_soar.specs.Pending.{Firable, is_of_operator_kind}
-use Rattle.defs_soar.specs.Support.{match_depth}
 use Rattle.defs_soar.specs.WaveAtHand.{Fresh, fired, BeforeWave, Wave, all_fresh}
 use Rattle.defs_soar.specs.WaveFirings.{made_in, fresh_firing, firing_of_work, with_firing, with_firings}
 use Rattle.defs_soar.specs.Waves.{text_events, entry_events}
-use Rattle.wave_parts.specs.FiresAll.{texts_of_fresh}
+use Rattle.wave_firings.specs.FiresAll.{texts_of_fresh}
 use Rattle.wave_parts.specs.Seen.{written_by, written_of}
-use Rattle.wave_parts.proofs.FiringAgreement.{stays_stopped, fresh_push}
+use Rattle.wave_firings.proofs.FiringAgreement.{stays_stopped, fresh_push}
 use Rattle.wave_parts.proofs.LimitLemmas.{within_here, within_behind, within_limit}
-use Rattle.wave_parts.proofs.QuietLemmas.{AreShallow}
-
--- ---- the top goal alone
-
-depth_one : (goal : Goal) (elements : List Element) → match_depth (goal ∷ []) elements ≤ 1
-depth_one goal elements = by (list_any (λ e. symbol_eq e.id goal.id) elements)
-  where
-    by : (b : Bool) → cond b 1 0 ≤ 1
-    by true = omega arith
-    by false = omega arith
-
-shallow_append : (fresh more : List Fresh) → AreShallow fresh → AreShallow more → AreShallow (fresh ++ more)
-shallow_append [] more h k = k
-shallow_append (x ∷ fresh) more h k = (h.0, shallow_append fresh more h.1 k)
-
-pub shallow_firings : (m : BeforeWave) (goal : Goal) (w : Wave) (firables : List Firable) → m.reach.goals ≡ goal ∷ [] → AreShallow (all_fresh w.entries)
-    → AreShallow (all_fresh (with_firings m w firables).entries)
-unfolding with_firings
-shallow_firings m goal w [] one h = h
-shallow_firings m goal w (f ∷ firables) one h =
-    shallow_firings m goal (with_firing m w f) firables one
-    (subst AreShallow (sym (fresh_push w.entries _)) (shallow_append (all_fresh w.entries) _ h (subst (λ goals. match_depth goals f.elements ≤ 1) (sym one) (depth_one goal f.elements), tt)))
 
 -- ---- what stays
 

@@ -1,87 +1,73 @@
--- One instance more, as the code fires it.
-use Rattle.std.proofs.Common.{◌≡◌, ◌<◌, ◌≤◌, ℕ, ◌+◌, ◌-◌, ◌^◌, suc, true, false, List, [], ◌∷◌, ◌++◌, length, flat_map, drop, get_or, Some, Ok, Err, sym, ap, ◌∙◌, subst, add-one, arith}
+-- The firings of a wave, where the parts of an agent fire them.
+use Rattle.std.proofs.Common.{◌≡◌, ℕ, suc, ◌+◌, ◌∙◌, List, [], ◌∷◌, ◌++◌, map, length, length-append, Result, Ok, Err, inl, inr, refl, sym, ap, subst, arith}
 use Rattle.std.proofs.lemmas.List.{length-map}
-use Rattle.std.specs.Prelude.{nat_lt, if◌then◌else◌}
+use Rattle.std.specs.Prelude.{flat_map}
 use Rattle.soar_sym.specs.Words.{Texts}
-use Rattle.soar_wm.specs.declared.element.Element.{Element}
-use Rattle.defs_match.specs.Rules.{RuleOf}
+use Rattle.soar_rule.specs.Symbols.{AreKnown}
+use Rattle.defs_match.specs.Rules.{rule_seen}
 use Rattle.defs_match.specs.declared.instance.Instance.{Instance}
 use Rattle.defs_soar.specs.declared.goal.Goal.{Goal}
-use Rattle.defs_soar.specs.declared.limit.Which.TheVariants as which
-use Rattle.defs_soar.specs.Pending.{Firable, firable_of}
-use Rattle.wave_parts.specs.Firables.{firables_for, rules_of, IsInstance}
-use Rattle.wave_parts.specs.FiringOutcome.{Gathered, gathered, stopped, then_on, first_of, firing_outcome, next_outcome, firings_outcome, instances_outcome, Leaves, LeavesOne}
-use Rattle.wave_parts.specs.declared.firing.Fired.{Fired}
+use Rattle.defs_soar.specs.Goals.{goal_ids}
+use Rattle.defs_soar.specs.Pending.{Firable, is_of_operator_kind}
+use Rattle.defs_soar.specs.WaveAtHand.{BeforeWave, Wave, all_fresh}
+use Rattle.defs_soar.specs.WaveFirings.{before_wave, first_wave, firing_of_work, fresh_firing, made_in, with_firing, with_firings}
+use Rattle.firing_records.specs.Recorded.{Standing, fresh_seen, recorded_seen}
+use Rattle.pending_work.specs.Firables.{firables_for}
 use Rattle.soar_settle.specs.declared.stop.Stop.{Stop}
-use Rattle.soar_settle.specs.declared.stop.Stop.TheVariants as stop
-use Rattle.wave_parts.proofs.FiringKnown.{next_instance}
+use Rattle.wave_firings.specs.FiresAll.{FiresAll}
+use Rattle.wave_firings.specs.declared.firing.Fired.{Fired}
+use Rattle.wave_firings.proofs.FiringAgreement.{fresh_push}
+use Rattle.wave_parts.specs.Firing.{FiresHere, standing_now}
+use Rattle.wave_parts.specs.Seen.{AreGoalsKnown, agent_of}
+use Rattle.wave_parts.specs.declared.firing.WaveFired.{WaveFired}
+use Rattle.wave_parts.specs.declared.parts.Parts.{Parts as PartsKept}
+use Rattle.wave_parts.proofs.CarriedLemmas.{begins_now}
 
--- ---- the rule of an instance
+-- ---- goals
 
-first_alone : (rules : List RuleOf) (rule : RuleOf) → length rules ≡ 1 → Some rule ≡ first_of rules → rules ≡ rule ∷ []
-first_alone [] rule one first = absurd (cc)
-first_alone (r ∷ []) rule one first = ap (λ x. x ∷ []) (grind arith)
-first_alone (r ∷ s ∷ rules) rule one first = absurd (omega (arith, one))
+pub ids_known : (words : Texts) (letters : List ℕ) (goals : List Goal) → AreGoalsKnown words letters goals → AreKnown words (goal_ids goals)
+ids_known words letters [] h = tt
+ids_known words letters (g ∷ goals) h = ((h g (inl refl)).id_known, ids_known words letters goals (λ x is. h x (inr is)))
 
-pub rule_alone : (rules : List RuleOf) (i : Instance) (rule : RuleOf) → IsInstance rules i → Some rule ≡ first_of (rules_of rules i.rule) → rules_of rules i.rule ≡ rule ∷ []
-rule_alone rules i rule h first = first_alone (rules_of rules i.rule) rule h.one first
+-- ---- answers
 
--- ---- the next number
+pub fires_so : (old new : PartsKept) (s : Standing) (instances : List Instance) (r : Result Fired Stop) → s ≡ standing_now old
+    → FiresAll old.table old.letters s (map rule_seen old.rules) instances old.firings new.table new.letters r
+    → FiresAll old.table old.letters (standing_now old) (map rule_seen old.rules) instances old.firings new.table new.letters r
+fires_so old new s instances r same = subst (λ at. FiresAll old.table old.letters at (map rule_seen old.rules) instances old.firings new.table new.letters r) same
 
-within_count : (number next : ℕ) → next ≡ number + 1 → next ≤ 2 ^ 64 - 1 → nat_lt 18446744073709551615 (suc number) ≡ false
-within_count number next is most = grind arith
+pub stops_so : (old new : PartsKept) (instances : List Instance) (r : Result WaveFired Stop) (why : Stop) → r ≡ Err why
+    → FiresAll old.table old.letters (standing_now old) (map rule_seen old.rules) instances old.firings new.table new.letters (Err why)
+    → FiresHere old new instances r
+stops_so old new instances r why is = subst (FiresHere old new instances) (sym is)
 
-over_count : (number : ℕ) → number ≡ 2 ^ 64 - 1 → nat_lt 18446744073709551615 (suc number) ≡ true
-over_count number is = grind arith
+-- ---- how many are recorded
 
--- ---- the instance at hand, and those behind it
+last_counts : (m : BeforeWave) (w : Wave) (firables : List Firable) → (with_firings m w firables).last_firing ≡ w.last_firing + length firables
+unfolding with_firings
+last_counts m w [] = omega arith
+last_counts m w (f ∷ firables) = omega (arith, last_counts m (with_firing m w f) firables)
 
-module _ (goals : List Goal) (words : Texts) (letters : List ℕ) (made : Fired) (number : ℕ) where
-  -- what stands before it, with its number or the one before
-  abbrev at : ℕ → Gathered
-  at n = gathered words letters n made
+fresh_counts : (m : BeforeWave) (w : Wave) (firables : List Firable) → length (all_fresh (with_firings m w firables).entries) ≡ length (all_fresh w.entries) + length firables
+unfolding with_firings
+fresh_counts m w [] = omega arith
+fresh_counts m w (f ∷ firables) =
+    let x = fresh_firing m (firing_of_work m w f (made_in w m f)) (is_of_operator_kind m.reach.goals f) (made_in w m f) in
+    omega (arith, fresh_counts m (with_firing m w f) firables, ap length (fresh_push w.entries x), length-append (all_fresh w.entries) (x ∷ []))
 
-  next_is : (next : ℕ) (f : Firable) → next ≡ number + 1 → next ≤ 2 ^ 64 - 1 → next_outcome goals f (at number) ≡ firing_outcome goals next (at next) f
-  next_is next f is most =
-      ap (λ over. if over then stopped which.Counts else firing_outcome goals (suc number) (at number) f) (within_count number next is most)
-      ∙ ap (λ n. firing_outcome goals n (at number) f) (sym (is ∙ add-one number))
-
-  first_fires : (next : ℕ) (after : Gathered) (firables later : List Firable) → next ≡ number + 1 → next ≤ 2 ^ 64 - 1 → length firables ≡ 1
-      → LeavesOne goals next (at next) firables after (Ok tt) → firings_outcome goals (firables ++ later) (at number) ≡ firings_outcome goals later after
-  first_fires next after [] later is most one leaves = absurd (omega (arith, one))
-  first_fires next after (f ∷ []) later is most one leaves = ap (λ o. then_on o (firings_outcome goals later)) (next_is next f is most ∙ leaves)
-  first_fires next after (f ∷ g ∷ firables) later is most one leaves = absurd (omega (arith, one))
-
-  first_stops : (next : ℕ) (after last : Gathered) (e : Stop) (firables later : List Firable) → next ≡ number + 1 → next ≤ 2 ^ 64 - 1 → length firables ≡ 1
-      → LeavesOne goals next (at next) firables after (Err e) → Leaves (firings_outcome goals (firables ++ later) (at number)) last (Err e)
-  first_stops next after last e [] later is most one leaves = absurd (omega (arith, one))
-  first_stops next after last (stop.Limit limit) (f ∷ []) later is most one leaves = ap (λ o. then_on o (firings_outcome goals later)) (next_is next f is most ∙ leaves)
-  first_stops next after last stop.NoMemory (f ∷ []) later is most one leaves = tt
-  first_stops next after last e (f ∷ g ∷ firables) later is most one leaves = absurd (omega (arith, one))
-
-  first_over : (firables later : List Firable) → number ≡ 2 ^ 64 - 1 → length firables ≡ 1 → firings_outcome goals (firables ++ later) (at number) ≡ stopped which.Counts
-  first_over [] later is one = absurd (omega (arith, one))
-  first_over (f ∷ firables) later is one =
-      ap (λ over. then_on (if over then stopped which.Counts else firing_outcome goals (suc number) (at number) f) (firings_outcome goals (firables ++ later))) (over_count number is)
-
-  module _ (rules : List RuleOf) (elements : List Element) (instances : List Instance) (place : ℕ) (i : Instance) (within : place < length instances) (is_at : i ≡ get_or instances place i) where
-    abbrev behind : List Firable
-    behind = flat_map (firables_for rules elements) (drop (place + 1) instances)
-
-    split : instances_outcome goals rules elements (drop place instances) (at number) ≡ firings_outcome goals (firables_for rules elements i ++ behind) (at number)
-    split = ap (λ left. instances_outcome goals rules elements left (at number)) (next_instance instances place i within is_at)
-
-    one_firable : IsInstance rules i → length (firables_for rules elements i) ≡ 1
-    one_firable h = length-map (rules_of rules i.rule) (λ rule. firable_of elements rule i) ∙ h.one
-
-    pub next_fires : (next : ℕ) (after : Gathered) → next ≡ number + 1 → next ≤ 2 ^ 64 - 1 → IsInstance rules i → LeavesOne goals next (at next) (firables_for rules elements i) after (Ok tt)
-        → instances_outcome goals rules elements (drop place instances) (at number) ≡ instances_outcome goals rules elements (drop (place + 1) instances) after
-    next_fires next after is most h leaves = split ∙ first_fires next after (firables_for rules elements i) behind is most (one_firable h) leaves
-
-    pub next_stops : (next : ℕ) (after last : Gathered) (e : Stop) → next ≡ number + 1 → next ≤ 2 ^ 64 - 1 → IsInstance rules i → LeavesOne goals next (at next) (firables_for rules elements i) after (Err e)
-        → Leaves (instances_outcome goals rules elements (drop place instances) (at number)) last (Err e)
-    next_stops next after last e is most h leaves =
-        subst (λ o. Leaves o last (Err e)) (sym split) (first_stops next after last e (firables_for rules elements i) behind is most (one_firable h) leaves)
-
-    pub next_over : number ≡ 2 ^ 64 - 1 → IsInstance rules i → instances_outcome goals rules elements (drop place instances) (at number) ≡ stopped which.Counts
-    next_over is h = split ∙ first_over (firables_for rules elements i) behind is (one_firable h)
+-- as many as there are instances
+pub recorded_count : (old : PartsKept) (instances : List Instance) (words : Texts) (letters : List ℕ) (made : Fired)
+    → FiresAll old.table old.letters (standing_now old) (map rule_seen old.rules) instances old.firings words letters (Ok made)
+    → length made.recorded ≡ length instances
+recorded_count old instances words letters made all =
+    let m = before_wave (agent_of old []) in
+    let w = first_wave (agent_of old []) in
+    let firables = flat_map (firables_for (map rule_seen old.rules) old.memory.elements) instances in
+    let fired = all m w (begins_now old []) in
+    omega (
+      arith,
+      sym (length-map made.recorded recorded_seen) ∙ ap length fired.recorded_are ∙ length-map (all_fresh (with_firings m w firables).entries) fresh_seen,
+      fresh_counts m w firables,
+      last_counts m w firables,
+      fired.last_is,
+    )

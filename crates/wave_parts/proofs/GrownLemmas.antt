@@ -1,14 +1,20 @@
 -- Known symbols stay known in a table that grows, and rows that are left or added are known.
-use Rattle.std.proofs.Common.{ℕ, ◌≤◌, Bool, true, false, not, cond, List, [], ◌∷◌, ◌++◌, filter, length, Option, Some, None}
+use Rattle.std.proofs.Common.{ℕ, ◌≤◌, Bool, true, false, not, cond, List, [], ◌∷◌, ◌++◌, filter, length, Option, Some, None, arith}
 use Rattle.soar_sym.specs.Words.{Texts}
+use Rattle.soar_sym.specs.declared.symbol.Sym.{Sym}
+use Rattle.soar_sym.specs.declared.symbol.Sym.TheVariants.{Ident, Int, Word}
 use Rattle.soar_sym.specs.declared.symbol.Triple.{Triple}
 use Rattle.soar_wm.specs.declared.element.Element.{Element}
+use Rattle.defs_soar.specs.declared.goal.Goal.{Goal}
+use Rattle.defs_soar.specs.declared.goal.Item.{Item}
 use Rattle.defs_soar.specs.declared.goal.Selection.{Selection}
 use Rattle.defs_soar.specs.declared.preference.Preference.{Preference}
 use Rattle.defs_soar.specs.Preferences.{is_kept_already, with_row, with_rows, is_of_gone, without_firings, is_rejected_by, rows_after}
 use Rattle.soar_settle.specs.Known.{AreElementsKnown, AreRowsKnown, AreTriplesKnown}
-use Rattle.wave_parts.specs.Seen.{IsSelectionKnown}
-use Rattle.wave_parts.proofs.FiringKnown.{known_grown, are_rows_append}
+use Rattle.soar_fire.specs.Growth.{LettersKeep}
+use Rattle.learning_laws.specs.LawfulAgents.{IsNumbered}
+use Rattle.wave_parts.specs.Seen.{AreGoalsKnown, IsSelectionKnown}
+use Rattle.wave_firings.proofs.FiringKnown.{known_grown, are_rows_append}
 
 pub elements_grown : (old new : Texts) (elements : List Element) → length old ≤ length new → AreElementsKnown old elements → AreElementsKnown new elements
 elements_grown old new [] grown h = tt
@@ -47,3 +53,19 @@ pub rows_after_known : (words : Texts) (rows made : List Preference) (gone : Lis
 rows_after_known words rows made gone h k =
     rows_filtered words (λ row. not (is_rejected_by made row)) (with_rows (without_firings rows gone) made)
     (rows_with words (without_firings rows gone) made (rows_filtered words (λ row. not (is_of_gone gone row)) rows h) k)
+
+-- ---- goals, as the table and the letters grow
+
+pub numbered_later : (old new : List ℕ) (s : Sym) → LettersKeep old new → IsNumbered old s → IsNumbered new s
+numbered_later old new (Ident l n) keep h = omega (arith, h, keep l)
+numbered_later old new (Word n) keep h = tt
+numbered_later old new (Int z) keep h = tt
+
+pub goals_grown : (old new : Texts) (letters later : List ℕ) (goals : List Goal) → length old ≤ length new → LettersKeep letters later → AreGoalsKnown old letters goals
+    → AreGoalsKnown new later goals
+goals_grown old new letters later goals grown keep h g is = record {
+  id_known = known_grown old new g.id grown (h g is).id_known;
+  id_numbered = numbered_later letters later g.id keep (h g is).id_numbered;
+  items_known = λ item at. known_grown old new item.value grown ((h g is).items_known item at);
+  selection_known = selection_grown old new g.selected grown (h g is).selection_known;
+}

@@ -2,7 +2,7 @@
 use Rattle.std.proofs.Common.{◌≡◌, ℕ, ◌<◌, ◌≤◌, ◌∙◌, Bool, true, false, nat_lt, List, ◌∷◌, ◌++◌, Option, Some, None, cond, refl, sym, ap, arith}
 use Rattle.defs_soar.specs.declared.limit.Which.{Which}
 use Rattle.defs_soar.specs.Limits.{Total, limit_of, limit_passed, or_limit, passed_by, first_passed}
-use Rattle.wave_parts.proofs.FiringAgreement.{passed_in_turn}
+use Rattle.wave_firings.proofs.FiringAgreement.{passed_in_turn}
 
 is_above : (limit n : ℕ) → limit < n → nat_lt limit n ≡ true
 is_above limit n h = grind arith

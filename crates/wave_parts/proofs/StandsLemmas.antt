@@ -1,13 +1,24 @@
 -- An agent that stands for a state, and the state with a history of which it is made. Crates above cite this file.
-use Rattle.std.proofs.Common.{◌≡◌, List, refl, sym, subst}
+use Rattle.std.proofs.Common.{◌≡◌, ◌∙◌, List, drop, refl, sym, ap, subst}
 use Rattle.defs_soar.specs.Agents.{Agent}
 use Rattle.defs_soar.specs.History.{RecordedFiring}
+use Rattle.defs_soar.specs.Standing.{dependencies_from}
+use Rattle.soar_record.specs.Recorded.{recorded}
+use Rattle.wave_parts.specs.Remembers.{PastGoalsAreNumbered, Remembers}
 use Rattle.wave_parts.specs.Seen.{agent_of}
 use Rattle.wave_parts.specs.Stands.{Stands}
 use Rattle.wave_parts.specs.declared.parts.Parts.{Parts as PartsKept}
 
-pub stands_at : (a : PartsKept) (history : List RecordedFiring) → Stands a (agent_of a history)
-stands_at a history = record {
+-- parts with the same firings, goals, tags and letters remember the same
+pub remembers_same : (a b : PartsKept) (history : List RecordedFiring) → b.past ≡ a.past → b.depends ≡ a.depends → b.goals ≡ a.goals → b.letters ≡ a.letters → Remembers a history → Remembers b history
+remembers_same a b history past depends goals letters r = record {
+  firings_are = ap recorded past ∙ r.firings_are;
+  depends_are = depends ∙ r.depends_are ∙ ap (λ gs. dependencies_from history 2 (drop 1 gs)) (sym goals);
+  goals_numbered = subst (λ given. PastGoalsAreNumbered given history) (sym letters) r.goals_numbered;
+}
+
+pub stands_at : (a : PartsKept) (history : List RecordedFiring) → Remembers a history → Stands a (agent_of a history)
+stands_at a history remembers = record {
   words = refl;
   letters = refl;
   elements = refl;
@@ -25,10 +36,11 @@ stands_at a history = record {
   settings = refl;
   output = refl;
   halted = refl;
+  remembers = remembers;
 }
 
-pub stands_for : (a : PartsKept) (history : List RecordedFiring) (s : Agent) → agent_of a history ≡ s → Stands a s
-stands_for a history s is = subst (Stands a) is (stands_at a history)
+pub stands_for : (a : PartsKept) (history : List RecordedFiring) (s : Agent) → Remembers a history → agent_of a history ≡ s → Stands a s
+stands_for a history s remembers is = subst (Stands a) is (stands_at a history remembers)
 
 -- the parts and the history are the whole state
 whole_state : (a : PartsKept) (s : Agent) → Stands a s → agent_of a s.history ≡ s
@@ -53,6 +65,6 @@ whole_state a s h = λ k. record {
 pub state_is : (a : PartsKept) (s : Agent) → Stands a s → s ≡ agent_of a s.history
 state_is a s h = sym (whole_state a s h)
 
--- what holds of the agent with each history holds of each state that it stands for
-pub of_each_state : (P : Agent → Type 0) (a : PartsKept) → ((history : List RecordedFiring) → P (agent_of a history)) → (s : Agent) → Stands a s → P s
-of_each_state P a holds s h = subst P (whole_state a s h) (holds s.history)
+-- what holds of the agent with each history that it remembers holds of each state that it stands for
+pub of_each_state : (P : Agent → Type 0) (a : PartsKept) → ((history : List RecordedFiring) → Remembers a history → P (agent_of a history)) → (s : Agent) → Stands a s → P s
+of_each_state P a holds s h = subst P (whole_state a s h) (holds s.history h.remembers)

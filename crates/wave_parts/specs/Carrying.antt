@@ -1,5 +1,5 @@
 -- Carrying out the work of a wave.
-use Rattle.std.specs.Prelude.{◌≡◌, ℕ, Bool, true, false, ◌&&◌, List, [], ◌∷◌, ◌++◌, map, Some, Result, Ok, Err}
+use Rattle.std.specs.Prelude.{◌≡◌, ℕ, Bool, List, ◌++◌, map, Some, Result, Ok, Err}
 use Rattle.defs_match.specs.Rules.{rule_seen}
 use Rattle.defs_soar.specs.declared.limit.Which.{Which}
 use Rattle.defs_soar.specs.Learning.{without_learning}
@@ -8,14 +8,14 @@ use Rattle.defs_soar.specs.Agents.{Agent}
 use Rattle.defs_soar.specs.Pending.{Work as WorkOf}
 use Rattle.defs_soar.specs.Resettling.{AgentStep}
 use Rattle.defs_soar.specs.Waves.{wave_of}
-use Rattle.wave_parts.specs.Firables.{IsPending}
+use Rattle.pending_work.specs.Firables.{IsPending}
 use Rattle.wave_parts.specs.Seen.{Stepped, written_of}
 use Rattle.wave_parts.specs.Stands.{Stands}
 use Rattle.wave_parts.specs.declared.parts.Parts.{Parts as PartsKept}
 use Rattle.soar_settle.specs.declared.stop.Stop.{Stop}
 use Rattle.soar_settle.specs.declared.stop.Stop.TheVariants as stop
 use Rattle.wave_parts.specs.declared.carrying.Done.{Done}
-use Rattle.wave_parts.specs.declared.work.Work.{Work}
+use Rattle.pending_work.specs.declared.work.Work.{Work}
 
 -- the step was gone whole, with its texts behind what was there
 pub record Carried (new : PartsKept) (before after : List ℕ) (halted : Bool) (s : AgentStep) : Type 0 where
@@ -38,12 +38,3 @@ abbrev pub CarriesOut : PartsKept → PartsKept → Work → List ℕ → List �
 CarriesOut old new work before after result =
     (s : Agent) → Stands old s → (w : WorkOf) → IsPending (map rule_seen old.rules) old.memory.elements work w
     → Carries new before after (wave_of without_learning s w) result
-
--- ---- whether nothing is pending
-
-abbrev pub is_without : {A : Type 0} → List A → Bool
-is_without [] = true
-is_without (x ∷ xs) = false
-
-abbrev pub is_nothing : Work → Bool
-is_nothing work = is_without work.retracted && is_without work.fired

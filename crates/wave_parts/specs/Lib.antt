@@ -1,12 +1,8 @@
-pub mod Active
-pub mod Candidates
 pub mod Carrying
 pub mod Counting
-pub mod Firables
-pub mod FiresAll
-pub mod FiringOutcome
-pub mod Keys
+pub mod Firing
 pub mod Living
+pub mod Remembers
 pub mod Resettles
 pub mod Seen
 pub mod Stands

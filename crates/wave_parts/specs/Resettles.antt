@@ -22,3 +22,12 @@ abbrev pub Resettles : PartsKept → Agent → Result Changes Stop → Type 0
 Resettles new s (Ok changes) = IsResettled new (resettled_now s)
 Resettles new s (Err (stop.Limit which)) = first_passed (resettled_now s).totals ≡ Some which
 Resettles new s (Err stop.NoMemory) = Unit {0}
+
+-- ---- what settling leaves as it is
+
+pub record IsLeft (old new : PartsKept) : Type 0 where
+  pub table : new.table ≡ old.table
+  pub letters : new.letters ≡ old.letters
+  pub rules : new.rules ≡ old.rules
+  pub past : new.past ≡ old.past
+  pub firings : new.firings ≡ old.firings

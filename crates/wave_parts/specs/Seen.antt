@@ -1,13 +1,12 @@
 -- What the parts of an agent keep, the states that they stand for, and a step.
-use Rattle.std.specs.Prelude.{◌≡◌, ℕ, ◌≤◌, ◌<◌, Bool, false, List, [], ◌∷◌, map, flat_map, length, Option, Some, None}
+use Rattle.std.specs.Prelude.{◌≡◌, ℕ, suc, ◌≤◌, ◌<◌, Bool, false, List, [], ◌∷◌, map, flat_map, length, Option, Some, None}
+use Rattle.soar_sym.specs.Letters.{last_of}
 use Rattle.soar_sym.specs.Words.{Texts, IsKnown}
-use Rattle.soar_sym.specs.declared.symbol.Sym.TheVariants.{Ident}
 use Rattle.defs_match.specs.Rules.{RuleOf, rule_seen}
 use Rattle.defs_soar.specs.declared.goal.Goal.{Goal}
-use Rattle.defs_soar.specs.declared.goal.Impasse.TheVariants as impasse
+use Rattle.defs_soar.specs.declared.goal.Item.{Item}
 use Rattle.defs_soar.specs.declared.goal.Selection.{Selection}
 use Rattle.defs_soar.specs.Agents.{Agent, LiveFiring}
-use Rattle.defs_soar.specs.Decision.{new_goal}
 use Rattle.defs_soar.specs.Events.{Event, writes_text}
 use Rattle.defs_soar.specs.History.{RecordedFiring}
 use Rattle.defs_soar.specs.Laws.{IsIn}
@@ -16,10 +15,15 @@ use Rattle.defs_soar.specs.Pending.{Work, pending_in, is_justification}
 use Rattle.defs_soar.specs.Phases.{halting}
 use Rattle.defs_soar.specs.Resettling.{AgentStep}
 use Rattle.defs_soar.specs.Start.{first_settings}
+use Rattle.learning_laws.specs.LawfulAgents.{IsNumbered}
+use Rattle.agent_laws.specs.Dependence.{MakersAreEarlier}
+use Rattle.soar_record.specs.Recorded.{recorded}
 use Rattle.soar_choose.specs.Rows.{AreInRange}
 use Rattle.soar_settle.specs.Known.{AreElementsKnown, AreRulesKnown, AreRowsKnown, AreTriplesKnown}
 use Rattle.input_queue.specs.Seen.{triple_queued}
-use Rattle.wave_parts.specs.Firables.{AreNumbered, live_seen}
+use Rattle.goal_trimming.specs.Living.{live_seen}
+use Rattle.pending_work.specs.Firables.{AreNumbered}
+use Rattle.wave_firings.specs.Numbered.{AreOfFirings, AreMakersOfFirings, AreRecordedUpTo}
 use Rattle.wave_parts.specs.Stands.{Stands, counts_of, queues_of}
 use Rattle.wave_parts.specs.declared.parts.Parts.{Parts as PartsKept}
 
@@ -43,18 +47,20 @@ pending_of proposing a = pending_in proposing (map rule_seen a.rules) a.memory.e
 
 -- ---- what the parts keep
 
--- the top state, with what is selected there
-abbrev pub top_with : Option Selection → Goal
-top_with selected = record (new_goal (Ident 83 1) impasse.Top []) { selected = selected }
-
 -- the selected operator is a symbol of the table
 abbrev pub IsSelectionKnown : Texts → Option Selection → Type 0
 IsSelectionKnown words None = Unit {0}
 IsSelectionKnown words (Some selection) = IsKnown words selection.operator
 
--- no firing matched below the top state
-abbrev pub AreAtTop : List LiveFiring → Type 0
-AreAtTop live = (firing : LiveFiring) → IsIn firing live → firing.depth < 2
+-- the letters gave the goal's identifier, and its items and its selected operator are symbols of the table
+pub record IsGoalKnown (words : Texts) (letters : List ℕ) (g : Goal) : Type 0 where
+  pub id_known : IsKnown words g.id
+  pub id_numbered : IsNumbered letters g.id
+  pub items_known : (item : Item) → IsIn item g.items → IsKnown words item.value
+  pub selection_known : IsSelectionKnown words g.selected
+
+abbrev pub AreGoalsKnown : Texts → List ℕ → List Goal → Type 0
+AreGoalsKnown words letters goals = (g : Goal) → IsIn g goals → IsGoalKnown words letters g
 
 -- no rule is a justification
 abbrev pub AreNoJustifications : List RuleOf → Type 0
@@ -66,16 +72,23 @@ abbrev pub AreUpTo : ℕ → List RuleOf → Type 0
 AreUpTo last [] = Unit {0}
 AreUpTo last (rule ∷ rules) = (rule.number ≤ last) × AreUpTo last rules
 
--- one goal, the limits, rules in order of number, rows as decisions ask them, and words that the table has, those of the architecture among them
+-- goals that the letters gave, the limits, rules in order of number, rows as decisions ask them, firings numbered up to the last, each of which used what earlier ones
+-- made, and words that the table has, those of the architecture among them
 pub record IsSound (a : PartsKept) : Type 0 where
-  pub selected : Option Selection
-  pub one_goal : a.goals ≡ top_with selected ∷ []
+  pub goals_some : 1 ≤ length a.goals
+  pub goals_few : length a.goals ≤ 100
+  pub goals_known : AreGoalsKnown a.table a.letters a.goals
+  pub depends_fit : suc (length a.depends) ≡ length a.goals
   pub element_limit : a.memory.limit ≡ 4000000
   pub row_limit : a.prefs.limit ≡ 1000000
   pub few_rows : length a.prefs.rows ≤ a.prefs.limit
   pub rows_in_range : AreInRange a.prefs.rows
-  pub live_at_top : AreAtTop (map live_seen a.live)
+  pub rows_of_firings : AreOfFirings a.firings a.prefs.rows
+  pub makers_of_firings : AreMakersOfFirings a.firings a.goals
+  pub recorded_up_to : AreRecordedUpTo a.firings (recorded a.past)
+  pub makers_earlier : MakersAreEarlier (recorded a.past)
   pub first_words : 24 ≤ length a.table
+  pub top_numbered : 1 ≤ last_of a.letters 83
   pub numbered : AreNumbered (map rule_seen a.rules)
   pub numbers_given : AreUpTo a.last_rule (map rule_seen a.rules)
   pub none_learned : AreNoJustifications (map rule_seen a.rules)
@@ -85,7 +98,6 @@ pub record IsSound (a : PartsKept) : Type 0 where
   pub inputs_known : AreTriplesKnown a.table a.inputs
   pub queue_known : AreTriplesKnown a.table (map triple_queued a.queue)
   pub output_known : AreTriplesKnown a.table a.output
-  pub selection_known : IsSelectionKnown a.table selected
 
 -- ---- a step
 

@@ -1,4 +1,4 @@
--- What an agent of the code keeps of a state, part by part. What it does not keep yet is as at the start; of the history nothing is said.
+-- What an agent of the code keeps of a state, part by part. What it does not keep yet is as at the start; of the history it keeps what later steps need.
 use Rattle.std.specs.Prelude.{[], map}
 use Rattle.defs_match.specs.Rules.{rule_seen}
 use Rattle.defs_soar.specs.Agents.{Agent, Counts, Queues}
@@ -7,7 +7,8 @@ use Rattle.defs_soar.specs.Standing.{HoldsQueues, HoldsRules, HoldsLastRule, Hol
 use Rattle.defs_soar.specs.Standing.{HoldsSettings, HoldsOutput, HoldsHalt}
 use Rattle.defs_soar.specs.Start.{first_settings}
 use Rattle.input_queue.specs.Seen.{queued_seen}
-use Rattle.wave_parts.specs.Firables.{live_seen}
+use Rattle.goal_trimming.specs.Living.{live_seen}
+use Rattle.wave_parts.specs.Remembers.{Remembers}
 use Rattle.wave_parts.specs.declared.parts.Parts.{Parts as PartsKept}
 
 abbrev pub counts_of : PartsKept → Counts
@@ -36,3 +37,4 @@ pub record Stands (a : PartsKept) (s : Agent) : Type 0 where
   pub settings : HoldsSettings (first_settings 1) s
   pub output : HoldsOutput a.output s
   pub halted : HoldsHalt a.halted s
+  pub remembers : Remembers a s.history

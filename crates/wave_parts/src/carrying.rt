@@ -4,18 +4,21 @@ ghost use Rattle.defs_match.specs.Rules.{rule_seen};
 ghost use Rattle.matching_laws.specs.Telling.{IsTold};
 ghost use Rattle.soar_settle.specs.Known.{AreInstancesKnown};
 ghost use Rattle.wave_parts.specs.Carrying.{CarriesOut};
-ghost use Rattle.wave_parts.specs.Firables.{AreBound};
+ghost use Rattle.pending_work.specs.Firables.{AreBound};
 ghost use Rattle.wave_parts.specs.Seen.{IsSound};
 
 use crate::counting::count_more;
-use crate::firing::{Fired, fire_all};
+use crate::firing::WaveFired;
 use crate::living::renew_live;
 use crate::parts::Parts;
-use crate::work::Work;
+use agent_laws::dependencies_grow;
+use goal_dependence::remember;
+use pending_work::Work;
 use row_laws::rows_fit_decisions;
 use soar_settle::{Changes, Stop, renew};
 use soar_sym::Text;
 use std::alloc::Global;
+use wave_firings::Fired;
 
 /// What a wave did: what went from working memory and what came, and whether a firing halted.
 #[derive(Drop)]
@@ -36,31 +39,34 @@ impl Parts {
         ensures sound { IfOk result (λ _. IsSound self.new) }
     {
         rows_fit_decisions();
+        dependencies_grow();
         let waves = count_more(self.waves, 1)?;
         let retractions = count_more(self.retractions, work.retracted.len() as u64)?;
-        let fired = fire_all(
-            alloc,
-            &mut self.table,
-            &mut self.letters,
-            &self.goals,
-            &self.rules,
-            &self.memory,
-            &work.fired,
-            self.firings,
-        )?;
+        let wave = self.fire(alloc, &work.fired)?;
+        let WaveFired { fired, levels } = wave;
         let Fired {
             rows,
             live,
+            recorded,
             text: written,
             halted,
         } = fired;
         let gone = work.retracted.as_slice();
-        renew(&mut self.prefs, gone, rows.as_slice())?;
+        let added = renew(alloc, &mut self.prefs, gone, rows.as_slice())?;
         renew_live(&mut self.live, gone, live)?;
         self.waves = waves;
         self.retractions = retractions;
         self.firings = count_more(self.firings, work.fired.len() as u64)?;
         let changes = self.resettle(alloc)?;
+        remember(
+            alloc,
+            &levels,
+            self.goals.list().as_slice(),
+            &mut self.depends,
+            &mut self.past,
+            recorded,
+            added.as_slice(),
+        )?;
         self.halted = either(self.halted, halted);
         text.push_str(written.as_str())?;
         Ok(Done { changes, halted })

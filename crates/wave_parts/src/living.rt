@@ -1,9 +1,9 @@
 // The live firings after a wave.
 ghost use Rattle.std.specs.Prelude.{◌≡◌, ◌++◌, map, OnOk};
-ghost use Rattle.wave_parts.specs.Firables.{live_seen};
+ghost use Rattle.goal_trimming.specs.Living.{live_seen};
 ghost use Rattle.wave_parts.specs.Living.{has_left, still_live};
 
-use crate::live::Live;
+use goal_trimming::Live;
 use soar_sym::{List, NoMemory};
 
 /// Takes away the firings that left, and adds those of the wave.

@@ -1,13 +1,14 @@
-use crate::live::Live;
+use goal_trimming::Live;
 use defs_match::Rule;
-use defs_soar::Goal;
 use input_queue::Queued;
+use soar_goals::Goals;
 use soar_prefs::Prefs;
+use soar_record::Record;
 use soar_sym::{Letters, List, SymTable, Triple};
 use soar_wm::Memory;
 
-/// What an agent with the top state alone keeps: its words, working memory and what holds that up, its rules, what
-/// waits for it, and how much it did.
+/// What an agent keeps: its words, working memory and what holds that up, its goals, its rules, its firings, what waits
+/// for it, and how much it did.
 #[derive(Drop)]
 pub struct Parts {
     pub table: SymTable,
@@ -16,7 +17,12 @@ pub struct Parts {
     pub prefs: Prefs,
     pub rules: List<Rule>,
     pub last_rule: u64,
-    pub goals: List<Goal>,
+    /// The goals, from the top.
+    pub goals: Goals,
+    /// The tags on which each goal depends, from the one below the top on. Nothing removes the top goal.
+    pub depends: List<List<u32>>,
+    /// The firings since the start, which explain one another.
+    pub past: Record,
     pub inputs: List<Triple>,
     /// The changes of the inputs that wait for the next input phase, the first of them first.
     pub queue: List<Queued>,

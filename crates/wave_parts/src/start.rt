@@ -1,13 +1,14 @@
 // The agent at the start.
 ghost use Rattle.std.specs.Prelude.{◌≡◌, ◌<◌, ◌-◌, ◌^◌, false, [], None, length, IfOk, OnOk};
-ghost use Rattle.defs_soar.specs.Start.{first_agent, first_elements, first_holding, first_letters};
+ghost use Rattle.defs_soar.specs.Start.{first_agent, first_elements, first_letters};
 ghost use Rattle.soar_wm.specs.WorkingMemory.{tag_of, with_triple};
 ghost use Rattle.wave_parts.specs.Seen.{IsSound};
 ghost use Rattle.wave_parts.specs.Stands.{Stands};
 
 use crate::parts::Parts;
-use defs_soar::{Goal, Impasse};
+use soar_goals::Goals;
 use soar_prefs::Prefs;
+use soar_record::Record;
 use soar_sym::{Letters, List, NoMemory, Sym, SymTable, Triple};
 use soar_wm::{AddFault, Memory};
 use std::alloc::Global;
@@ -45,7 +46,8 @@ impl Parts {
         let table = SymTable::new(alloc)?;
         let memory = first_memory(alloc)?;
         let prefs = Prefs::new(alloc, MOST_ROWS)?;
-        let goals = first_goals(alloc)?;
+        let goals = Goals::new(alloc, TOP)?;
+        let past = Record::new(alloc)?;
         Ok(Parts {
             table,
             letters: first_letters(),
@@ -54,6 +56,8 @@ impl Parts {
             rules: List::new(alloc),
             last_rule: 0,
             goals,
+            depends: List::new(alloc),
+            past,
             inputs: List::new(alloc),
             queue: List::new(alloc),
             random: List::new(alloc),
@@ -76,20 +80,6 @@ fn first_letters() -> Letters
     letters.starting(b'I', 3);
     letters.starting(b'S', 1);
     letters
-}
-
-/// The stack of goals with the top goal alone.
-fn first_goals(alloc: Global) -> Result<List<Goal>, NoMemory>
-    ensures { IfOk result (λ goals. goals ≡ first_holding.goals) }
-{
-    let mut goals = List::new(alloc);
-    goals.push(Goal {
-        id: TOP,
-        impasse: Impasse::Top,
-        items: List::new(alloc),
-        selected: None,
-    })?;
-    Ok(goals)
 }
 
 /// Working memory with the elements of the start.

@@ -77,3 +77,23 @@ returns-clause-halted c = refl
 pub returns-clause-queued : goal.returns-clause-queued
 unfolding computing
 returns-clause-queued c = refl
+
+pub returns-clause-conflict : goal.returns-clause-conflict
+unfolding computing
+returns-clause-conflict c = refl
+
+pub returns-clause-constraint : goal.returns-clause-constraint
+unfolding computing
+returns-clause-constraint c = refl
+
+pub returns-clause-kept : goal.returns-clause-kept
+unfolding computing
+returns-clause-kept c = refl
+
+pub returns-clause-tie_renewed : goal.returns-clause-tie_renewed
+unfolding computing
+returns-clause-tie_renewed c = refl
+
+pub returns-clause-dependency_gone : goal.returns-clause-dependency_gone
+unfolding computing
+returns-clause-dependency_gone c = refl

@@ -90,7 +90,9 @@ add-wme S1 ^b 2
 run 1
 print x1
 =>
+1:   ==>S: S2 (state no-change)
 8: (X1 ^c 2)
+2:     ==>S: S3 (state no-change)
 no elements
 ;;
 "#;

@@ -67,11 +67,13 @@ remove-wme 6
 run 1
 print S1
 =>
+1:   ==>S: S2 (state no-change)
 3: (S1 ^io I1)
 4: (S1 ^superstate nil)
 5: (S1 ^type state)
 6: (S1 ^a 1)
 7: (S1 ^b 1)
+2:     ==>S: S3 (state no-change)
 3: (S1 ^io I1)
 4: (S1 ^superstate nil)
 5: (S1 ^type state)
@@ -82,6 +84,7 @@ run 1
 print s1
 print x1
 =>
+1:   ==>S: S2 (state no-change)
 3: (S1 ^io I1)
 4: (S1 ^superstate nil)
 5: (S1 ^type state)
@@ -97,6 +100,8 @@ remove-wme 6
 run 1
 print S1
 =>
+1:   ==>S: S2 (state no-change)
+2:     ==>S: S3 (state no-change)
 3: (S1 ^io I1)
 4: (S1 ^superstate nil)
 5: (S1 ^type state)
@@ -114,7 +119,9 @@ run 1
 print X1
 print Y1
 =>
+1:   ==>S: S2 (state no-change)
 9: (Y1 ^d 2)
+2:     ==>S: S3 (state no-change)
 no elements
 no elements
 ;;
@@ -124,6 +131,7 @@ run 1
 print Y100
 =>
 cut proposal
+1:   ==>S: S2 (state no-change)
 cut application
 no elements
 ;;
@@ -157,6 +165,7 @@ sp {p # a path
 run 1
 print p
 =>
+1:   ==>S: S2 (state no-change)
 sp {p
     (state <s> ^io <$1>)
     (<$1> ^input-link <in>)

@@ -35,6 +35,7 @@ run 1
 add-wme S1 ^n <x>
 print S1
 =>
+1:   ==>S: S2 (state no-change)
 3: (S1 ^io I1)
 4: (S1 ^superstate nil)
 5: (S1 ^type state)
@@ -42,7 +43,7 @@ print S1
 7: (S1 ^n X1)
 8: (S1 ^a 1)
 9: (S1 ^b X2)
-10: (S1 ^n X3)
+16: (S1 ^n X3)
 ;;
 "#;
 

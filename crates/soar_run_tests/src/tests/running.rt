@@ -10,15 +10,16 @@ sp {count*apply (state <s> ^operator <o> ^n <x>) (<o> ^name count ^from <x>) -->
 run 4
 print S1
 =>
+1:   ==>S: S2 (state no-change)
 2: O: O1 (count)
 3: O: O2 (count)
 4: O: O3 (count)
 3: (S1 ^io I1)
 4: (S1 ^superstate nil)
 5: (S1 ^type state)
-20: (S1 ^operator O3)
-21: (S1 ^n 3)
-24: (S1 ^operator O4 +)
+26: (S1 ^operator O3)
+27: (S1 ^n 3)
+30: (S1 ^operator O4 +)
 ;;
 sp {prop (state <s> ^superstate nil ^cand <n>) --> (<s> ^operator <o> +) (<o> ^name <n>)}
 sp {cycle (state <s> ^operator <a> + ^operator <b> +) (<a> ^name x) (<b> ^name y) --> (<s> ^operator <a> > <b>) (<s> ^operator <b> > <a>)}
@@ -66,6 +67,7 @@ run 1
 const LINKED: &str = r#"sp {o (state <s> ^superstate nil ^io.output-link <ol>) --> (<ol> ^say hi)}
 run 1
 =>
+1:   ==>S: S2 (state no-change)
 out + (I3 ^say hi)
 ;;
 sp {o (state <s> ^superstate nil ^io <io>) (<io> ^input-link <il> ^output-link <ol>) (<il> ^hear <x>) --> (<ol> ^say <x>)}
@@ -75,9 +77,12 @@ input remove I2 ^hear a
 input add I2 ^hear b
 run 2
 =>
+1:   ==>S: S2 (state no-change)
 out + (I3 ^say a)
+2:     ==>S: S3 (state no-change)
 out - (I3 ^say a)
 out + (I3 ^say b)
+3:       ==>S: S4 (state no-change)
 ;;
 sp {p1 (state <s> ^a 1) --> (<s> ^c 1)}
 sp {p2 (state <s> ^b 1) --> (<s> ^c 1)}
@@ -88,11 +93,13 @@ input add S1 ^b 1
 run 1
 print S1
 =>
+1:   ==>S: S2 (state no-change)
+2:     ==>S: S3 (state no-change)
 3: (S1 ^io I1)
 4: (S1 ^superstate nil)
 5: (S1 ^type state)
 7: (S1 ^c 1)
-8: (S1 ^b 1)
+14: (S1 ^b 1)
 ;;
 "#;
 
@@ -158,6 +165,7 @@ random -1
 3: (S1 ^io I1)
 4: (S1 ^superstate nil)
 5: (S1 ^type state)
+1:   ==>S: S2 (state no-change)
 3: (S1 ^io I1)
 4: (S1 ^superstate nil)
 5: (S1 ^type state)

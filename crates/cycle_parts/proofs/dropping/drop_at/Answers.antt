@@ -1,7 +1,7 @@
 use Rattle.std.proofs.Common.{map, ap, subst, sym, ◌∙◌}
 use Rattle.defs_match.specs.Contents.{HasRule, without_rule}
 use Rattle.defs_match.specs.Rules.{rule_seen}
-use Rattle.wave_parts.specs.Firables.{AreNumbered}
+use Rattle.pending_work.specs.Firables.{AreNumbered}
 use Rattle.cycle_parts.proofs.NumberLemmas.{has_rule_at, without_rule_at}
 use Rattle.cycle_parts.proofs.LoadedLemmas.{numbered_filter}
 use Rattle.cycle_parts.proofs.dropping.drop_at.Goals as goal

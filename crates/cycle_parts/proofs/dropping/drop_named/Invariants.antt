@@ -1,7 +1,7 @@
 use Rattle.std.proofs.Common.{◌≡◌, ◌++◌, ◌-◌, ◌≤◌, false, map, filter, not, take, drop, length}
 use Rattle.defs_match.specs.Rules.{rule_seen}
 use Rattle.defs_run.specs.Carrying.{is_named}
-use Rattle.wave_parts.specs.Firables.{AreNumbered}
+use Rattle.pending_work.specs.Firables.{AreNumbered}
 use Rattle.cycle_parts.proofs.dropping.drop_named.Given as goal
 
 abbrev pub invariant-rules : goal.invariant-rules

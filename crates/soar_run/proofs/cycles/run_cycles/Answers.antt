@@ -9,23 +9,23 @@ cycles-init g c = record {
   ready = c.requires.ready;
   labels = refl;
   calm = refl;
-  behind = λ history. none_behind c.args.session.now.agent c.args.count (c.args.count - 0) history (g.O.Sink.written c.args.out.now) (omega arith);
+  behind = λ history remembers. none_behind c.args.session.now.agent c.args.count (c.args.count - 0) history (g.O.Sink.written c.args.out.now) remembers (omega arith);
 }
 
 pub returns-then-halted-clause-course : goal.returns-then-halted-clause-course
-returns-then-halted-clause-course g c = λ history. (
+returns-then-halted-clause-course g c = λ history remembers. (
   refl,
-  (halts_behind _ _ _ _ _ _ (sym c.if-halted.ensures) (c.cycles.invariant.behind history)).1,
+  (halts_behind _ _ _ _ _ _ (sym c.if-halted.ensures) (c.cycles.invariant.behind history remembers)).1,
   c.cycles.invariant.labels,
   c.cycles.invariant.ready,
 )
 
 pub returns-then-halted-clause-written : goal.returns-then-halted-clause-written
-returns-then-halted-clause-written g c = λ history. (halts_behind _ _ _ _ _ _ (sym c.if-halted.ensures) (c.cycles.invariant.behind history)).0
+returns-then-halted-clause-written g c = λ history remembers. (halts_behind _ _ _ _ _ _ (sym c.if-halted.ensures) (c.cycles.invariant.behind history remembers)).0
 
 pub returns-then-halted-clause-prefix : goal.returns-then-halted-clause-prefix
-returns-then-halted-clause-prefix g c = λ history.
-    some_of_all _ _ _ (halts_behind _ _ _ _ _ _ (sym c.if-halted.ensures) (c.cycles.invariant.behind history)).0
+returns-then-halted-clause-prefix g c = λ history remembers.
+    some_of_all _ _ _ (halts_behind _ _ _ _ _ _ (sym c.if-halted.ensures) (c.cycles.invariant.behind history remembers)).0
 
 pub cycles-preserved : goal.cycles-preserved
 cycles-preserved g c =
@@ -34,32 +34,32 @@ cycles-preserved g c =
       ready = c.in-Ok-true.ensures.ready (ap Ok went);
       labels = c.in-Ok-true.ensures.labels ∙ c.cycles.invariant.labels;
       calm = c.in-Ok-true.ensures.cause.cause ∙ c.cycles.invariant.calm;
-      behind = λ history. one_behind _ (c.args.count - c.cycles.number) (c.args.count - (c.cycles.number + 1)) _ _ _ _ _ _ (omega arith) (sym c.if-halted.ensures)
-          (c.cycles.invariant.behind history)
-          (λ past. subst (λ (b : Bool). WritesCycle c.cycles.session.agent.mid_line (cycle_of (agent_of c.cycles.session.agent.parts past)) c.write_cycle.new.session.agent (g.O.Sink.written c.cycles.out) (g.O.Sink.written c.write_cycle.new.out) (Ok b))
-          went (c.in-Ok-true.ensures.course past));
+      behind = λ history remembers. one_behind _ (c.args.count - c.cycles.number) (c.args.count - (c.cycles.number + 1)) _ _ _ _ _ _ (omega arith) (sym c.if-halted.ensures)
+          (c.cycles.invariant.behind history remembers)
+          (λ past kept. subst (λ (b : Bool). WritesCycle c.cycles.session.agent.mid_line (cycle_of (agent_of c.cycles.session.agent.parts past)) c.write_cycle.new.session.agent (g.O.Sink.written c.cycles.out) (g.O.Sink.written c.write_cycle.new.out) (Ok b))
+          went (c.in-Ok-true.ensures.course past kept));
     }
 
 pub returns-in-Ok-false-clause-course : goal.returns-in-Ok-false-clause-course
-returns-in-Ok-false-clause-course g c = λ history.
+returns-in-Ok-false-clause-course g c = λ history remembers.
     let went : c.in-Ok-false.field-0 ≡ false = cc c.in-Ok-false.field-0-test in
-    (stops_behind _ (c.args.count - c.cycles.number) (c.args.count - (c.cycles.number + 1)) _ _ c.write_cycle.new.session.agent _ _ _ (omega arith) (sym c.if-halted.ensures) (c.cycles.invariant.behind history)
-    (λ past. subst (λ (b : Bool). WritesCycle c.cycles.session.agent.mid_line (cycle_of (agent_of c.cycles.session.agent.parts past)) c.write_cycle.new.session.agent (g.O.Sink.written c.cycles.out) (g.O.Sink.written c.write_cycle.new.out) (Ok b))
-    went (c.in-Ok-false.ensures.course past))).1
+    (stops_behind _ (c.args.count - c.cycles.number) (c.args.count - (c.cycles.number + 1)) _ _ c.write_cycle.new.session.agent _ _ _ (omega arith) (sym c.if-halted.ensures) (c.cycles.invariant.behind history remembers)
+    (λ past kept. subst (λ (b : Bool). WritesCycle c.cycles.session.agent.mid_line (cycle_of (agent_of c.cycles.session.agent.parts past)) c.write_cycle.new.session.agent (g.O.Sink.written c.cycles.out) (g.O.Sink.written c.write_cycle.new.out) (Ok b))
+    went (c.in-Ok-false.ensures.course past kept))).1
 
 pub returns-in-Ok-false-clause-written : goal.returns-in-Ok-false-clause-written
-returns-in-Ok-false-clause-written g c = λ history.
+returns-in-Ok-false-clause-written g c = λ history remembers.
     let went : c.in-Ok-false.field-0 ≡ false = cc c.in-Ok-false.field-0-test in
-    (stops_behind _ (c.args.count - c.cycles.number) (c.args.count - (c.cycles.number + 1)) _ _ c.write_cycle.new.session.agent _ _ _ (omega arith) (sym c.if-halted.ensures) (c.cycles.invariant.behind history)
-    (λ past. subst (λ (b : Bool). WritesCycle c.cycles.session.agent.mid_line (cycle_of (agent_of c.cycles.session.agent.parts past)) c.write_cycle.new.session.agent (g.O.Sink.written c.cycles.out) (g.O.Sink.written c.write_cycle.new.out) (Ok b))
-    went (c.in-Ok-false.ensures.course past))).0
+    (stops_behind _ (c.args.count - c.cycles.number) (c.args.count - (c.cycles.number + 1)) _ _ c.write_cycle.new.session.agent _ _ _ (omega arith) (sym c.if-halted.ensures) (c.cycles.invariant.behind history remembers)
+    (λ past kept. subst (λ (b : Bool). WritesCycle c.cycles.session.agent.mid_line (cycle_of (agent_of c.cycles.session.agent.parts past)) c.write_cycle.new.session.agent (g.O.Sink.written c.cycles.out) (g.O.Sink.written c.write_cycle.new.out) (Ok b))
+    went (c.in-Ok-false.ensures.course past kept))).0
 
 pub returns-in-Ok-false-clause-prefix : goal.returns-in-Ok-false-clause-prefix
-returns-in-Ok-false-clause-prefix g c = λ history.
-    some_behind _ (c.args.count - c.cycles.number) (c.args.count - (c.cycles.number + 1)) _ _ _ _ _ (omega arith) (sym c.if-halted.ensures) (c.cycles.invariant.behind history)
+returns-in-Ok-false-clause-prefix g c = λ history remembers.
+    some_behind _ (c.args.count - c.cycles.number) (c.args.count - (c.cycles.number + 1)) _ _ _ _ _ (omega arith) (sym c.if-halted.ensures) (c.cycles.invariant.behind history remembers)
     c.in-Ok-false.ensures.prefix
 
 pub returns-in-Err-clause-prefix : goal.returns-in-Err-clause-prefix
-returns-in-Err-clause-prefix g c = λ history.
-    some_behind _ (c.args.count - c.cycles.number) (c.args.count - (c.cycles.number + 1)) _ _ _ _ _ (omega arith) (sym c.if-halted.ensures) (c.cycles.invariant.behind history)
+returns-in-Err-clause-prefix g c = λ history remembers.
+    some_behind _ (c.args.count - c.cycles.number) (c.args.count - (c.cycles.number + 1)) _ _ _ _ _ (omega arith) (sym c.if-halted.ensures) (c.cycles.invariant.behind history remembers)
     c.in-Err.ensures.prefix

@@ -1,6 +1,7 @@
 use Rattle.std.proofs.Common.{◌≡◌, ◌-◌, List}
 use Rattle.defs_soar.specs.History.{RecordedFiring}
 use Rattle.defs_run.specs.Present.{run_present}
+use Rattle.wave_parts.specs.Remembers.{Remembers}
 use Rattle.wave_parts.specs.Seen.{agent_of}
 use Rattle.soar_run.specs.Ready.{IsReadySession}
 use Rattle.soar_run.proofs.RanLemmas.{RunBehind}
@@ -11,6 +12,6 @@ invariant-cycles g l = record {
   ready : IsReadySession l.session;
   labels : l.session.labels ≡ l.initial.session.labels;
   calm : g.O.Sink.faults l.out ≡ g.O.Sink.faults l.initial.out;
-  behind : (history : List RecordedFiring) → RunBehind l.initial.session.agent.mid_line (l.count - l.number) (run_present l.count (agent_of l.initial.session.agent.parts history)) l.session.agent
+  behind : (history : List RecordedFiring) → Remembers l.initial.session.agent.parts history → RunBehind l.initial.session.agent.mid_line (l.count - l.number) (run_present l.count (agent_of l.initial.session.agent.parts history)) l.session.agent
       (g.O.Sink.written l.initial.out) (g.O.Sink.written l.out);
 }

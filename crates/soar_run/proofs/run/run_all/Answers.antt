@@ -11,13 +11,13 @@ pub returns-in-Ok-fresh_session-clause-written : goal.returns-in-Ok-fresh_sessio
 returns-in-Ok-fresh_session-clause-written g c =
     subst (λ (run : Transcript). OnOk c.run_commands.result (Appends (g.O.Sink.written c.args.out.now) (g.O.Sink.written c.run_commands.new.out) run.text))
     (run_fed c.args.goes_on c.in-Ok.cutter c.in-Ok-fresh_session.session c.args.input.now c.in-Ok.ensures.closed c.in-Ok-fresh_session.ensures.stands c.in-Ok.ensures.cuts)
-    (c.run_commands.ensures.written [])
+    (c.run_commands.ensures.written [] c.in-Ok-fresh_session.ensures.remembers)
 
 pub returns-in-Ok-fresh_session-clause-prefix : goal.returns-in-Ok-fresh_session-clause-prefix
 returns-in-Ok-fresh_session-clause-prefix g c =
     subst (λ (run : Transcript). AppendsSome (g.O.Sink.written c.args.out.now) (g.O.Sink.written c.run_commands.new.out) run.text)
     (run_fed c.args.goes_on c.in-Ok.cutter c.in-Ok-fresh_session.session c.args.input.now c.in-Ok.ensures.closed c.in-Ok-fresh_session.ensures.stands c.in-Ok.ensures.cuts)
-    (c.run_commands.ensures.prefix [])
+    (c.run_commands.ensures.prefix [] c.in-Ok-fresh_session.ensures.remembers)
 
 pub returns-in-Ok-fresh_session-clause-status : goal.returns-in-Ok-fresh_session-clause-status
 returns-in-Ok-fresh_session-clause-status g c =
@@ -25,4 +25,4 @@ returns-in-Ok-fresh_session-clause-status g c =
     let more = not_closed c.args.goes_on c.in-Ok.cutter.closed c.in-Ok.ensures.closed in
     subst (λ (t : Transcript). IfOk c.run_commands.result (λ end. end_status c.args.goes_on end ≡ t.status)) run
     (subst (λ (b : Bool). IfOk c.run_commands.result (λ end. end_status b end ≡ (run_from (not c.in-Ok.cutter.closed) (session_of c.in-Ok-fresh_session.session []) false (cuts_left c.in-Ok.cutter)).status))
-    more (c.run_commands.ensures.status []))
+    more (c.run_commands.ensures.status [] c.in-Ok-fresh_session.ensures.remembers))

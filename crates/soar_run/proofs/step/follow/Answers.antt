@@ -47,16 +47,16 @@ returns-in-Refused-clause-prefix g c = λ old history reply is.
 pub returns-in-Run-clause-answer : goal.returns-in-Run-clause-answer
 returns-in-Run-clause-answer g c = λ old history reply is.
     let a : AsksToRun old.agent.mid_line reply c.args.session.now [] c.args.text.now c.in-Run.count = subst (λ (o : Outcome). Outcomes old.agent.mid_line reply c.args.session.now [] c.args.text.now (Ok o)) c.in-Run.is is in
-    put_ran old c.args.session.now c.run_cycles.new.session history reply [] c.args.text.now c.in-Run.count c.run_cycles.result a (c.run_cycles.ensures.course a.history)
+    put_ran old c.args.session.now c.run_cycles.new.session history reply [] c.args.text.now c.in-Run.count c.run_cycles.result a (c.run_cycles.ensures.course a.history a.remembers)
 
 pub returns-in-Run-clause-written : goal.returns-in-Run-clause-written
 returns-in-Run-clause-written g c = λ old history reply is.
     let a : AsksToRun old.agent.mid_line reply c.args.session.now [] c.args.text.now c.in-Run.count = subst (λ (o : Outcome). Outcomes old.agent.mid_line reply c.args.session.now [] c.args.text.now (Ok o)) c.in-Run.is is in
     subst (λ (text : List ℕ). OnOk c.run_cycles.result (Appends (g.O.Sink.written c.args.out.now) (g.O.Sink.written c.run_cycles.new.out) text))
-    (sym (asked_text old c.args.session.now history reply [] c.args.text.now c.in-Run.count a)) (c.run_cycles.ensures.written a.history)
+    (sym (asked_text old c.args.session.now history reply [] c.args.text.now c.in-Run.count a)) (c.run_cycles.ensures.written a.history a.remembers)
 
 pub returns-in-Run-clause-prefix : goal.returns-in-Run-clause-prefix
 returns-in-Run-clause-prefix g c = λ old history reply is.
     let a : AsksToRun old.agent.mid_line reply c.args.session.now [] c.args.text.now c.in-Run.count = subst (λ (o : Outcome). Outcomes old.agent.mid_line reply c.args.session.now [] c.args.text.now (Ok o)) c.in-Run.is is in
     subst (λ (text : List ℕ). AppendsSome (g.O.Sink.written c.args.out.now) (g.O.Sink.written c.run_cycles.new.out) text)
-    (sym (asked_text old c.args.session.now history reply [] c.args.text.now c.in-Run.count a)) (c.run_cycles.ensures.prefix a.history)
+    (sym (asked_text old c.args.session.now history reply [] c.args.text.now c.in-Run.count a)) (c.run_cycles.ensures.prefix a.history a.remembers)

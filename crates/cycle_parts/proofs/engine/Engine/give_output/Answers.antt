@@ -1,3 +1,4 @@
+use Rattle.std.proofs.Common.{◌∙◌, sym}
 use Rattle.cycle_parts.proofs.OutputLemmas.{gives_output}
 use Rattle.cycle_parts.proofs.SoundLemmas.{sound_with_output}
 use Rattle.cycle_parts.proofs.engine.Engine.give_output.Goals as goal
@@ -8,7 +9,7 @@ output_changes-requires-clause-now g c = c.in_ok-now.ensures.known c.args.self.n
 pub returns-clause-step : goal.returns-clause-step
 returns-clause-step g c =
     gives_output c.args.self.now.parts c.in_ok-now.now c.in_ok-changes.changes.gone c.in_ok-changes.changes.new c.args.mid_line.now c.say_output.new.mid_line c.args.out.now c.say_output.new.out
-    c.in_ok-now.ensures.shown c.in_ok-changes.ensures.gone c.in_ok-changes.ensures.new c.in_ok-say_output.ensures
+    (λ s goals elements. c.in_ok-now.ensures.shown s (goals ∙ sym c.list.ensures.goals) elements) c.in_ok-changes.ensures.gone c.in_ok-changes.ensures.new c.in_ok-say_output.ensures
 
 pub returns-clause-sound : goal.returns-clause-sound
 returns-clause-sound g c =

@@ -10,8 +10,8 @@ use Rattle.soar_agent.specs.States.{session_of}
 use Rattle.soar_agent.proofs.AddingLemmas.{there_refused, missing_put}
 use Rattle.soar_agent.proofs.state.Session.add_labelled.Goals as goal
 
-pub returns-in-Some : goal.returns-in-Some
-returns-in-Some g c = λ history.
+pub returns-in-Some-clause-reply : goal.returns-in-Some-clause-reply
+returns-in-Some-clause-reply g c = λ history remembers.
     let s : Session = session_of c.args.self.now history in
     let t : Spelled = spelled_by c.args.slot.id c.args.slot.attr (labelled s c.args.name None) in
     let next : List ℕ → List ℕ → List Element → Option ℕ = λ letters name elements. tag_of (plain_triple c.args.slot.id c.args.slot.attr (next_identifier letters name)) elements in
@@ -21,10 +21,10 @@ returns-in-Some g c = λ history.
     ∙ (ap (λ name. next c.lookup.result.letters.now name c.lookup.result.memory.now.elements) (sym c.as_str.ensures)
     ∙ (sym c.in_ok-tag.ensures ∙ c.in-Some.is))) in
     there_refused c.args.self.now c.refuse.new.self c.args.origin.now.source.now c.args.origin.now.line t s (tag_of t.triple c.args.self.now.agent.parts.memory.elements) c.in-Some.tag
-    c.args.out.now c.refuse.new.out c.refuse.result there (c.refuse.ensures history)
+    c.args.out.now c.refuse.new.out c.refuse.result there (c.refuse.ensures.reply history remembers)
 
-pub returns-in-None : goal.returns-in-None
-returns-in-None g c = λ history.
+pub returns-in-None-clause-reply : goal.returns-in-None-clause-reply
+returns-in-None-clause-reply g c = λ history remembers.
     let s : Session = session_of c.args.self.now history in
     let t : Spelled = spelled_by c.args.slot.id c.args.slot.attr (labelled s c.args.name None) in
     let next : List ℕ → List ℕ → List Element → Option ℕ = λ letters name elements. tag_of (plain_triple c.args.slot.id c.args.slot.attr (next_identifier letters name)) elements in
@@ -34,4 +34,4 @@ returns-in-None g c = λ history.
     ∙ (ap (λ name. next c.lookup.result.letters.now name c.lookup.result.memory.now.elements) (sym c.as_str.ensures)
     ∙ (sym c.in_ok-tag.ensures ∙ c.in-None.is))) in
     missing_put c.args.self.now c.put_labelled.new.self c.args.origin.now.source.now c.args.origin.now.line t s (tag_of t.triple c.args.self.now.agent.parts.memory.elements)
-    c.args.out.now c.args.out.now c.put_labelled.result missing (c.put_labelled.ensures c.args.out.now history)
+    c.args.out.now c.args.out.now c.put_labelled.result missing (c.put_labelled.ensures.reply c.args.out.now history remembers)

@@ -17,15 +17,15 @@ pub add_triple-requires-in-Some-clause-known : goal.add_triple-requires-in-Some-
 add_triple-requires-in-Some-clause-known g c =
     subst (IsTripleKnown c.args.self.now.agent.parts.table) (sym c.with-in-Some.ensures) (c.requires.id, c.requires.attr, c.in-Some.ensures.known c.args.self.now.agent.parts.table)
 
-pub returns-in-Symbol : goal.returns-in-Symbol
-returns-in-Symbol g c =
+pub returns-in-Symbol-clause-reply : goal.returns-in-Symbol-clause-reply
+returns-in-Symbol-clause-reply g c =
     subst (λ (o : Operand). Carries c.args.self.now c.add_triple.new.self c.args.origin.now.source.now c.args.origin.now.line (adds_by c.args.slot.id c.args.slot.attr (operand_seen o)) c.args.out.now c.add_triple.new.out c.add_triple.result)
     (sym c.in-Symbol.is)
     (subst (λ (t : Triple). Carries c.args.self.now c.add_triple.new.self c.args.origin.now.source.now c.args.origin.now.line (adds_triple t) c.args.out.now c.add_triple.new.out c.add_triple.result)
-    c.with.ensures c.add_triple.ensures)
+    c.with.ensures c.add_triple.ensures.reply)
 
-pub returns-in-Some : goal.returns-in-Some
-returns-in-Some g c = λ history.
+pub returns-in-Some-clause-reply : goal.returns-in-Some-clause-reply
+returns-in-Some-clause-reply g c = λ history remembers.
     let s : Session = session_of c.args.self.now history in
     let some : Some c.in-Some.value ≡ label_in (map label_seen c.args.self.now.labels) c.in-Label.name = cc (c.in-Some.ensures.symbol, c.as_slice.ensures, c.as_str.ensures) in
     subst (λ (o : Operand). Obeys c.args.self.now.agent.mid_line (replied_by c.args.origin.now.source.now c.args.origin.now.line s (adds_by c.args.slot.id c.args.slot.attr (operand_seen o) s))
@@ -35,10 +35,10 @@ returns-in-Some g c = λ history.
     c.add_triple-in-Some.new.self c.args.out.now c.add_triple-in-Some.new.out c.add_triple-in-Some.result)
     some
     (subst (λ (t : Triple). Obeys c.args.self.now.agent.mid_line (replied_by c.args.origin.now.source.now c.args.origin.now.line s (adds_triple t s)) c.add_triple-in-Some.new.self c.args.out.now c.add_triple-in-Some.new.out c.add_triple-in-Some.result)
-    c.with-in-Some.ensures (c.add_triple-in-Some.ensures history)))
+    c.with-in-Some.ensures (c.add_triple-in-Some.ensures.reply history remembers)))
 
-pub returns-in-None : goal.returns-in-None
-returns-in-None g c = λ history.
+pub returns-in-None-clause-reply : goal.returns-in-None-clause-reply
+returns-in-None-clause-reply g c = λ history remembers.
     let s : Session = session_of c.args.self.now history in
     let none : None ≡ label_in (map label_seen c.args.self.now.labels) c.in-Label.name = cc (c.in-None.ensures.symbol, c.as_slice.ensures, c.as_str.ensures) in
     subst (λ (o : Operand). Obeys c.args.self.now.agent.mid_line (replied_by c.args.origin.now.source.now c.args.origin.now.line s (adds_by c.args.slot.id c.args.slot.attr (operand_seen o) s))
@@ -46,4 +46,4 @@ returns-in-None g c = λ history.
     (sym c.in-Label.is)
     (subst (λ (o : Option Sym). Obeys c.args.self.now.agent.mid_line (replied_by c.args.origin.now.source.now c.args.origin.now.line s (unless_twice (spelled_by c.args.slot.id c.args.slot.attr (labelled s c.in-Label.name o))))
     c.add_labelled.new.self c.args.out.now c.add_labelled.new.out c.add_labelled.result)
-    none (c.add_labelled.ensures history))
+    none (c.add_labelled.ensures.reply history remembers))

@@ -7,15 +7,15 @@ use Rattle.soar_agent.proofs.ReplyLemmas.{settles, settles_none, with_kept}
 use Rattle.soar_agent.proofs.SessionLemmas.{ready_after}
 use Rattle.soar_agent.proofs.state.Session.change_inputs.Goals as goal
 
-pub returns-in-Ok : goal.returns-in-Ok
-returns-in-Ok g c = λ said history.
+pub returns-in-Ok-clause-reply : goal.returns-in-Ok-clause-reply
+returns-in-Ok-clause-reply g c = λ said history remembers.
     let inputs : List Triple = with_input c.args.adds c.args.triple c.args.self.now.agent.parts.inputs in
     settles c.args.self.now c.input_now.new.self inputs history said
     (ready_after c.args.self.now.agent c.input_now.new.self c.requires.ready c.in-Ok.ensures.standing c.in-Ok.ensures.sound) c.in-Ok.ensures.mid_line
-    (c.in-Ok.ensures.step c.requires.ready.0 (agent_of c.args.self.now.agent.parts history) (stands_at c.args.self.now.agent.parts history))
+    (c.in-Ok.ensures.step c.requires.ready.0 (agent_of c.args.self.now.agent.parts history) (stands_at c.args.self.now.agent.parts history remembers))
 
-pub returns-in-Err : goal.returns-in-Err
-returns-in-Err g c = λ said history.
+pub returns-in-Err-clause-reply : goal.returns-in-Err-clause-reply
+returns-in-Err-clause-reply g c = λ said history remembers.
     let inputs : List Triple = with_input c.args.adds c.args.triple c.args.self.now.agent.parts.inputs in
     settles_none c.args.self.now (with_kept c.input_now.new.self c.args.self.now) inputs history said c.in-Err.stop c.in-Err.ensures.mid_line
-    (c.in-Err.ensures.step c.requires.ready.0 (agent_of c.args.self.now.agent.parts history) (stands_at c.args.self.now.agent.parts history))
+    (c.in-Err.ensures.step c.requires.ready.0 (agent_of c.args.self.now.agent.parts history) (stands_at c.args.self.now.agent.parts history remembers))

@@ -8,8 +8,8 @@ use Rattle.session_parts.specs.Saying.{match_lines}
 use Rattle.soar_agent.proofs.ReplyLemmas.{says_lines}
 use Rattle.soar_agent.proofs.state.Session.list_matches.Goals as goal
 
-pub returns : goal.returns
-returns g c = λ history.
+pub returns-clause-reply : goal.returns-clause-reply
+returns-clause-reply g c = λ history remembers.
     let a : AgentSeen = c.args.self.now.agent in
     let parts : c.conflict.new.self.parts ≡ a.parts = c.in-Ok.ensures.parts in
     let rules : List RuleOf = map rule_seen a.parts.rules in
@@ -21,5 +21,5 @@ returns g c = λ history.
     let same : match_lines c.symbols.result.now (map rule_seen c.rules.result.now) c.in-Ok.instances ≡ match_lines a.parts.table rules found =
     λ k. match_lines (words_are k) (rules_are k) (c.in-Ok.ensures.conflict c.requires.0 k) in
     says_lines c.args.self.now c.set_mid_line.new.self (match_lines c.symbols.result.now (map rule_seen c.rules.result.now) c.in-Ok.instances) (match_lines a.parts.table rules found)
-    c.mid_line-mid_line.result c.say_matches.new.mid_line history c.args.out.now c.say_matches.new.out c.requires is same (c.mid_line-mid_line.ensures ∙ c.in-Ok.ensures.mid_line)
+    c.mid_line-mid_line.result c.say_matches.new.mid_line history c.args.out.now c.say_matches.new.out remembers c.requires is same (c.mid_line-mid_line.ensures ∙ c.in-Ok.ensures.mid_line)
     c.in_ok-say_matches.ensures

@@ -9,18 +9,18 @@ use Rattle.soar_agent.proofs.ReplyLemmas.{drawn_done, drawn_none, with_kept}
 use Rattle.soar_agent.proofs.SessionLemmas.{ready_after}
 use Rattle.soar_agent.proofs.state.Session.load.Goals as goal
 
-pub returns-in-Ok : goal.returns-in-Ok
-returns-in-Ok g c = λ said history.
+pub returns-in-Ok-clause-reply : goal.returns-in-Ok-clause-reply
+returns-in-Ok-clause-reply g c = λ said history remembers.
     let a : Agent = agent_of c.args.self.now.agent.parts history in
     let p : ProductionOf = production_seen c.args.production in
     drawn_done c.args.self.now c.load.new.self (load_step p a).agent (load_step p a).totals history said
     (ready_after c.args.self.now.agent c.load.new.self c.requires.ready c.in-Ok.ensures.standing c.in-Ok.ensures.sound) c.in-Ok.ensures.mid_line
-    (c.in-Ok.ensures.step c.requires.ready.0 a (stands_at c.args.self.now.agent.parts history))
+    (c.in-Ok.ensures.step c.requires.ready.0 a (stands_at c.args.self.now.agent.parts history remembers))
 
-pub returns-in-Err : goal.returns-in-Err
-returns-in-Err g c = λ said history.
+pub returns-in-Err-clause-reply : goal.returns-in-Err-clause-reply
+returns-in-Err-clause-reply g c = λ said history remembers.
     let a : Agent = agent_of c.args.self.now.agent.parts history in
     let p : ProductionOf = production_seen c.args.production in
     drawn_none c.args.self.now (with_kept c.load.new.self c.args.self.now) (load_step p a).agent (load_step p a).totals c.load.new.self.parts
     (quiet (with_agent (session_of c.args.self.now history) (load_step p a).agent)) said c.in-Err.stop c.in-Err.ensures.mid_line
-    (c.in-Err.ensures.step c.requires.ready.0 a (stands_at c.args.self.now.agent.parts history))
+    (c.in-Err.ensures.step c.requires.ready.0 a (stands_at c.args.self.now.agent.parts history remembers))

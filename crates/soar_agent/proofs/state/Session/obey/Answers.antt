@@ -10,17 +10,17 @@ use Rattle.defs_soar.specs.declared.limit.Which.TheVariants as which
 use Rattle.soar_agent.specs.Carries.{with_table}
 use Rattle.soar_agent.specs.Commands.{Outcomes}
 use Rattle.soar_agent.specs.States.{session_of}
-use Rattle.soar_agent.proofs.CommandLemmas.{comes_as, reads_as, reads_spent}
-use Rattle.soar_agent.proofs.SoundLemmas.{ready_read}
+use Rattle.soar_agent.proofs.CommandLemmas.{comes_as, outcome_ready, reads_as, reads_spent}
+use Rattle.soar_agent.proofs.SoundLemmas.{ready_read, remembers_read}
 use Rattle.soar_agent.proofs.state.Session.obey.Goals as goal
 
 pub carry_out-requires-clause-ready : goal.carry_out-requires-clause-ready
 carry_out-requires-clause-ready g c =
     ready_read c.args.self.now.agent c.read_command.new.table (subst (λ (w : Texts). length w ≤ length c.read_command.new.table) c.table.ensures.value c.in-Ok.ensures.grown) c.requires.ready
 
-pub returns-in-Ok : goal.returns-in-Ok
+pub returns-in-Ok-clause-command : goal.returns-in-Ok-clause-command
 unfolding obeyed
-returns-in-Ok g c = λ history.
+returns-in-Ok-clause-command g c = λ history remembers.
     let s : Session = session_of c.args.self.now history in
     let words : Texts = c.read_command.new.table in
     let small : length words < 2 ^ 32 = subst (λ (w : Texts). length w < 2 ^ 32) c.symbols.ensures (omega (arith, c.word_count-within.ensures)) in
@@ -28,7 +28,7 @@ returns-in-Ok g c = λ history.
     c.carry_out.new.self c.args.out.now c.carry_out.new.out c.carry_out.result)
     c.table.ensures.value
     (reads_as c.args.self.now c.carry_out.new.self c.args.source.now c.args.c.now.line (read_present c.table.result.now c.args.c.now.text) words (Ok (order_seen c.in-Ok.order)) history
-    c.args.out.now c.carry_out.new.out c.carry_out.result c.in-Ok.ensures.reading.0 c.in-Ok.ensures.reading.1 small (c.carry_out.ensures history))
+    c.args.out.now c.carry_out.new.out c.carry_out.result c.in-Ok.ensures.reading.0 c.in-Ok.ensures.reading.1 small (c.carry_out.ensures.command history (remembers_read c.args.self.now.agent words history remembers)))
 
 pub refuse-requires-clause-ready : goal.refuse-requires-clause-ready
 refuse-requires-clause-ready g c =
@@ -37,9 +37,9 @@ refuse-requires-clause-ready g c =
 pub refuse-requires-clause-known : goal.refuse-requires-clause-known
 refuse-requires-clause-known g c = let read = rw c.in-Err-Refused.field-0-is at c.in-Err-Refused.ensures.reading in read.2
 
-pub returns-in-Err-Refused : goal.returns-in-Err-Refused
+pub returns-in-Err-Refused-clause-command : goal.returns-in-Err-Refused-clause-command
 unfolding obeyed
-returns-in-Err-Refused g c = λ history.
+returns-in-Err-Refused-clause-command g c = λ history remembers.
     let s : Session = session_of c.args.self.now history in
     let words : Texts = c.read_command.new.table in
     let small : length words < 2 ^ 32 = subst (λ (w : Texts). length w < 2 ^ 32) c.symbols-in-Err-Refused.ensures (omega (arith, c.word_count-within-in-Err-Refused.ensures)) in
@@ -51,11 +51,14 @@ returns-in-Err-Refused g c = λ history.
     (Err (refusal_of words c.in-Err-Refused.number c.in-Err-Refused.shown)) history c.args.out.now c.refuse.new.out c.outcome_of.result read.0 read.1 small
     (comes_as c.args.self.now.agent.mid_line
     (refused_by (refusal_of words c.in-Err-Refused.number c.in-Err-Refused.shown) c.args.source.now c.args.c.now.line (session_of (with_table words c.args.self.now) history))
-    c.refuse.new.self c.args.out.now c.refuse.new.out c.refuse.result c.outcome_of.result c.outcome_of.ensures (c.refuse.ensures history)))
+    c.refuse.new.self c.args.out.now c.refuse.new.out c.refuse.result c.outcome_of.result c.outcome_of.ensures (c.refuse.ensures.reply history (remembers_read c.args.self.now.agent words history remembers))))
 
-pub returns-in-Err-WordsSpent : goal.returns-in-Err-WordsSpent
+pub returns-in-Err-Refused-clause-ready : goal.returns-in-Err-Refused-clause-ready
+returns-in-Err-Refused-clause-ready g c = outcome_ready c.refuse.new.self c.refuse.result c.outcome_of.result c.outcome_of.ensures c.refuse.ensures.ready
+
+pub returns-in-Err-WordsSpent-clause-command : goal.returns-in-Err-WordsSpent-clause-command
 unfolding obeyed
-returns-in-Err-WordsSpent g c = λ history.
+returns-in-Err-WordsSpent-clause-command g c = λ history remembers.
     let s : Session = session_of c.args.self.now history in
     let spent = rw c.in-Err-WordsSpent.field-0-is at c.in-Err-WordsSpent.ensures.reading in
     subst (λ (w : Texts). Outcomes c.args.self.now.agent.mid_line (after_reading present_stage c.args.source.now c.args.c.now.line s (read_present w c.args.c.now.text))

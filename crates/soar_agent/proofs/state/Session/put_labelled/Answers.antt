@@ -6,14 +6,14 @@ use Rattle.soar_agent.specs.Steps.{Obeys}
 use Rattle.soar_agent.proofs.AddingLemmas.{puts_labelled, puts_none}
 use Rattle.soar_agent.proofs.state.Session.put_labelled.Goals as goal
 
-pub returns-in-Ok : goal.returns-in-Ok
-returns-in-Ok g c = λ said history.
+pub returns-in-Ok-clause-reply : goal.returns-in-Ok-clause-reply
+returns-in-Ok-clause-reply g c = λ said history remembers.
     puts_labelled c.args.self.now c.make_label.new.self c.change_inputs.new.self c.args.slot.id c.args.slot.attr c.in-Ok.value c.args.name history said said c.change_inputs.result
-    c.in-Ok.ensures.mid_line (c.in-Ok.ensures.symbol history)
+    c.in-Ok.ensures.mid_line (c.in-Ok.ensures.symbol history remembers)
     (subst (λ (t : Triple). Obeys c.make_label.new.self.agent.mid_line (with_inputs (c.make_label.new.self.agent.parts.inputs ++ t ∷ []) (session_of c.make_label.new.self history))
     c.change_inputs.new.self said said c.change_inputs.result)
-    c.with.ensures (c.change_inputs.ensures said history))
+    c.with.ensures (c.change_inputs.ensures.reply said history (c.in-Ok.ensures.symbol history remembers).3))
 
-pub returns-in-Err : goal.returns-in-Err
-returns-in-Err g c = λ said history.
-    puts_none c.args.self.now c.make_label.new.self c.args.slot.id c.args.slot.attr c.args.name history said c.in-Err.stop c.in-Err.ensures.mid_line (c.in-Err.ensures.symbol history)
+pub returns-in-Err-clause-reply : goal.returns-in-Err-clause-reply
+returns-in-Err-clause-reply g c = λ said history remembers.
+    puts_none c.args.self.now c.make_label.new.self c.args.slot.id c.args.slot.attr c.args.name history said c.in-Err.stop c.in-Err.ensures.mid_line (c.in-Err.ensures.symbol history remembers)

@@ -8,15 +8,15 @@ use Rattle.soar_agent.proofs.ReplyLemmas.{quiet_done, quiet_none, with_kept}
 use Rattle.soar_agent.proofs.SessionLemmas.{ready_after}
 use Rattle.soar_agent.proofs.state.Session.put_queued.Goals as goal
 
-pub returns-in-Ok : goal.returns-in-Ok
-returns-in-Ok g c = λ said history.
+pub returns-in-Ok-clause-reply : goal.returns-in-Ok-clause-reply
+returns-in-Ok-clause-reply g c = λ said history remembers.
     let a : Agent = agent_of c.args.self.now.agent.parts history in
     quiet_done c.args.self.now c.queue.new.self (queue_step c.args.adds c.args.triple a).agent (queue_step c.args.adds c.args.triple a).totals history said
     (ready_after c.args.self.now.agent c.queue.new.self c.requires.ready c.in-Ok.ensures.standing c.in-Ok.ensures.sound) c.in-Ok.ensures.mid_line
-    (c.in-Ok.ensures.step c.requires.ready.0 a (stands_at c.args.self.now.agent.parts history))
+    (c.in-Ok.ensures.step c.requires.ready.0 a (stands_at c.args.self.now.agent.parts history remembers))
 
-pub returns-in-Err : goal.returns-in-Err
-returns-in-Err g c = λ said history.
+pub returns-in-Err-clause-reply : goal.returns-in-Err-clause-reply
+returns-in-Err-clause-reply g c = λ said history remembers.
     let a : Agent = agent_of c.args.self.now.agent.parts history in
     quiet_none c.args.self.now (with_kept c.queue.new.self c.args.self.now) (queue_step c.args.adds c.args.triple a).agent c.queue.new.self.parts
-    (queues_triple c.args.adds c.args.triple (session_of c.args.self.now history)) said c.in-Err.stop (c.in-Err.ensures.step c.requires.ready.0 a (stands_at c.args.self.now.agent.parts history))
+    (queues_triple c.args.adds c.args.triple (session_of c.args.self.now history)) said c.in-Err.stop (c.in-Err.ensures.step c.requires.ready.0 a (stands_at c.args.self.now.agent.parts history remembers))

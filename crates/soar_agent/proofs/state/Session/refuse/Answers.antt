@@ -7,11 +7,11 @@ use Rattle.soar_cycle.specs.Agents.{AgentSeen}
 use Rattle.soar_agent.proofs.ReplyLemmas.{refuses}
 use Rattle.soar_agent.proofs.state.Session.refuse.Goals as goal
 
-pub returns : goal.returns
-returns g c = λ history.
+pub returns-clause-reply : goal.returns-clause-reply
+returns-clause-reply g c = λ history remembers.
     let a : AgentSeen = c.args.self.now.agent in
     let text : Texts → List ℕ = λ words. refusal_text (refusal_by words c.args.reason.now) c.args.origin.now.source.now c.args.origin.now.line in
-    refuses c.args.self.now c.set_mid_line.new.self (refusal_by a.parts.table c.args.reason.now) c.args.origin.now.source.now c.args.origin.now.line history c.args.out.now c.say_refusal.new.out c.requires.ready
+    refuses c.args.self.now c.set_mid_line.new.self (refusal_by a.parts.table c.args.reason.now) c.args.origin.now.source.now c.args.origin.now.line history c.args.out.now c.say_refusal.new.out remembers c.requires.ready
     (c.set_mid_line.ensures ∙ ap (λ (mid : Bool). record a { mid_line = mid }) c.in_ok-say_refusal.ensures.1)
     (c.in_ok-say_refusal.ensures.0
     ∙ (ap (λ (mid : Bool). c.args.out.now ++ line_text mid (text c.symbols.result.now)) c.mid_line-mid_line.ensures

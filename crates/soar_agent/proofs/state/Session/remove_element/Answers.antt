@@ -11,8 +11,8 @@ use Rattle.soar_agent.specs.States.{session_of}
 use Rattle.soar_agent.specs.Steps.{Obeys}
 use Rattle.soar_agent.proofs.state.Session.remove_element.Goals as goal
 
-pub returns-then-is_input : goal.returns-then-is_input
-returns-then-is_input g c = λ history.
+pub returns-then-is_input-clause-reply : goal.returns-then-is_input-clause-reply
+returns-then-is_input-clause-reply g c = λ history remembers.
     let s : Session = session_of c.args.self.now history in
     let among : has_triple_among c.args.self.now.agent.parts.inputs (triple_of c.args.element) ≡ true = cc (c.is_input.ensures, c.triple_of-triple.ensures, c.if-is_input.true) in
     subst (λ (b : Bool). Obeys c.args.self.now.agent.mid_line
@@ -20,13 +20,13 @@ returns-then-is_input g c = λ history.
     c.change_inputs.new.self c.args.out.now c.args.out.now c.change_inputs.result)
     (sym among)
     (subst (λ (u : Triple). Obeys c.args.self.now.agent.mid_line (with_inputs (filter (λ t. not (triple_eq t u)) c.args.self.now.agent.parts.inputs) s) c.change_inputs.new.self c.args.out.now c.args.out.now c.change_inputs.result)
-    c.triple_of-triple.ensures (c.change_inputs.ensures c.args.out.now history))
+    c.triple_of-triple.ensures (c.change_inputs.ensures.reply c.args.out.now history remembers))
 
-pub returns-else-is_input : goal.returns-else-is_input
-returns-else-is_input g c = λ history.
+pub returns-else-is_input-clause-reply : goal.returns-else-is_input-clause-reply
+returns-else-is_input-clause-reply g c = λ history remembers.
     let s : Session = session_of c.args.self.now history in
     let among : has_triple_among c.args.self.now.agent.parts.inputs (triple_of c.args.element) ≡ false = cc (c.is_input.ensures, c.triple_of-triple.ensures, c.if-is_input.false) in
     subst (λ (b : Bool). Obeys c.args.self.now.agent.mid_line
     (replied_by c.args.origin.now.source.now c.args.origin.now.line s (if b then does (with_inputs (filter (λ t. not (triple_eq t (triple_of c.args.element))) s.agent.holding.inputs) s) else refuses (not_an_input c.args.element.tag)))
     c.refuse.new.self c.args.out.now c.refuse.new.out c.refuse.result)
-    (sym among) (c.refuse.ensures history)
+    (sym among) (c.refuse.ensures.reply history remembers)

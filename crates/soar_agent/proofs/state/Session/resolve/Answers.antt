@@ -12,7 +12,7 @@ pub returns-in-Some-clause-known : goal.returns-in-Some-clause-known
 returns-in-Some-clause-known g c = c.in-Some.ensures.known c.args.self.now.agent.parts.table
 
 pub returns-in-None-clause-symbol : goal.returns-in-None-clause-symbol
-returns-in-None-clause-symbol g c = λ history.
+returns-in-None-clause-symbol g c = λ history remembers.
     let none : None ≡ label_in (map label_seen c.args.self.now.labels) c.in-Label.name = cc (c.in-None.ensures.symbol, c.as_slice.ensures, c.as_str.ensures) in
     subst (λ (o : Operand). Makes c.make_label.new.self (resolved (session_of c.args.self.now history) (operand_seen o)) history c.make_label.result) (sym c.in-Label.is)
-    (subst (λ (o : Option Sym). Makes c.make_label.new.self (labelled (session_of c.args.self.now history) c.in-Label.name o) history c.make_label.result) none (c.make_label.ensures.symbol history))
+    (subst (λ (o : Option Sym). Makes c.make_label.new.self (labelled (session_of c.args.self.now history) c.in-Label.name o) history c.make_label.result) none (c.make_label.ensures.symbol history remembers))

@@ -1,5 +1,5 @@
 use Rattle.defs_soar.specs.Cycle.{cycle}
-use Rattle.defs_soar.specs.Decision.{decided_alone}
+use Rattle.defs_soar.specs.Decision.{decided_by}
 use Rattle.defs_soar.specs.Learning.{without_learning}
 use Rattle.defs_soar.specs.Phases.{Course}
 use Rattle.wave_parts.specs.Seen.{agent_of}
@@ -8,7 +8,7 @@ use Rattle.soar_agent.proofs.CycleLemmas.{cycle_stopped}
 use Rattle.soar_agent.proofs.state.Session.run_cycle.Goals as goal
 
 pub returns-clause-course : goal.returns-clause-course
-returns-clause-course g c = λ history.
-    let course : Course = cycle decided_alone without_learning (agent_of c.args.self.now.agent.parts history) in
+returns-clause-course g c = λ history remembers.
+    let course : Course = cycle decided_by without_learning (agent_of c.args.self.now.agent.parts history) in
     cycle_stopped c.args.self.now.agent.mid_line course c.cycle.new.self c.mid_line.result _ c.cycle.new.text c.args.text.now c.say_stop.new.text c.in-Err.stop c.say_stop.result
-    c.new-said.ensures c.mid_line.ensures (c.in-Err.ensures.step c.requires.0 (agent_of c.args.self.now.agent.parts history) (stands_at c.args.self.now.agent.parts history)) c.say_stop.ensures
+    c.new-said.ensures c.mid_line.ensures (c.in-Err.ensures.step c.requires.0 (agent_of c.args.self.now.agent.parts history) (stands_at c.args.self.now.agent.parts history remembers)) c.say_stop.ensures

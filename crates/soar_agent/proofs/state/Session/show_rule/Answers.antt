@@ -25,8 +25,8 @@ say_production-requires g c =
     subst (λ (words : Texts). AreKnown words (symbols_of (production_seen c.in-Some.rule.now.production))) (sym c.symbols.ensures)
     (named_known c.args.self.now.agent.parts.table rules c.args.name (rule_seen c.in-Some.rule.now) c.requires.ready.1.rules_known found)
 
-pub returns-in_ok-say_production-in-Some : goal.returns-in_ok-say_production-in-Some
-returns-in_ok-say_production-in-Some g c = λ history.
+pub returns-in_ok-say_production-in-Some-clause-reply : goal.returns-in_ok-say_production-in-Some-clause-reply
+returns-in_ok-say_production-in-Some-clause-reply g c = λ history remembers.
     let s : Session = session_of c.args.self.now history in
     let rule : RuleOf = rule_seen c.in-Some.rule.now in
     let found : Some rule ≡ rule_named (map rule_seen c.args.self.now.agent.parts.rules) c.args.name =
@@ -36,15 +36,15 @@ returns-in_ok-say_production-in-Some g c = λ history.
     (with_kept c.set_mid_line.new.self c.args.self.now) c.args.out.now c.say_production.new.out (Ok false))
     found
     (says_lines c.args.self.now c.set_mid_line.new.self (production_text c.symbols.result.now rule.production) (production_lines s.agent rule) c.mid_line-mid_line.result c.say_production.new.mid_line history
-    c.args.out.now c.say_production.new.out c.requires.ready c.set_mid_line.ensures (ap (λ (words : Texts). production_text words rule.production) c.symbols.ensures) c.mid_line-mid_line.ensures
+    c.args.out.now c.say_production.new.out remembers c.requires.ready c.set_mid_line.ensures (ap (λ (words : Texts). production_text words rule.production) c.symbols.ensures) c.mid_line-mid_line.ensures
     c.in_ok-say_production-in-Some.ensures)
 
-pub returns-in-None : goal.returns-in-None
-returns-in-None g c = λ history.
+pub returns-in-None-clause-reply : goal.returns-in-None-clause-reply
+returns-in-None-clause-reply g c = λ history remembers.
     let s : Session = session_of c.args.self.now history in
     let missing : None ≡ rule_named (map rule_seen c.args.self.now.agent.parts.rules) c.args.name =
     c.in-None.ensures ∙ ap (λ (rs : List Rule). rule_named (map rule_seen rs) c.args.name) (c.as_slice.ensures ∙ c.rules.ensures) in
     subst (λ (o : Option RuleOf). Obeys c.args.self.now.agent.mid_line
     (replied_by c.args.origin.now.source.now c.args.origin.now.line s (elim o as (λ _. Carried) [ None ↦ refuses (no_production s.agent.names.words c.args.name) | Some r ↦ does (says s (production_lines s.agent r)) ]))
     c.refuse.new.self c.args.out.now c.refuse.new.out c.refuse.result)
-    missing (c.refuse.ensures history)
+    missing (c.refuse.ensures.reply history remembers)

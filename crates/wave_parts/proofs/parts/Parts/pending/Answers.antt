@@ -1,6 +1,9 @@
-use Rattle.std.proofs.Common.{map}
+use Rattle.std.proofs.Common.{map, IfOk, subst}
 use Rattle.std.proofs.lemmas.Result.{IfOk-weaker}
 use Rattle.defs_match.specs.Rules.{rule_seen}
+use Rattle.defs_soar.specs.Pending.{pending_in}
+use Rattle.goal_trimming.specs.Living.{live_seen}
+use Rattle.pending_work.specs.Firables.{IsPending}
 use Rattle.wave_parts.specs.Seen.{pending_of}
 use Rattle.wave_parts.proofs.AnsweredLemmas.{same_answer}
 use Rattle.wave_parts.proofs.parts.Parts.pending.Goals as goal
@@ -8,9 +11,13 @@ use Rattle.wave_parts.proofs.parts.Parts.pending.Goals as goal
 pub returns : goal.returns
 returns c =
     let a = c.args.self.now in
+    let rules = map rule_seen a.rules in
+    let work : IfOk c.pending.result (λ work. IsPending rules a.memory.elements work (pending_of c.args.proposing a)) =
+    subst (λ gs. IfOk c.pending.result (λ work. IsPending rules a.memory.elements work (pending_in c.args.proposing rules a.memory.elements gs (map live_seen a.live))))
+    c.list.ensures.goals c.pending.ensures.work in
     record {
-      work = c.pending.ensures.work;
-      none = same_answer (map rule_seen a.rules) a.memory.elements (pending_of c.args.proposing a) c.pending.result c.pending.ensures.work c.pending.ensures.bound;
+      work = work;
+      none = same_answer rules a.memory.elements (pending_of c.args.proposing a) c.pending.result work c.pending.ensures.bound;
       bound = c.pending.ensures.bound;
       known = IfOk-weaker c.pending.result _ _ (λ work known. known a.table c.requires.sound.elements_known) c.pending.ensures.known;
     }

@@ -1,0 +1,9 @@
+pub mod Lists
+pub mod NumberLemmas
+pub mod ReachLemmas
+pub mod WalkLemmas
+pub mod WaitingLemmas
+pub mod KeyedLemmas
+pub mod PartLemmas
+pub mod NamingLemmas
+pub mod StepLemmas

@@ -1,0 +1,14 @@
+//! The chain of firings behind others.
+#![tactic(auto)]
+
+mod chain;
+mod copy;
+mod named;
+mod naming;
+mod parts;
+mod steps;
+mod tagged;
+mod waiting;
+mod walk;
+
+pub use chain::{backtrace, grounds};

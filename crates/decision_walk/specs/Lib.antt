@@ -1,0 +1,5 @@
+pub mod Ends
+pub mod First
+pub mod Known
+pub mod Makers
+pub mod Steps

@@ -1,0 +1,5 @@
+//! Tests of the walk of a decision, as rows of text.
+#![tactic(auto)]
+
+#[cfg(test)]
+mod tests;

@@ -1,0 +1,8 @@
+pub mod AmongLemmas
+pub mod ConstantLemmas
+pub mod DepthLemmas
+pub mod MakerLemmas
+pub mod MakersUpTo
+pub mod OwnLemmas
+pub mod SelectionLemmas
+pub mod WaveRecords

@@ -1,0 +1,4 @@
+pub mod Among
+pub mod Makers
+pub mod Own
+pub mod Recorded

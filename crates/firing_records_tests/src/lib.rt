@@ -1,0 +1,5 @@
+//! Tests of how firings are recorded.
+#![tactic(auto)]
+
+#[cfg(test)]
+mod tests;

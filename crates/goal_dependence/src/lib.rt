@@ -1,0 +1,12 @@
+//! Which elements goals depend on, as waves add to it.
+#![tactic(auto)]
+
+mod constants;
+mod counting;
+mod finding;
+mod joining;
+mod locality;
+mod newness;
+mod remembering;
+
+pub use remembering::remember;

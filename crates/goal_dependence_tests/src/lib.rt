@@ -1,0 +1,5 @@
+//! Tests of what goals depend on.
+#![tactic(auto)]
+
+#[cfg(test)]
+mod tests;

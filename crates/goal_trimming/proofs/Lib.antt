@@ -1,0 +1,6 @@
+pub mod BrokenLemmas
+pub mod HeldLemmas
+pub mod KeptLemmas
+pub mod TagLemmas
+pub mod LivingLemmas
+pub mod RoundLemmas

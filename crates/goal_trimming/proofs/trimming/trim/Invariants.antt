@@ -1,0 +1,13 @@
+use Rattle.std.proofs.Common.{◌≡◌, suc, length}
+use Rattle.goal_trimming.specs.Held.{held_by, trimmed_held}
+use Rattle.goal_trimming.proofs.trimming.trim.Given as goal
+
+abbrev pub invariant-rounds : goal.invariant-rounds
+invariant-rounds l = record {
+  fits : suc (length l.depends) ≡ length l.goals;
+  rest : trimmed_held l.memory.elements (held_by l.goals l.depends l.prefs l.inputs l.live)
+      ≡ trimmed_held l.memory.elements (held_by l.initial.goals l.initial.depends l.initial.prefs l.initial.inputs l.initial.live);
+}
+
+abbrev pub decreases-rounds : goal.decreases-rounds
+decreases-rounds l = length l.goals

@@ -1,0 +1,4 @@
+pub mod Broken
+pub mod Held
+pub mod Living
+pub mod Trims

@@ -1,0 +1,75 @@
+ghost use Rattle.std.specs.Prelude.{◌≡◌, ◌≤◌, ◌-◌, suc, map, length, take, IfOk, OnOk, List as ListOf};
+ghost use Rattle.defs_soar.specs.History.{RecordedFiring};
+ghost use Rattle.defs_soar.specs.Preferences.{without_firings};
+ghost use Rattle.defs_soar.specs.Trimming.{numbers_of};
+ghost use Rattle.goal_trimming.specs.Held.{held_by, kept_held};
+ghost use Rattle.goal_trimming.specs.Living.{live_above, live_from, live_seen};
+ghost use Rattle.goal_trimming.specs.Trims.{AreDependencies, KeepsFirst, Trims};
+
+use crate::broken::highest_broken;
+use crate::leaving::leave_goals;
+use crate::live::Live;
+use soar_goals::Goals;
+use soar_prefs::Prefs;
+use soar_settle::settle;
+use soar_sym::{List, NoMemory, Triple};
+use soar_wm::Memory;
+use std::alloc::Global;
+
+/// Settles, and as long as a goal below the top has lost an element on which it depends takes the highest such goal
+/// away with all below it, and settles again (Soar manual, chapter 2, goal dependency sets). Gives the triples that
+/// are kept in the end. `depends` has the tags on which each goal below the top depends, those of depth 2 first;
+/// `memory` is working memory from before. Where memory is refused nothing is promised.
+pub fn trim(
+    alloc: Global,
+    goals: &mut Goals,
+    depends: &mut List<List<u32>>,
+    prefs: &mut Prefs,
+    inputs: &mut List<Triple>,
+    live: &mut List<Live>,
+    memory: &Memory,
+) -> Result<List<Triple>, NoMemory>
+    requires { suc (length depends.old) ≡ length goals.old }
+    ensures trims { let old = held_by goals.old depends.old prefs.old inputs.old live.old in
+        (history : ListOf RecordedFiring) → AreDependencies history old
+        → IfOk result (λ kept. Trims history memory.now.elements old (held_by goals.new depends.new prefs.new inputs.new live.new) kept) }
+    ensures keeps { OnOk result (KeepsFirst (held_by goals.old depends.old prefs.old inputs.old live.old) (held_by goals.new depends.new prefs.new inputs.new live.new)) }
+    ensures kept { IfOk result (λ kept. kept ≡ kept_held (held_by goals.new depends.new prefs.new inputs.new live.new)) }
+{
+    'rounds: loop {
+        let kept = settle(alloc, goals.list(), prefs, inputs)?;
+        match highest_broken(alloc, memory, depends.as_slice(), kept.as_slice())? {
+            None => return Ok(kept),
+            Some(depth) => remove_from(depth, goals, depends, prefs, live),
+        }
+    }
+}
+
+/// Takes away the goal of a depth and all that are deeper, with what goes with them.
+fn remove_from(
+    depth: usize,
+    goals: &mut Goals,
+    depends: &mut List<List<u32>>,
+    prefs: &mut Prefs,
+    live: &mut List<Live>,
+)
+    requires substate { 2 ≤ depth }
+    requires there { depth ≤ length goals.old }
+    ensures goals { goals.new ≡ take (depth - 1) goals.old }
+    ensures depends { depends.new ≡ take (depth - 2) depends.old }
+    ensures rows { prefs.new ≡ record prefs.old { rows = without_firings prefs.old.rows (numbers_of (live_from depth (map live_seen live.old))) } }
+    ensures live { map live_seen live.new ≡ live_above depth (map live_seen live.old) }
+{
+    goals.cut(depth);
+    cut_depends(depends, depth - 2);
+    leave_goals(depth, prefs, live);
+}
+
+/// Keeps the first lists of tags, so many.
+pub fn cut_depends(depends: &mut List<List<u32>>, count: usize)
+    ensures { depends.new ≡ take count depends.old }
+{
+    'depends: while count < depends.len() {
+        let _ = depends.pop();
+    }
+}

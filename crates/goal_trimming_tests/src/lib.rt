@@ -1,0 +1,5 @@
+//! Tests of `goal_trimming`.
+#![tactic(auto)]
+
+#[cfg(test)]
+mod tests;

@@ -1,0 +1,254 @@
+// A triple is written as the number of its state and its value. Each has the attribute `name`.
+use defs_match::Instance;
+use defs_soar::{Impasse, PrefKind, Preference, Wish};
+use goal_trimming::{Live, leave_goals, trim};
+use soar_goals::Goals;
+use soar_prefs::Prefs;
+use soar_sym::architecture::NAME;
+use soar_sym::{List, NoMemory, Sym, Triple, is_triple};
+use soar_wm::Memory;
+use std::alloc::Global;
+use std::test::Fail;
+
+/// What is trimmed.
+#[derive(Drop)]
+struct Scene {
+    goals: Goals,
+    depends: List<List<u32>>,
+    prefs: Prefs,
+    inputs: List<Triple>,
+    live: List<Live>,
+    memory: Memory,
+}
+
+fn state(number: u32) -> Sym {
+    Sym::Ident {
+        letter: b'S',
+        number,
+    }
+}
+
+fn triple(number: u32, value: i64) -> Triple {
+    Triple {
+        id: state(number),
+        attr: NAME,
+        value: Sym::Int(value),
+        accept: false,
+    }
+}
+
+/// A row that a firing made for a triple.
+fn row(firing: u64, triple: Triple, operator_support: bool) -> Preference {
+    Preference {
+        firing,
+        wish: Wish {
+            id: triple.id,
+            attr: triple.attr,
+            value: triple.value,
+            kind: PrefKind::Accept,
+            referent: None,
+        },
+        operator_support,
+    }
+}
+
+/// The states S1 to S4, each below the last.
+fn four_goals(alloc: Global) -> Result<Goals, NoMemory> {
+    let mut goals = Goals::new(alloc, state(1))?;
+    for number in 2..5 {
+        if goals
+            .push(state(number), Impasse::StateNoChange, List::new(alloc))
+            .is_err()
+        {
+            return Err(NoMemory);
+        }
+    }
+    Ok(goals)
+}
+
+/// Working memory with S1's names 1 to 4, whose tags are these numbers.
+fn four_names(alloc: Global) -> Result<Memory, NoMemory> {
+    let mut memory = Memory::new(alloc, 9, 0)?;
+    for value in 1..5 {
+        if memory.add(triple(1, value), true).is_err() {
+            return Err(NoMemory);
+        }
+    }
+    Ok(memory)
+}
+
+/// Rows, each of a firing, the number of a state, a value, and whether it has operator support.
+fn rows_of(alloc: Global, rows: &[(u64, u32, i64, bool)]) -> Result<Prefs, NoMemory> {
+    let mut prefs = Prefs::new(alloc, 9)?;
+    for (firing, number, value, operator_support) in rows {
+        if prefs
+            .add(row(*firing, triple(*number, *value), *operator_support))
+            .is_err()
+        {
+            return Err(NoMemory);
+        }
+    }
+    Ok(prefs)
+}
+
+/// Firings, each with the depth of its match goal.
+fn live_of(alloc: Global, firings: &[(u64, usize)]) -> Result<List<Live>, NoMemory> {
+    let mut live = List::new(alloc);
+    for (number, depth) in firings {
+        live.push(Live {
+            number: *number,
+            name: NAME,
+            depth: *depth,
+            instance: Instance {
+                rule: *number,
+                tags: List::new(alloc),
+                binds: List::new(alloc),
+            },
+        })?;
+    }
+    Ok(live)
+}
+
+/// The tags on which the goals of depth 2 to 4 depend, one each.
+fn tags_of(alloc: Global, tags: &[u32]) -> Result<List<List<u32>>, NoMemory> {
+    let mut depends = List::new(alloc);
+    for tag in tags {
+        depends.push(List::from_slice(alloc, &[*tag])?)?;
+    }
+    Ok(depends)
+}
+
+/// The four goals, which depend on these tags. S1's name 1 is held by an operator, its name 3 by firing 6 of depth 4;
+/// its names 2 and 4 are in working memory and nothing holds them.
+fn four_deep(alloc: Global, tags: [u32; 3]) -> Result<Scene, NoMemory> {
+    let rows = [
+        (1, 1, 1, true),
+        (6, 1, 3, false),
+        (4, 2, 7, true),
+        (5, 3, 8, false),
+        (5, 1, 9, true),
+    ];
+    let firings = [(5, 3), (2, 1), (6, 4), (4, 2)];
+    Ok(Scene {
+        goals: four_goals(alloc)?,
+        depends: tags_of(alloc, &tags)?,
+        prefs: rows_of(alloc, &rows)?,
+        inputs: List::from_slice(alloc, &[triple(1, 5), triple(2, 5)])?,
+        live: live_of(alloc, &firings)?,
+        memory: four_names(alloc)?,
+    })
+}
+
+/// Trims, where each goal below the top has its tags.
+fn trim_scene(alloc: Global, scene: &mut Scene) -> Result<List<Triple>, NoMemory> {
+    if scene.goals.list().len() - 1 != scene.depends.len() {
+        return Err(NoMemory);
+    }
+    trim(
+        alloc,
+        &mut scene.goals,
+        &mut scene.depends,
+        &mut scene.prefs,
+        &mut scene.inputs,
+        &mut scene.live,
+        &scene.memory,
+    )
+}
+
+/// Whether these firings are live, in order.
+fn are_live(live: &List<Live>, numbers: &[u64]) -> bool {
+    if live.len() != numbers.len() {
+        return false;
+    }
+    for (firing, number) in live.as_slice().iter().zip(numbers) {
+        if firing.number != *number {
+            return false;
+        }
+    }
+    true
+}
+
+/// Whether the rows are of these firings, in order.
+fn has_rows_of(prefs: &Prefs, alloc: Global, firings: &[u64]) -> Result<bool, NoMemory> {
+    let rows = prefs.all(alloc)?;
+    if rows.len() != firings.len() {
+        return Ok(false);
+    }
+    for (row, firing) in rows.as_slice().iter().zip(firings) {
+        if row.firing != *firing {
+            return Ok(false);
+        }
+    }
+    Ok(true)
+}
+
+fn has(triples: &List<Triple>, triple: Triple) -> bool {
+    for other in triples.as_slice() {
+        if is_triple(*other, triple) {
+            return true;
+        }
+    }
+    false
+}
+
+/// Whether goals with these tags come to so many goals, with these live firings and rows of these firings.
+fn come_to(
+    alloc: Global,
+    tags: [u32; 3],
+    goals: usize,
+    live: &[u64],
+    rows: &[u64],
+) -> Result<bool, NoMemory> {
+    let mut scene = four_deep(alloc, tags)?;
+    let kept = trim_scene(alloc, &mut scene)?;
+    let stack = scene.goals.list().len() == goals && scene.depends.len() < goals;
+    let held = scene.inputs.len() == 1 && has(&kept, triple(1, 5)) && has(&kept, triple(1, 9));
+    let below = has(&kept, triple(1, 3)) == (goals == 4) && !has(&kept, triple(2, 5));
+    let left = are_live(&scene.live, live) && has_rows_of(&scene.prefs, alloc, rows)?;
+    Ok(stack && held && below && left)
+}
+
+#[test]
+fn goals_that_lost_nothing_stay(rt: HostRuntime) -> Result<(), Fail> {
+    assert!(rt; come_to(rt.alloc(), [1, 3, 1], 4, &[5, 2, 6, 4], &[1, 6, 4, 5, 5])?);
+    Ok(())
+}
+
+#[test]
+fn a_goal_whose_triple_is_not_kept_goes_with_what_its_firings_made(
+    rt: HostRuntime,
+) -> Result<(), Fail> {
+    assert!(rt; come_to(rt.alloc(), [1, 1, 2], 3, &[5, 2, 4], &[1, 4, 5, 5])?);
+    Ok(())
+}
+
+#[test]
+fn of_two_the_highest_goes_with_all_below(rt: HostRuntime) -> Result<(), Fail> {
+    assert!(rt; come_to(rt.alloc(), [1, 2, 4], 2, &[2, 4], &[1, 4, 5])?);
+    Ok(())
+}
+
+#[test]
+fn what_goes_with_a_goal_can_break_a_higher_one(rt: HostRuntime) -> Result<(), Fail> {
+    assert!(rt; come_to(rt.alloc(), [3, 1, 2], 1, &[2], &[1, 5])?);
+    Ok(())
+}
+
+#[test]
+fn a_goal_whose_element_is_gone_goes(rt: HostRuntime) -> Result<(), Fail> {
+    assert!(rt; come_to(rt.alloc(), [9, 1, 1], 1, &[2], &[1, 5])?);
+    Ok(())
+}
+
+/// Whether the firings from depth 3 on go with their instance-supported rows alone.
+fn firings_leave(alloc: Global) -> Result<bool, NoMemory> {
+    let mut scene = four_deep(alloc, [1, 1, 1])?;
+    leave_goals(3, &mut scene.prefs, &mut scene.live);
+    Ok(are_live(&scene.live, &[2, 4]) && has_rows_of(&scene.prefs, alloc, &[1, 4, 5])?)
+}
+
+#[test]
+fn firings_from_a_depth_on_leave(rt: HostRuntime) -> Result<(), Fail> {
+    assert!(rt; firings_leave(rt.alloc())?);
+    Ok(())
+}

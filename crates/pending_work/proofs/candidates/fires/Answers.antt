@@ -1,0 +1,11 @@
+use Rattle.std.proofs.Common.{◌∙◌, ap, map, sym}
+use Rattle.std.specs.Option.{option_copied, option_map}
+use Rattle.defs_match.specs.Rules.{rule_seen}
+use Rattle.pending_work.proofs.FirableLemmas.{binds_by_rule}
+use Rattle.pending_work.proofs.candidates.fires.Goals as goal
+
+pub may_fire-requires : goal.may_fire-requires
+may_fire-requires c = record {
+  binds = binds_by_rule (map rule_seen c.args.rules.now) c.args.instance.now (rule_seen c.in-Some.rule.now) c.requires.bound
+      (sym c.rule_numbered.ensures ∙ ap (λ r. option_map rule_seen (option_copied r)) c.in-Some.is);
+}

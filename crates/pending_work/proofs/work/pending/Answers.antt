@@ -1,0 +1,51 @@
+use Rattle.std.proofs.Common.{IfOk, ◌≡◌, ◌∙◌, ap, ap₂, filter, map, not, sym, subst}
+use Rattle.std.proofs.lemmas.Result.{IfOk-weaker}
+use Rattle.defs_match.specs.Conflict.{conflict}
+use Rattle.defs_match.specs.Rules.{rule_seen}
+use Rattle.defs_soar.specs.Pending.{is_listed}
+use Rattle.pending_work.specs.Active.{active_of}
+use Rattle.pending_work.specs.Candidates.{fires_now, gone_of}
+use Rattle.pending_work.specs.Firables.{AreBound, AreNumbered}
+use Rattle.goal_trimming.specs.Living.{live_seen}
+use Rattle.pending_work.proofs.ConflictLemmas.{bound_conflict}
+use Rattle.pending_work.proofs.KeyLemmas.{gone_agree, ready_agree}
+use Rattle.pending_work.proofs.PendingLemmas.{Promised, promised}
+use Rattle.pending_work.proofs.work.pending.Goals as goal
+
+pub ready-requires : goal.ready-requires
+ready-requires c =
+    let seen = map rule_seen c.as_slice-rules.result.now in
+    let elements = c.args.memory.now.elements in
+    let numbered = subst (λ rules. AreNumbered (map rule_seen rules)) (sym c.as_slice-rules.ensures) c.requires.numbered in
+    let is : c.args.instances ≡ conflict seen elements = c.requires.conflict ∙ ap (λ rules. conflict (map rule_seen rules) elements) (sym c.as_slice-rules.ensures) in
+    record { bound = subst (AreBound seen) (sym is) (bound_conflict seen elements numbered) }
+
+pub returns : goal.returns
+returns c =
+    let rules = map rule_seen c.args.rules.now in
+    let elements = c.args.memory.now.elements in
+    let goals = c.args.goals.now in
+    let live = map live_seen c.args.live.now in
+    let fires = fires_now c.args.proposing in
+    let now = c.requires.conflict in
+    let seen = map live_seen c.as_slice-live.result.now in
+    let gone =
+    c.as_slice-3.ensures ∙ c.in_ok-gone.ensures
+    ∙ ap (map gone_of) (gone_agree c.as_slice.result.now c.in_ok-matched.matched c.in_ok-matched.ensures seen)
+    ∙ ap₂ (λ is ls. map gone_of (filter (λ l. not (is_listed is l.instance)) (map live_seen ls))) (c.as_slice.ensures ∙ now) c.as_slice-live.ensures in
+    let ready =
+    c.in_ok-ready.ensures
+    ∙ ready_agree c.args.proposing (map rule_seen c.as_slice-rules.result.now) elements goals seen c.in_ok-living.living c.in_ok-living.ensures c.args.instances
+    ∙ ap₂ (λ rs ls. filter (fires (map rule_seen rs) elements goals (map live_seen ls)) c.args.instances) c.as_slice-rules.ensures c.as_slice-live.ensures
+    ∙ ap (filter (fires rules elements goals live)) now in
+    let active =
+    ap (λ gs. active_of gs elements c.as_slice-3.result.now c.in_ok-ready.ready) c.as_slice-2.ensures
+    ∙ ap₂ (active_of goals elements) gone ready in
+    let result = c.of_active_level.result in
+    let all : IfOk result (Promised c.args.proposing rules elements goals live c.requires.numbered) =
+    IfOk-weaker result _ _ (λ work e. promised c.args.proposing rules elements goals live c.requires.numbered work (e ∙ active)) c.of_active_level.ensures in
+    record {
+      work = IfOk-weaker result _ _ (λ work p. p.work_is) all;
+      bound = IfOk-weaker result _ _ (λ work p. p.bound) all;
+      known = IfOk-weaker result _ _ (λ work p. p.known) all;
+    }

@@ -1,0 +1,25 @@
+-- Whether an instance may fire by the rule of its number, and what is kept of a firing to retract.
+use Rattle.std.specs.Prelude.{ℕ, Bool, false, List, [], ◌∷◌, Option, Some, None, if◌then◌else◌}
+use Rattle.soar_wm.specs.declared.element.Element.{Element}
+use Rattle.defs_match.specs.Contents.{is_numbered}
+use Rattle.defs_match.specs.Rules.{RuleOf}
+use Rattle.defs_match.specs.declared.instance.Instance.{Instance}
+use Rattle.defs_soar.specs.declared.goal.Goal.{Goal}
+use Rattle.defs_soar.specs.Agents.{LiveFiring}
+use Rattle.defs_soar.specs.Pending.{firable_of, may_fire}
+use Rattle.pending_work.specs.declared.candidates.Gone.{Gone}
+
+abbrev pub gone_of : LiveFiring → Gone
+gone_of l = record { number = l.number; depth = l.depth }
+
+-- the first rule of a number
+abbrev pub rule_numbered : ℕ → List RuleOf → Option RuleOf
+rule_numbered number [] = None
+rule_numbered number (rule ∷ rules) = if is_numbered number rule then Some rule else rule_numbered number rules
+
+abbrev pub fires_by : Bool → List Element → List Goal → List LiveFiring → Instance → Option RuleOf → Bool
+fires_by proposing elements goals live i None = false
+fires_by proposing elements goals live i (Some rule) = may_fire proposing goals live (firable_of elements rule i)
+
+abbrev pub fires_now : Bool → List RuleOf → List Element → List Goal → List LiveFiring → Instance → Bool
+fires_now proposing rules elements goals live i = fires_by proposing elements goals live i (rule_numbered i.rule rules)

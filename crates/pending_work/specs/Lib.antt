@@ -1,0 +1,5 @@
+pub mod Active
+pub mod Candidates
+pub mod Firables
+pub mod Keys
+pub mod Working

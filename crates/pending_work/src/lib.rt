@@ -1,0 +1,9 @@
+//! What is pending in an agent: the firings to retract and the instances to fire, of the least level that has any.
+#![tactic(auto)]
+
+mod active;
+mod candidates;
+mod instances;
+mod work;
+
+pub use work::{Work, pending};

@@ -1,0 +1,63 @@
+ghost use Rattle.std.specs.Prelude.{◌≡◌, map, IfOk};
+ghost use Rattle.soar_sym.specs.Words.{Texts};
+ghost use Rattle.defs_match.specs.Rules.{rule_seen};
+ghost use Rattle.defs_match.specs.Conflict.{conflict};
+ghost use Rattle.defs_soar.specs.Pending.{pending_in};
+ghost use Rattle.pending_work.specs.Working.{is_nothing};
+ghost use Rattle.pending_work.specs.Firables.{AreNumbered, AreBound, IsPending};
+ghost use Rattle.goal_trimming.specs.Living.{live_seen};
+ghost use Rattle.soar_settle.specs.Known.{AreElementsKnown, AreInstancesKnown};
+
+use crate::active::of_active_level;
+use crate::candidates::{ready, unmatched};
+use crate::instances::InstanceSet;
+use defs_match::{Instance, Rule};
+use defs_soar::Goal;
+use goal_trimming::Live;
+use soar_sym::{List, NoMemory};
+use soar_wm::Memory;
+use std::alloc::Global;
+
+/// The work of a wave: the numbers of the firings to retract, and the instances to fire, by rule and by tags.
+#[derive(Drop)]
+pub struct Work {
+    pub retracted: List<u64>,
+    pub fired: List<Instance>,
+}
+
+impl Work {
+    /// Whether nothing is pending.
+    pub fn is_nothing(&self) -> bool
+        ensures { result ≡ is_nothing self.now }
+    {
+        self.retracted.is_empty() && self.fired.is_empty()
+    }
+}
+
+/// The work of the active level, which is the least that has any, where these are the instances of the conflict set
+/// (Soar manual, chapter 2, elaboration cycle). `proposing` leaves out the instances of operator kind.
+pub fn pending(
+    alloc: Global,
+    proposing: bool,
+    rules: &List<Rule>,
+    memory: &Memory,
+    goals: &List<Goal>,
+    live: &List<Live>,
+    instances: List<Instance>,
+) -> Result<Work, NoMemory>
+    requires numbered { AreNumbered (map rule_seen rules.now) }
+    requires conflict { instances ≡ conflict (map rule_seen rules.now) memory.now.elements }
+    ensures work { IfOk result (λ work. IsPending (map rule_seen rules.now) memory.now.elements work
+        (pending_in proposing (map rule_seen rules.now) memory.now.elements goals.now (map live_seen live.now))) }
+    // What a caller needs to fire these instances.
+    ensures bound { IfOk result (λ work. AreBound (map rule_seen rules.now) work.fired) }
+    ensures known { IfOk result (λ work. (words : Texts) → AreElementsKnown words memory.now.elements → AreInstancesKnown words work.fired) }
+{
+    let rules = rules.as_slice();
+    let live = live.as_slice();
+    let matched = InstanceSet::of(alloc, instances.as_slice())?;
+    let gone = unmatched(alloc, live, &matched)?;
+    let living = InstanceSet::of_live(alloc, live)?;
+    let ready = ready(alloc, proposing, rules, memory, goals, &living, instances)?;
+    of_active_level(alloc, goals.as_slice(), memory, gone.as_slice(), ready)
+}

@@ -1,0 +1,5 @@
+//! Tests of `soar_goals`.
+#![tactic(auto)]
+
+#[cfg(test)]
+mod tests;

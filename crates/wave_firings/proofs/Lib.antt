@@ -1,0 +1,5 @@
+pub mod FiringAgreement
+pub mod FiringKnown
+pub mod FiringLemmas
+pub mod RecordedLemmas
+pub mod UnlearnedLemmas

@@ -1,0 +1,4 @@
+pub mod FiresAll
+pub mod FiringOutcome
+pub mod Numbered
+pub mod Rows

@@ -1,0 +1,134 @@
+-- The firings of a wave join what is remembered.
+use Rattle.std.proofs.Common.{◌≡◌, ◌∙◌, ℕ, suc, ◌+◌, ◌<◌, ◌≤◌, ◌⊎◌, List, [], ◌∷◌, ◌++◌, map, drop, length, flat_map, Some, inl, inr, refl, sym, ap, subst, arith}
+use Rattle.soar_sym.specs.declared.symbol.Sym.{Sym}
+use Rattle.soar_wm.specs.declared.element.Element.{Element}
+use Rattle.defs_soar.specs.declared.goal.Goal.{Goal}
+use Rattle.defs_soar.specs.declared.preference.Preference.{Preference}
+use Rattle.defs_soar.specs.Explanation.{maker_named}
+use Rattle.defs_soar.specs.Goals.{goal_ids}
+use Rattle.defs_soar.specs.History.{FiringOf, Reach, RecordedFiring}
+use Rattle.defs_soar.specs.Laws.{IsIn}
+use Rattle.defs_soar.specs.Standing.{dependencies_from}
+use Rattle.defs_soar.specs.WaveAtHand.{Fresh, all_fresh}
+use Rattle.defs_soar.specs.Waves.{lasting_of, recorded_firing}
+use Rattle.agent_laws.specs.Dependence.{AreLater, GoalsDependOnMore, MakersAreEarlier, each_with, firings_in, tags_from}
+use Rattle.agent_laws.specs.Records.{AreRisingFrom}
+use Rattle.firing_records.specs.Recorded.{RecordedAs, recorded_seen}
+use Rattle.firing_records.specs.declared.outcome.Recorded.{Recorded}
+use Rattle.goal_dependence.specs.Remembered.{CanJoin, firings_of, past_by, tags_found, tags_found_from}
+use Rattle.firing_records.specs.Recorded.{fresh_seen}
+use Rattle.wave_firings.specs.Numbered.{AreMakersUpTo, AreNumberedAfter, AreRecordedUpTo}
+
+-- ---- numbers
+
+rising_after : (last : ℕ) (recorded : List Recorded) → AreNumberedAfter last (map recorded_seen recorded) → AreRisingFrom last (firings_of recorded)
+rising_after last [] h = tt
+rising_after last (r ∷ recorded) h = (omega (arith, h.0), subst (λ n. AreRisingFrom n (firings_of recorded)) (sym h.0) (rising_after (suc last) recorded h.1))
+
+-- each is above the last one before, and at most so many above it
+pub record IsBetween (last most n : ℕ) : Type 0 where
+  pub above : last < n
+  pub within : n ≤ most
+
+between : (last : ℕ) (recorded : List Recorded) → AreNumberedAfter last (map recorded_seen recorded) → (f : FiringOf) → IsIn f (firings_of recorded) → IsBetween last (last + length recorded) f.number
+between last [] h f is = absurd is
+between last (r ∷ recorded) h f (inl e) = record {
+  above = omega (arith, h.0, ap (λ (g : FiringOf). g.number) e);
+  within = omega (arith, h.0, ap (λ (g : FiringOf). g.number) e);
+}
+between last (r ∷ recorded) h f (inr is) = let b = between (suc last) recorded h.1 f is in record { above = omega (arith, b.above); within = omega (arith, b.within) }
+
+pub can_join : (last : ℕ) (kept : List FiringOf) (recorded : List Recorded) → AreRecordedUpTo last kept → AreNumberedAfter last (map recorded_seen recorded) → CanJoin kept (firings_of recorded)
+can_join last kept recorded up_to h = record { last = last; kept_up_to = up_to; rising = rising_after last recorded h }
+
+pub in_either : {A : Type 0} (x : A) (xs ys : List A) → IsIn x (xs ++ ys) → IsIn x xs ⊎ IsIn x ys
+in_either x [] ys is = inr is
+in_either x (z ∷ xs) ys (inl e) = inl (inl e)
+in_either x (z ∷ xs) ys (inr is) = elim (in_either x xs ys is) [ inl here ↦ inl (inr here) | inr there ↦ inr there ]
+
+pub recorded_within : (last : ℕ) (kept : List FiringOf) (recorded : List Recorded) → AreRecordedUpTo last kept → AreNumberedAfter last (map recorded_seen recorded)
+    → AreRecordedUpTo (last + length recorded) (kept ++ firings_of recorded)
+recorded_within last kept recorded up_to h f is = elim (in_either f kept (firings_of recorded) is) [
+  | inl old ↦ omega (arith, up_to f old)
+  | inr new ↦ (between last recorded h f new).within
+]
+
+-- ---- makers
+
+-- the firing stands among those that are recorded
+at_firing : (recorded : List Recorded) (f : FiringOf) → IsIn f (firings_of recorded) → (r : RecordedAs) × IsIn r (map recorded_seen recorded) × (r.firing ≡ f)
+at_firing [] f is = absurd is
+at_firing (r ∷ recorded) f (inl e) = (recorded_seen r, inl refl, e)
+at_firing (r ∷ recorded) f (inr is) = let later = at_firing recorded f is in (later.0, inr later.1, later.2)
+
+pub makers_of_new : (last : ℕ) (recorded : List Recorded) → AreNumberedAfter last (map recorded_seen recorded) → AreMakersUpTo last (map recorded_seen recorded) → MakersAreEarlier (firings_of recorded)
+makers_of_new last recorded numbers makers f is n named =
+    let at = at_firing recorded f is in
+    let up_to : n ≤ last = makers at.0 n at.1 (subst (λ (g : FiringOf). IsIn n (flat_map maker_named g.used)) (sym at.2) named) in
+    omega (arith, up_to, (between last recorded numbers f is).above)
+
+pub makers_joined : (kept new : List FiringOf) → MakersAreEarlier kept → MakersAreEarlier new → MakersAreEarlier (kept ++ new)
+makers_joined kept new old more f is = elim (in_either f kept new is) [ inl here ↦ old f here | inr there ↦ more f there ]
+
+-- ---- as they join the history
+
+abbrev past_of : Reach → List Preference → RecordedAs → RecordedFiring
+past_of reach added r = record { firing = r.firing; goal = r.goal; operator_kind = r.operator_kind; lasting = lasting_of added r.firing.number; before = reach }
+
+map_twice : {A B C : Type 0} (f : A → B) (g : B → C) (xs : List A) → map g (map f xs) ≡ map (λ x. g (f x)) xs
+map_twice f g [] = refl
+map_twice f g (x ∷ xs) = ap (λ l. g (f x) ∷ l) (map_twice f g xs)
+
+pub pasts_are : (reach : Reach) (added : List Preference) (recorded : List Recorded) (fresh : List Fresh) → map recorded_seen recorded ≡ map fresh_seen fresh
+    → map (past_by reach added) recorded ≡ map (λ (x : Fresh). past_of reach added (fresh_seen x)) fresh
+pasts_are reach added recorded fresh same =
+    sym (map_twice recorded_seen (past_of reach added) recorded) ∙ ap (map (past_of reach added)) same ∙ map_twice fresh_seen (past_of reach added) fresh
+
+pub firings_joined : (reach : Reach) (added : List Preference) (recorded : List Recorded) → firings_of recorded ≡ firings_in (map (past_by reach added) recorded)
+firings_joined reach added recorded = sym (map_twice (past_by reach added) (λ (p : RecordedFiring). p.firing) recorded)
+
+firing_of_past : (history : List RecordedFiring) (p : RecordedFiring) → IsIn p history → IsIn p.firing (firings_in history)
+firing_of_past [] p is = absurd is
+firing_of_past (q ∷ history) p (inl e) = inl (ap (λ (x : RecordedFiring). x.firing) e)
+firing_of_past (q ∷ history) p (inr is) = inr (firing_of_past history p is)
+
+pub are_later : (last : ℕ) (history : List RecordedFiring) (reach : Reach) (added : List Preference) (recorded : List Recorded) → AreRecordedUpTo last (firings_in history)
+    → AreNumberedAfter last (map recorded_seen recorded) → AreLater history (map (past_by reach added) recorded)
+are_later last history reach added recorded up_to numbers p q old new =
+    let above = (between last recorded numbers q.firing (subst (IsIn q.firing) (sym (firings_joined reach added recorded)) (firing_of_past (map (past_by reach added) recorded) q new))).above in
+    omega (arith, above, up_to p.firing (firing_of_past history p old))
+
+-- the goal of each is one of the goals
+pub goal_of_past : (reach : Reach) (added : List Preference) (recorded : List Recorded) (p : RecordedFiring) → IsIn p (map (past_by reach added) recorded)
+    → (r : RecordedAs) × IsIn r (map recorded_seen recorded) × (r.goal ≡ p.goal)
+goal_of_past reach added [] p is = absurd is
+goal_of_past reach added (r ∷ recorded) p (inl e) = (recorded_seen r, inl refl, ap (λ (x : RecordedFiring). x.goal) e)
+goal_of_past reach added (r ∷ recorded) p (inr is) = let later = goal_of_past reach added recorded p is in (later.0, inr later.1, later.2)
+
+pub length_each : (xs ys : List (List ℕ)) → length (each_with xs ys) ≡ length xs
+length_each [] ys = refl
+length_each (x ∷ xs) [] = refl
+length_each (x ∷ xs) (y ∷ ys) = ap suc (length_each xs ys)
+
+-- a goal's identifier
+pub at_goal : (goals : List Goal) (s : Sym) → IsIn s (goal_ids goals) → (g : Goal) × IsIn g goals × (g.id ≡ s)
+at_goal [] s is = absurd is
+at_goal (g ∷ goals) s (inl e) = (g, inl refl, e)
+at_goal (g ∷ goals) s (inr is) = let later = at_goal goals s is in (later.0, inr later.1, later.2)
+
+pub firings_append : (history more : List RecordedFiring) → firings_in (history ++ more) ≡ firings_in history ++ firings_in more
+firings_append [] more = refl
+firings_append (p ∷ history) more = ap (λ l. p.firing ∷ l) (firings_append history more)
+
+tags_are : (history pasts : List RecordedFiring) (depth : ℕ) (goals : List Goal) → tags_from history pasts depth goals ≡ tags_found_from (firings_in history) pasts depth goals
+tags_are history pasts depth [] = refl
+tags_are history pasts depth (goal ∷ goals) = ap (λ l. tags_found (firings_in history) pasts goal.id depth ∷ l) (tags_are history pasts (suc depth) goals)
+
+-- the tags that the wave's firings add stand behind those that were there
+pub dependencies_joined : GoalsDependOnMore → (history pasts : List RecordedFiring) (depends : List (List ℕ)) (goals : List Goal) → depends ≡ dependencies_from history 2 goals
+    → MakersAreEarlier (firings_in history) → AreLater history pasts
+    → each_with depends (tags_found_from (firings_in history ++ firings_in pasts) pasts 2 goals) ≡ dependencies_from (history ++ pasts) 2 goals
+dependencies_joined law history pasts depends goals depends_are earlier later =
+    (λ k. each_with (depends_are k) (tags_found_from (sym (firings_append history pasts) k) pasts 2 goals))
+    ∙ ap (each_with (dependencies_from history 2 goals)) (sym (tags_are (history ++ pasts) pasts 2 goals))
+    ∙ sym (law history pasts 2 goals earlier later)

@@ -1,8 +1,0 @@
-use Rattle.std.proofs.Common.{◌≡◌, map, drop}
-use Rattle.wave_parts.specs.Active.{depth_at, least_from}
-use Rattle.wave_parts.proofs.active.least_of_instances.Given as goal
-
-abbrev pub invariant-instances : goal.invariant-instances
-invariant-instances l =
-    least_from l.least (map (depth_at l.goals l.memory.elements) (drop l.instance-index l.instances))
-    ≡ least_from l.initial.least (map (depth_at l.goals l.memory.elements) l.instances)

@@ -1,0 +1,43 @@
+ghost use Rattle.std.specs.Prelude.{◌≡◌, map, IfOk};
+ghost use Rattle.defs_match.specs.Rules.{rule_seen};
+ghost use Rattle.defs_match.specs.Conflict.{conflict};
+ghost use Rattle.defs_soar.specs.Pending.{is_none};
+ghost use Rattle.pending_work.specs.Firables.{AreBound, IsPending};
+ghost use Rattle.pending_work.specs.Working.{is_nothing};
+ghost use Rattle.soar_settle.specs.Known.{AreInstancesKnown};
+ghost use Rattle.wave_parts.specs.Seen.{IsSound, pending_of};
+
+use crate::parts::Parts;
+use defs_match::Instance;
+use pending_work::{Work, pending};
+use soar_sym::{List, NoMemory};
+use std::alloc::Global;
+
+impl Parts {
+    /// The work of the active level, which is the least that has any, where these are the instances of the conflict
+    /// set (Soar manual, chapter 2, elaboration cycle). `proposing` leaves out the instances of operator kind.
+    pub fn pending(
+        &self,
+        alloc: Global,
+        proposing: bool,
+        instances: List<Instance>,
+    ) -> Result<Work, NoMemory>
+        requires sound { IsSound self.now }
+        requires conflict { instances ≡ conflict (map rule_seen self.now.rules) self.now.memory.elements }
+        ensures work { IfOk result (λ work. IsPending (map rule_seen self.now.rules) self.now.memory.elements work (pending_of proposing self.now)) }
+        ensures none { IfOk result (λ work. is_nothing work ≡ is_none (pending_of proposing self.now)) }
+        // What carrying it out asks.
+        ensures bound { IfOk result (λ work. AreBound (map rule_seen self.now.rules) work.fired) }
+        ensures known { IfOk result (λ work. AreInstancesKnown self.now.table work.fired) }
+    {
+        pending(
+            alloc,
+            proposing,
+            &self.rules,
+            &self.memory,
+            self.goals.list(),
+            &self.live,
+            instances,
+        )
+    }
+}
