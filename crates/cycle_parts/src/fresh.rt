@@ -1,5 +1,6 @@
 // New identifiers.
-ghost use Rattle.std.specs.Prelude.{◌≡◌, ◌≤◌, IfOk, OnOk};
+ghost use Rattle.std.specs.Prelude.{◌≡◌, ◌+◌, ◌≤◌, IfOk, OnOk};
+ghost use Rattle.soar_sym.specs.Letters.{last_of};
 ghost use Rattle.soar_sym.specs.Words.{IsKnown};
 ghost use Rattle.defs_soar.specs.Agents.{Agent as AgentOf};
 ghost use Rattle.cycle_parts.specs.Bonds.{Bond};
@@ -21,6 +22,7 @@ impl<M: Matcher> Engine<M> {
         requires sound { IsSound self.old.parts }
         requires bond { Bond (M.rules self.old.matcher) (M.elements self.old.matcher) (M.failed self.old.matcher) self.old.parts }
         ensures step { (s : AgentOf) → Stands self.old.parts s → GivesFresh letter s self.new.parts result }
+        ensures symbol { IfOk result (λ symbol. symbol ≡ Sym.Ident letter (last_of self.old.parts.letters letter + 1)) }
         ensures known { IfOk result (λ symbol. IsKnown self.new.parts.table symbol) }
         ensures table { self.new.parts.table ≡ self.old.parts.table }
         ensures sound { OnOk result (IsSound self.new.parts) }

@@ -55,8 +55,7 @@ impl<M: Matcher> Session<M> {
                 self.labels.push(Label { name, symbol })?;
                 Ok(symbol)
             }
-            // an agent gives identifiers alone
-            Ok(_) => Err(Stop::NoMemory),
+            Ok(_) => unreachable!(),
             Err(stop) => Err(stop),
         }
     }

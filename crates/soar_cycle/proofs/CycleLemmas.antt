@@ -2,7 +2,7 @@
 use Rattle.std.proofs.Common.{◌≡◌, ℕ, suc, ◌∙◌, Bool, true, false, List, [], ◌∷◌, ◌++◌, append-nil, append_assoc, Result, Ok, Err, refl, sym, ap, subst}
 use Rattle.defs_soar.specs.Agents.{Agent}
 use Rattle.defs_soar.specs.Cycle.{after_input, after_output, begun, cut_line, cycle, held_with, then_application, then_course, then_decision, then_output, then_phase, told_alone, unless_halted, with_changes}
-use Rattle.defs_soar.specs.Decision.{decided_alone}
+use Rattle.defs_soar.specs.Decision.{decided_by}
 use Rattle.defs_soar.specs.Events.{Part, application_phase, begins, input_phase, is_cut, proposal_phase}
 use Rattle.defs_soar.specs.Learning.{without_learning}
 use Rattle.defs_soar.specs.Phases.{Course, Phased, Said, phase, said_by, still, then_step}
@@ -170,7 +170,7 @@ left_out done f old old_mid between halts mid c before went =
 abbrev pub whole : Course → Course
 whole c = then_output (with_application (with_decision (with_proposals (with_input c))))
 
-pub cycle_is : (s : Agent) → cycle decided_alone without_learning s ≡ whole (still s)
+pub cycle_is : (s : Agent) → cycle decided_by without_learning s ≡ whole (still s)
 unfolding cycle
 cycle_is s = refl
 
@@ -215,7 +215,7 @@ pub after_decision : Extends (λ c. then_output (with_application c))
 after_decision = extends_then with_application then_output (unless_extends (then_application without_learning) (phase_extends application_phase false)) after_output_extends
 
 pub after_proposals : Extends (λ c. then_output (with_application (with_decision c)))
-after_proposals = extends_then with_decision (λ c. then_output (with_application c)) (unless_extends (then_decision decided_alone) (step_extends decided_alone)) after_decision
+after_proposals = extends_then with_decision (λ c. then_output (with_application c)) (unless_extends (then_decision decided_by) (step_extends decided_by)) after_decision
 
 pub after_inputs : Extends (λ c. then_output (with_application (with_decision (with_proposals c))))
 after_inputs = extends_then with_proposals (λ c. then_output (with_application (with_decision c))) (phase_extends proposal_phase true) after_proposals
@@ -231,5 +231,5 @@ stopped_with {T} mid c g f extends old new old_mid new_mid before between after 
     (stopped_on (Unit {0}) T f g extends mid c old new old_mid new_mid before between after why went goes)
 
 pub of_cycle : {T : Type 0} (s : Agent) (new : PartsKept) (mid new_mid : Bool) (before after : List ℕ) (result : Result T Stop) → Goes mid (whole (still s)) new new_mid before after result
-    → Goes mid (cycle decided_alone without_learning s) new new_mid before after result
+    → Goes mid (cycle decided_by without_learning s) new new_mid before after result
 of_cycle {T} s new mid new_mid before after result goes = subst (λ (c : Course). Goes mid c new new_mid before after result) (sym (cycle_is s)) goes

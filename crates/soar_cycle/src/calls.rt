@@ -1,11 +1,12 @@
 // The calls by which a session works. Each changes the part of the state that it names.
-ghost use Rattle.std.specs.Prelude.{◌≡◌, ◌≤◌, false, map, true, Ok, Err, IfErr, IfOk, MatchResult};
+ghost use Rattle.std.specs.Prelude.{◌≡◌, ◌+◌, ◌≤◌, false, map, true, Ok, Err, IfErr, IfOk, MatchResult};
 ghost use Rattle.defs_soar.specs.Agents.{Agent as AgentOf};
 ghost use Rattle.soar_cycle.specs.Agents.{IsSoundAgent, IsStopped, standing_after};
 ghost use Rattle.wave_parts.specs.Stands.{Stands};
 ghost use Rattle.soar_rule.specs.AsItStands.{can_be_matched};
 ghost use Rattle.soar_rule.specs.Productions.{production_seen};
 ghost use Rattle.soar_rule.specs.Symbols.{AreKnown, symbols_of};
+ghost use Rattle.soar_sym.specs.Letters.{last_of};
 ghost use Rattle.soar_sym.specs.Words.{IsKnown};
 ghost use Rattle.defs_match.specs.Conflict.{conflict};
 ghost use Rattle.defs_match.specs.Rules.{rule_seen};
@@ -100,6 +101,7 @@ impl<M: Matcher> Agent<M> {
         requires low { 65 ≤ letter }
         requires high { letter ≤ 90 }
         ensures step { self.old.standing ≡ Standing.Stands → (s : AgentOf) → Stands self.old.parts s → GivesFresh letter s self.new.parts result }
+        ensures symbol { self.old.standing ≡ Standing.Stands → IfOk result (λ symbol. symbol ≡ Sym.Ident letter (last_of self.old.parts.letters letter + 1)) }
         ensures known { self.old.standing ≡ Standing.Stands → IfOk result (λ symbol. IsKnown self.new.parts.table symbol) }
         ensures table { self.old.standing ≡ Standing.Stands → IfOk result (λ _. self.new.parts.table ≡ self.old.parts.table) }
         ensures standing { self.new.standing ≡ standing_after self.old.standing result }

@@ -2,7 +2,7 @@ use Rattle.std.proofs.Common.{subst, sym}
 use Rattle.wave_parts.specs.Stands.{Stands}
 use Rattle.soar_cycle.specs.Agents.{AgentSeen}
 use Rattle.defs_soar.specs.Cycle.{cycle}
-use Rattle.defs_soar.specs.Decision.{decided_alone}
+use Rattle.defs_soar.specs.Decision.{decided_by}
 use Rattle.defs_soar.specs.Learning.{without_learning}
 use Rattle.soar_cycle.specs.Courses.{Goes}
 use Rattle.soar_cycle.proofs.ToldLemmas.{goes_told}
@@ -10,7 +10,7 @@ use Rattle.soar_cycle.proofs.agent.Agent.cycle.Goals as goal
 
 pub returns-clause-step : goal.returns-clause-step
 returns-clause-step g c = λ standing s stands.
-    subst (λ (a : AgentSeen). Goes a.mid_line (cycle decided_alone without_learning s) c.run_cycle-answer.new.engine.parts c.run_cycle-answer.new.mid_line c.args.text.now c.tell-answer.new.text c.tell-answer.result) c.self.view_is
-    (goes_told c.self.inside.mid_line (cycle decided_alone without_learning s) c.run_cycle-answer.new.engine.parts c.run_cycle-answer.new.mid_line c.new-said.result c.run_cycle-answer.new.out c.args.text.now
+    subst (λ (a : AgentSeen). Goes a.mid_line (cycle decided_by without_learning s) c.run_cycle-answer.new.engine.parts c.run_cycle-answer.new.mid_line c.args.text.now c.tell-answer.new.text c.tell-answer.result) c.self.view_is
+    (goes_told c.self.inside.mid_line (cycle decided_by without_learning s) c.run_cycle-answer.new.engine.parts c.run_cycle-answer.new.mid_line c.new-said.result c.run_cycle-answer.new.out c.args.text.now
     c.tell-answer.new.text c.run_cycle-answer.result c.tell-answer.result c.new-said.ensures c.tell-answer.ensures
     (c.run_cycle-answer.ensures.cycle s (subst (λ (a : AgentSeen). Stands a.parts s) (sym c.self.view_is) stands)))
