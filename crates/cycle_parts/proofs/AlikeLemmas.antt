@@ -89,7 +89,6 @@ decision_alike said a t removed = record {
 abbrev held_there : Agent → Walked → Remains
 held_there a w = let s = walked_state a w in held_with s s.holding.inputs
 
-
 -- settling does not ask what was held before
 settles_there : (a : Agent) (w : Walked) (takes : Bool) → resettled_now (record (walked_state a w) { queues = without_words takes a.queues }) ≡ resettled (record a { queues = without_words takes a.queues }) (held_there a w)
 unfolding resettled

@@ -1,6 +1,9 @@
 -- The step that follows the walk of a decision: what it settles, and its line.
-use Rattle.std.proofs.Common.{◌≡◌, ◌∙◌, ℕ, Bool, true, false, List, [], ◌∷◌, ◌++◌, Result, Ok, Err, refl, sym, ap, subst}
+use Rattle.std.proofs.Common.{◌≡◌, ◌∙◌, ℕ, nat_lt, Bool, true, false, cond, List, [], ◌∷◌, ◌++◌, length, Result, Ok, Err, IfOk, refl, sym, ap, subst}
 use Rattle.soar_sym.specs.Words.{Texts}
+use Rattle.defs_soar.specs.declared.goal.Goal.{Goal}
+use Rattle.defs_soar.specs.declared.goal.Impasse.{Impasse}
+use Rattle.defs_soar.specs.declared.goal.Item.{Item}
 use Rattle.defs_soar.specs.Agents.{Agent}
 use Rattle.defs_soar.specs.Decision.{decided_by, with_decision, without_words}
 use Rattle.defs_soar.specs.Events.{Event}
@@ -15,7 +18,7 @@ use Rattle.wave_parts.specs.Resettles.{resettled_now}
 use Rattle.wave_parts.specs.Seen.{Stepped}
 use Rattle.wave_parts.specs.Stands.{Stands}
 use Rattle.wave_parts.specs.declared.parts.Parts.{Parts as PartsKept}
-use Rattle.cycle_parts.specs.Deciding.{decision_step, walk_of, walked_state}
+use Rattle.cycle_parts.specs.Deciding.{decision_step, impasse_step, limit_step, substate_step, walk_of, walked_state}
 use Rattle.cycle_parts.specs.Stepping.{GoesStep, QuietStep, WentStep, step_written}
 use Rattle.cycle_parts.proofs.AlikeLemmas.{decided_alike, goes_alike, said_is}
 use Rattle.cycle_parts.proofs.QuietLemmas.{settling_mute}
@@ -29,6 +32,22 @@ pub decides : {T : Type 0} (mid new_mid : Bool) (a walked new : PartsKept) (deci
 decides mid new_mid a walked new decided before after r found walks steps s stands =
     goes_alike mid new_mid (decided_by s) (decision_step (walked_state s (walk_of s)) decided) new before after r (decided_alike s decided (sym (found s stands)))
     (steps (walked_state s (walk_of s)) (walks s stands))
+
+-- the halt of the step
+pub decides_halt : (a walked : PartsKept) (decided : Decided) (halted : Bool) → ((s : Agent) → Stands a s → decided ≡ (walk_of s).decided) → ((s : Agent) → Stands a s → Stands walked (walked_state s (walk_of s)))
+    → ((s : Agent) → Stands walked s → (decision_step s decided).halted ≡ halted) → (s : Agent) → Stands a s → halted ≡ (decided_by s).halted
+decides_halt a walked decided halted found walks steps s stands =
+    sym (steps (walked_state s (walk_of s)) (walks s stands)) ∙ sym (decided_alike s decided (sym (found s stands))).halted
+
+-- what is met at the last goal comes to a substate where there is room, and else to a halt
+pub impasse_is : (walked : PartsKept) (why : Impasse) (items : List Item) (room : Bool) → nat_lt (length walked.goals) 100 ≡ room → (s : Agent) → Stands walked s
+    → impasse_step s why items ≡ cond room (substate_step s why items) (limit_step s)
+impasse_is walked why items room is s stands =
+    ap (λ (b : Bool). cond b (substate_step s why items) (limit_step s)) (ap (λ (goals : List Goal). nat_lt (length goals) 100) (sym stands.goals) ∙ is)
+
+pub answer_of : (P Q : Bool → Type 0) (result : Result Bool Stop) → ((b : Bool) → P b → Q b) → IfOk result P → IfOk result Q
+answer_of P Q (Ok b) so h = so b h
+answer_of P Q (Err why) so h = tt
 
 -- ---- its line
 
@@ -53,7 +72,7 @@ went_said s new said mid new_mid before after stepped text mid_line =
       mid_line = mid_line ∙ ap (λ (w : Written). w.mid_line) (sym written);
     }
 
-pub stops_said : (T : Type 0) (s : Agent) (new : PartsKept) (said : List Event) (mid : Bool) (text : List ℕ) (why : Stop) → QuietStep {T = T} (resettled_now s) new (Err why)
-    → GoesStep {T = T} mid (with_decision said (resettled_now s)) new mid text text (Err why)
-stops_said T s new said mid text (stop.Limit limit) h = record { passed = h; text = refl; mid_line = refl }
-stops_said T s new said mid text stop.NoMemory h = tt
+pub stops_said : (s : Agent) (new : PartsKept) (said : List Event) (mid : Bool) (text : List ℕ) (why : Stop) → QuietStep {T = Unit {0}} (resettled_now s) new (Err why)
+    → GoesStep {T = Bool} mid (with_decision said (resettled_now s)) new mid text text (Err why)
+stops_said s new said mid text (stop.Limit limit) h = record { passed = h; text = refl; mid_line = refl }
+stops_said s new said mid text stop.NoMemory h = tt

@@ -1,6 +1,7 @@
 pub mod AlikeLemmas
 pub mod DecidingLemmas
 pub mod EventLemmas
+pub mod FreshLemmas
 pub mod InputLemmas
 pub mod InputNowLemmas
 pub mod ListLemmas
@@ -11,8 +12,11 @@ pub mod OperatorLemmas
 pub mod OutputLemmas
 pub mod PushedLemmas
 pub mod QuietLemmas
+pub mod SaidLemmas
+pub mod SelectedLemmas
 pub mod SoundLemmas
 pub mod SteppingLemmas
+pub mod SubstateLemmas
 pub mod TakingLemmas
 pub mod TextLemmas
 pub mod WalkedLemmas

@@ -1,16 +1,27 @@
 -- A rule under the next number, behind those that do not have its name.
-use Rattle.std.proofs.Common.{◌≡◌, ℕ, ◌+◌, false, not, List, [], ◌∷◌, ◌++◌, map, filter, sym, ap, subst, ◌∙◌, arith}
+use Rattle.std.proofs.Common.{◌≡◌, ℕ, suc, ◌+◌, false, not, List, [], ◌∷◌, ◌++◌, map, filter, Ok, refl, sym, ap, subst, ◌∙◌, arith}
 use Rattle.std.specs.List.{list_any}
 use Rattle.std.proofs.lemmas.List.{map-append}
 use Rattle.soar_sym.specs.declared.symbol.Sym.{Sym}
+use Rattle.soar_rule.specs.Productions.{ProductionOf}
 use Rattle.defs_match.specs.Contents.{is_numbered, with_rule}
 use Rattle.defs_match.specs.Rules.{RuleOf, rule_seen}
 use Rattle.defs_match.specs.declared.rule.Rule.{Rule}
+use Rattle.defs_soar.specs.declared.limit.Which.TheVariants as which
+use Rattle.defs_soar.specs.Agents.{Agent}
+use Rattle.defs_soar.specs.History.{RecordedFiring}
+use Rattle.defs_soar.specs.Limits.{counts_to}
 use Rattle.defs_run.specs.Carrying.{is_named}
-use Rattle.wave_parts.specs.Seen.{AreUpTo, IsSound}
+use Rattle.wave_parts.specs.Counting.{Counts}
+use Rattle.wave_parts.specs.Seen.{AreUpTo, IsSound, Stepped, agent_of}
+use Rattle.wave_parts.specs.Stands.{Stands}
 use Rattle.wave_parts.specs.declared.parts.Parts.{Parts as PartsKept}
+use Rattle.wave_parts.proofs.LimitLemmas.{passed_later, passes_not}
+use Rattle.wave_parts.proofs.StandsLemmas.{of_each_state, remembers_same, stands_for}
+use Rattle.cycle_parts.specs.Calls.{load_step}
 use Rattle.cycle_parts.proofs.NumberLemmas.{none_numbered, with_last_rule}
 use Rattle.cycle_parts.proofs.LoadedLemmas.{up_to_filter}
+use Rattle.cycle_parts.proofs.SteppingLemmas.{stepped_at}
 
 -- those that do not have the name
 abbrev pub unnamed : Sym → List RuleOf → List RuleOf
@@ -32,3 +43,28 @@ joins_last a rules more rule name sound are next pushed =
 
 pub more_rules : (rules more : List Rule) (rule : Rule) (kept : List RuleOf) → map rule_seen rules ≡ kept → more ≡ rules ++ rule ∷ [] → map rule_seen more ≡ kept ++ rule_seen rule ∷ []
 more_rules rules more rule kept are pushed = ap (map rule_seen) pushed ∙ map-append rule_seen rules (rule ∷ []) ∙ ap (λ (first : List RuleOf). first ++ rule_seen rule ∷ []) are
+
+-- ---- the state afterwards
+
+abbrev with_rules : List Rule → ℕ → PartsKept → PartsKept
+with_rules rules number a = record a { rules = rules; last_rule = number }
+
+loaded_is : (a : PartsKept) (rules : List Rule) (number : ℕ) (production : ProductionOf) (history : List RecordedFiring) → number ≡ suc a.last_rule
+    → map rule_seen rules ≡ unnamed production.name (map rule_seen a.rules) ++ record { number = number; production = production } ∷ []
+    → agent_of (with_rules rules number a) history ≡ (load_step production (agent_of a history)).agent
+loaded_is a rules number production history next are =
+    let kept = unnamed production.name (map rule_seen a.rules) in
+    let there : map rule_seen rules ≡ kept ++ record { number = suc a.last_rule; production = production } ∷ [] = are ∙ ap (λ n. kept ++ record { number = n; production = production } ∷ []) next in
+    λ k. record (agent_of a history) { program = record (agent_of a history).program { rules = there k; last_rule = next k } }
+
+pub loads : (a : PartsKept) (rules : List Rule) (number : ℕ) (production : ProductionOf) → Counts (a.last_rule + 1) (Ok number)
+    → map rule_seen rules ≡ unnamed production.name (map rule_seen a.rules) ++ record { number = number; production = production } ∷ []
+    → (s : Agent) → Stands a s → Stepped (with_rules rules number a) (load_step production s)
+loads a rules number production counted are =
+    let next : number ≡ suc a.last_rule = omega (arith, counted.0) in
+    of_each_state (λ (s : Agent). Stepped (with_rules rules number a) (load_step production s)) a (λ history remembers.
+    stepped_at (with_rules rules number a) (load_step production (agent_of a history)) refl (record {
+      stands = stands_for (with_rules rules number a) history (load_step production (agent_of a history)).agent
+          (remembers_same a (with_rules rules number a) history refl refl refl refl remembers) (loaded_is a rules number production history next are);
+      within = passed_later (counts_to (suc a.last_rule)) [] (passes_not (suc a.last_rule) which.Counts (omega (arith, counted.1)));
+    }))

@@ -10,16 +10,25 @@ use Rattle.defs_soar.specs.declared.goal.Impasse.{Impasse}
 use Rattle.defs_soar.specs.declared.goal.Item.{Item}
 use Rattle.defs_soar.specs.Decision.{new_goal}
 use Rattle.defs_soar.specs.Dependencies.{is_goal_of}
+use Rattle.defs_soar.specs.Agents.{Agent}
 use Rattle.defs_soar.specs.History.{RecordedFiring}
 use Rattle.defs_soar.specs.Laws.{IsIn}
+use Rattle.defs_soar.specs.Limits.{first_passed, identifiers_to}
 use Rattle.defs_soar.specs.Standing.{dependencies_from}
 use Rattle.agent_laws.specs.Dependence.{NewGoalsDependOnNothing}
 use Rattle.learning_laws.specs.LawfulAgents.{IsNumbered}
 use Rattle.soar_fire.specs.Growth.{LettersKeep}
+use Rattle.soar_goals.specs.Known.{AreItemsKnown}
 use Rattle.wave_parts.specs.Remembers.{PastGoalsAreNumbered, Remembers}
-use Rattle.wave_parts.specs.Seen.{AreGoalsKnown, IsGoalKnown, IsSound}
+use Rattle.wave_parts.specs.Seen.{AreGoalsKnown, IsGoalKnown, IsSound, agent_of}
+use Rattle.wave_parts.specs.Stands.{Stands}
 use Rattle.wave_parts.specs.declared.parts.Parts.{Parts as PartsKept}
 use Rattle.wave_parts.proofs.GrownLemmas.{numbered_later}
+use Rattle.wave_parts.proofs.StandsLemmas.{of_each_state, stands_for}
+use Rattle.cycle_parts.specs.Deciding.{with_substate}
+use Rattle.cycle_parts.specs.Pushing.{HasPushed}
+use Rattle.cycle_parts.proofs.FreshLemmas.{last_given, numbers_keep}
+use Rattle.cycle_parts.proofs.WalkedLemmas.{items_in}
 
 -- ---- it is new
 
@@ -32,8 +41,8 @@ not_its_goal letters (Ident l n) number given less = by (l == 83) refl
     by : (b : Bool) → (l == 83) ≡ b → (b && (n == number)) ≡ false
     by false e = refl
     by true e =
-      let same : l ≡ 83 = grind arith in
-      other_number n number (last_of letters 83) (subst (λ m. n ≤ last_of letters m) same given) less
+        let same : l ≡ 83 = grind arith in
+        other_number n number (last_of letters 83) (subst (λ m. n ≤ last_of letters m) same given) less
 not_its_goal letters (Word n) number given less = refl
 not_its_goal letters (Int z) number given less = refl
 
@@ -81,7 +90,7 @@ pushed_sound a goal letters depends sound room keep known none depends_is =
       goals_few = omega (arith, count, room);
       goals_known = λ g is. elim (in_pushed g goal a.goals is) [
         | inl old ↦ let k = sound.goals_known g old in
-          record { id_known = k.id_known; id_numbered = numbered_later a.letters letters g.id keep k.id_numbered; items_known = k.items_known; selection_known = k.selection_known }
+            record { id_known = k.id_known; id_numbered = numbered_later a.letters letters g.id keep k.id_numbered; items_known = k.items_known; selection_known = k.selection_known }
         | inr e ↦ subst (IsGoalKnown a.table letters) e known
       ];
       depends_fit = omega (arith, ap length depends_is, length-append a.depends ([] ∷ []), count, sound.depends_fit);
@@ -108,3 +117,51 @@ pushed_sound a goal letters depends sound room keep known none depends_is =
       queue_known = sound.queue_known;
       output_known = sound.output_known;
     }
+
+-- ---- the answer
+
+-- the new goal's parts
+abbrev pub pushed_parts : PartsKept → List Goal → List ℕ → List (List ℕ) → PartsKept
+pushed_parts a goals letters depends = record a { goals = goals; letters = letters; depends = depends }
+
+-- what a push changes
+pub record IsPush (a : PartsKept) (why : Impasse) (items : List Item) (id : Sym) (goals : List Goal) (letters : List ℕ) (depends : List (List ℕ)) : Type 0 where
+  pub id_is : id ≡ Ident 83 (last_of a.letters 83 + 1)
+  pub goals_are : goals ≡ a.goals ++ new_goal id why items ∷ []
+  pub letters_are : letters ≡ with_last a.letters 83 (last_of a.letters 83 + 1)
+  pub depends_are : depends ≡ a.depends ++ [] ∷ []
+
+known_goal : (a : PartsKept) (why : Impasse) (items : List Item) (id : Sym) (letters : List ℕ) → IsSound a → id ≡ Ident 83 (last_of a.letters 83 + 1)
+    → letters ≡ with_last a.letters 83 (last_of a.letters 83 + 1) → AreItemsKnown a.table items → IsGoalKnown a.table letters (new_goal id why items)
+known_goal a why items id letters sound id_is letters_are known =
+    let last : last_of letters 83 ≡ last_of a.letters 83 + 1 = last_given a.letters letters 83 (last_of a.letters 83 + 1) sound.top_numbered letters_are in
+    let numbered : IsNumbered letters (Ident 83 (last_of a.letters 83 + 1)) = omega (arith, last) in
+    record {
+      id_known = subst (IsKnown a.table) (sym id_is) (omega arith, omega arith);
+      id_numbered = subst (IsNumbered letters) (sym id_is) numbered;
+      items_known = items_in a.table items known;
+      selection_known = tt;
+    }
+
+pub push_is_sound : (a : PartsKept) (why : Impasse) (items : List Item) (id : Sym) (goals : List Goal) (letters : List ℕ) (depends : List (List ℕ)) → IsSound a → length a.goals < 100 → AreItemsKnown a.table items
+    → IsPush a why items id goals letters depends → IsSound (pushed_parts a goals letters depends)
+push_is_sound a why items id goals letters depends sound room known p =
+    subst (λ gs. IsSound (pushed_parts a gs letters depends)) (sym p.goals_are)
+    (pushed_sound a (new_goal id why items) letters depends sound room (numbers_keep a.letters letters 83 p.letters_are) (known_goal a why items id letters sound p.id_is p.letters_are known) refl p.depends_are)
+
+pushed_at : (a : PartsKept) (history : List RecordedFiring) (why : Impasse) (items : List Item) (id : Sym) (letters : List ℕ) (depends : List (List ℕ)) → id ≡ Ident 83 (last_of a.letters 83 + 1)
+    → letters ≡ with_last a.letters 83 (last_of a.letters 83 + 1) → agent_of (with_pushed a (new_goal id why items) letters depends) history ≡ with_substate (agent_of a history) why items
+pushed_at a history why items id letters depends id_is letters_are = λ k. agent_of (with_pushed a (new_goal (id_is k) why items) (letters_are k) depends) history
+
+pub has_pushed : NewGoalsDependOnNothing → (a : PartsKept) (why : Impasse) (items : List Item) (id : Sym) (goals : List Goal) (letters : List ℕ) (depends : List (List ℕ)) → IsSound a
+    → first_passed (identifiers_to (last_of a.letters 83 + 1) ∷ []) ≡ None → IsPush a why items id goals letters depends → (s : Agent) → Stands a s → HasPushed s why items (pushed_parts a goals letters depends) id
+has_pushed law a why items id goals letters depends sound within p =
+    let goal = new_goal id why items in
+    subst (λ gs. (s : Agent) → Stands a s → HasPushed s why items (pushed_parts a gs letters depends) id) (sym p.goals_are)
+    (of_each_state (λ (s : Agent). HasPushed s why items (with_pushed a goal letters depends) id) a (λ history remembers. record {
+      goal_is = p.id_is;
+      stands = stands_for (with_pushed a goal letters depends) history (with_substate (agent_of a history) why items)
+          (pushed_remembers law a history goal letters depends sound (numbers_keep a.letters letters 83 p.letters_are) p.id_is p.depends_are remembers)
+          (pushed_at a history why items id letters depends p.id_is p.letters_are);
+      within = within;
+    }))

@@ -1,5 +1,5 @@
 -- What is sound stays so where a step changes what waits, what is shown, or the random words.
-use Rattle.std.proofs.Common.{ℕ, List, [], map}
+use Rattle.std.proofs.Common.{ℕ, true, List, [], map}
 use Rattle.soar_sym.specs.declared.symbol.Triple.{Triple}
 use Rattle.input_queue.specs.Seen.{triple_queued}
 use Rattle.input_queue.specs.declared.queued.Queued.{Queued}
@@ -61,3 +61,32 @@ sound_with_words a random sound =
 pub sound_with_output : (a : PartsKept) (output : List Triple) → IsSound a → AreTriplesKnown a.table output → IsSound (record a { output = output })
 sound_with_output a output sound known =
     still_sound a a.inputs a.queue a.random a.cycles output sound (record { inputs_known = sound.inputs_known; queue_known = sound.queue_known; output_known = known })
+
+-- ---- the limit of goals
+
+pub sound_halted : (a : PartsKept) → IsSound a → IsSound (record a { halted = true })
+sound_halted a sound = record {
+  goals_some = sound.goals_some;
+  goals_few = sound.goals_few;
+  goals_known = sound.goals_known;
+  depends_fit = sound.depends_fit;
+  element_limit = sound.element_limit;
+  row_limit = sound.row_limit;
+  few_rows = sound.few_rows;
+  rows_in_range = sound.rows_in_range;
+  rows_of_firings = sound.rows_of_firings;
+  makers_of_firings = sound.makers_of_firings;
+  recorded_up_to = sound.recorded_up_to;
+  makers_earlier = sound.makers_earlier;
+  first_words = sound.first_words;
+  top_numbered = sound.top_numbered;
+  numbered = sound.numbered;
+  numbers_given = sound.numbers_given;
+  none_learned = sound.none_learned;
+  rules_known = sound.rules_known;
+  elements_known = sound.elements_known;
+  rows_known = sound.rows_known;
+  inputs_known = sound.inputs_known;
+  queue_known = sound.queue_known;
+  output_known = sound.output_known;
+}

@@ -44,7 +44,7 @@ use Rattle.cycle_parts.specs.Deciding.{walk_of, walked_state}
 
 -- ---- goals in a list, and each of them
 
-items_in : (words : Texts) (items : List Item) → AreItemsKnown words items → (item : Item) → IsIn item items → IsKnown words item.value
+pub items_in : (words : Texts) (items : List Item) → AreItemsKnown words items → (item : Item) → IsIn item items → IsKnown words item.value
 items_in words [] h item is = absurd is
 items_in words (first ∷ items) h item (inl e) = subst (λ (i : Item). IsKnown words i.value) e h.0
 items_in words (first ∷ items) h item (inr is) = items_in words items h.1 item is

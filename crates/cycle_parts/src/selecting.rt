@@ -68,11 +68,11 @@ impl<M: Matcher> Engine<M> {
         ensures sound { OnOk result (IsSound self.new.parts) }
         ensures bond { OnOk result (Bond (M.rules self.new.matcher) (M.elements self.new.matcher) (M.failed self.new.matcher) self.new.parts) }
     {
-        let below = self.parts.goals.list().len();
+        let (cycle, below) = (self.parts.cycles, self.parts.goals.list().len());
         let goal = push_goal(alloc, &mut self.parts, why, items)?;
         self.resettle(alloc)?;
         let made = NewGoal {
-            cycle: self.parts.cycles,
+            cycle,
             below,
             goal,
             impasse: why,

@@ -159,8 +159,8 @@ remembers_wave law old mid new history w count made added depends firings sound 
       goals_numbered = λ p s is of_goal. elim (in_either p history pasts is) [
         | inl past ↦ now.goals_numbered p s past of_goal
         | inr here ↦ let at = goal_of_past reach added made.recorded p here in
-          let g = at_goal old.goals s (goals at.0 s at.1 (at.2 ∙ of_goal)) in
-          subst (IsNumbered new.letters) g.2 (numbered_later old.letters new.letters g.0.id grown (sound.goals_known g.0 g.1).id_numbered)
+            let g = at_goal old.goals s (goals at.0 s at.1 (at.2 ∙ of_goal)) in
+            subst (IsNumbered new.letters) g.2 (numbered_later old.letters new.letters g.0.id grown (sound.goals_known g.0 g.1).id_numbered)
       ];
     })
 

@@ -126,11 +126,12 @@ fewer_known : (words : Texts) (items : List Item) → ItemsKnown words items →
 fewer_known words items h x is = h x (filter_within (λ item. not item.numeric) items x is)
 
 tie_known : (words : Texts) (id : Sym) (items : List Item) → 24 ≤ length words → IsKnown words id → ItemsKnown words items → AreTriplesKnown words (tie_elements id items)
-tie_known words id items h i known =
-    ((i, word_known words 15 h (omega arith), tt),
-    triples_append words (map (λ item. plain_triple id non_numeric_word item.value) (without_number items)) _
-    (items_known words id non_numeric_word (without_number items) i (word_known words 16 h (omega arith)) (fewer_known words items known))
-    ((i, word_known words 17 h (omega arith), tt), tt))
+tie_known words id items h i known = (
+  (i, word_known words 15 h (omega arith), tt),
+  triples_append words (map (λ item. plain_triple id non_numeric_word item.value) (without_number items)) _
+      (items_known words id non_numeric_word (without_number items) i (word_known words 16 h (omega arith)) (fewer_known words items known))
+      ((i, word_known words 17 h (omega arith), tt), tt),
+)
 
 more_known : (words : Texts) (id : Sym) (why : Impasse) (items : List Item) → 24 ≤ length words → IsKnown words id → ItemsKnown words items
     → AreTriplesKnown words (more_elements id why items)

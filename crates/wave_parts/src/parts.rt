@@ -1,5 +1,5 @@
-use goal_trimming::Live;
 use defs_match::Rule;
+use goal_trimming::Live;
 use input_queue::Queued;
 use soar_goals::Goals;
 use soar_prefs::Prefs;

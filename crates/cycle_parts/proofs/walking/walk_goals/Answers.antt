@@ -34,7 +34,7 @@ pub returns-clause-known : goal.returns-clause-known
 returns-clause-known c =
     let a = c.args.parts.now in
     let walk = c.walks_keep_goals.ensures.known (view_of (agent_of a [])) a.goals (c.rows_fit_decisions.ensures.known a.table a.prefs.rows c.requires.rows_known)
-        (list_of a.table a.letters a.goals c.requires.goals_known) (selections_of a.table a.letters a.goals c.requires.goals_known) in
+    (list_of a.table a.letters a.goals c.requires.goals_known) (selections_of a.table a.letters a.goals c.requires.goals_known) in
     let decided_is = subst (λ random. decided_seen c.in_ok-decided.decided ≡ (walked (view_with a random) None a.goals).decided) c.as_slice.ensures c.in_ok-decided.ensures.decided in
     subst (IsDecidedKnown a.table) (sym decided_is) walk.decided
 
@@ -43,7 +43,7 @@ returns-clause-sound c =
     let a = c.args.parts.now in
     let v = view_of (agent_of a []) in
     let walk = c.walks_keep_goals.ensures.known v a.goals (c.rows_fit_decisions.ensures.known a.table a.prefs.rows c.requires.rows_known)
-        (list_of a.table a.letters a.goals c.requires.goals_known) (selections_of a.table a.letters a.goals c.requires.goals_known) in
+    (list_of a.table a.letters a.goals c.requires.goals_known) (selections_of a.table a.letters a.goals c.requires.goals_known) in
     let makers = c.walks_keep_goals.ensures.makers v a.goals a.firings (rows_up_to a.firings a.prefs.rows c.requires.rows_of_firings) (makers_up_to a.firings a.goals c.requires.makers_of_firings) in
     let goals_are = subst (λ random. c.walk.new.goals ≡ (walked (view_with a random) None a.goals).goals) c.as_slice.ensures c.in_ok-decided.ensures.goals in
     walked_sound a c.walk.new.goals c.cut_depends.new.depends c.leave_goals.new.prefs c.leave_goals.new.live c.rows_fit_decisions.ensures.retracted c.requires c.in_ok-decided.ensures.first

@@ -4,7 +4,7 @@ use Rattle.soar_rule.specs.Productions.{production_seen}
 use Rattle.defs_match.specs.Contents.{is_numbered, with_rule}
 use Rattle.defs_match.specs.Rules.{rule_seen}
 use Rattle.defs_match.specs.declared.rule.Rule.{Rule}
-use Rattle.cycle_parts.proofs.LoadLemmas.{joins_last, more_rules, number_is_new}
+use Rattle.cycle_parts.proofs.LoadLemmas.{joins_last, loads, more_rules, number_is_new}
 use Rattle.cycle_parts.proofs.LoadedLemmas.{sound_loaded}
 use Rattle.cycle_parts.proofs.engine.Engine.load.Goals as goal
 
@@ -18,6 +18,13 @@ add_rule-requires g c =
         matchable = c.requires.matchable;
       };
     }
+
+pub returns-clause-step : goal.returns-clause-step
+returns-clause-step g c =
+    let production = c.args.production in
+    let number = c.in_ok-number.number in
+    loads c.args.self.now.parts c.push.new.self number (production_seen production) c.in_ok-number.ensures.count
+    (more_rules c.drop_named.new.rules c.push.new.self (record { number = number; production = production }) _ c.drop_named.ensures.dropped c.in_ok-push.ensures.ok)
 
 pub returns-clause-sound : goal.returns-clause-sound
 returns-clause-sound g c =

@@ -94,11 +94,11 @@ resettle-requires c =
     let firings = firings_old old c.fire.new.self c.in_ok-self.field-0 c.len-2.result (length work.fired) c.fire.ensures.from c.len-2.ensures c.in_ok-self.ensures.count.0 in
     record {
       sound = subst IsSound (sym (mid_is old c.fire.new.self c.renew.new.prefs c.renew_live.new.live c.in_ok-waves.waves c.in_ok-self.field-0 c.in_ok-retractions.retractions c.fire.ensures.from))
-    (fired_sound old c.fire.new.self.table c.fire.new.self.letters c.renew.new.prefs c.renew_live.new.live c.in_ok-waves.waves c.in_ok-self.field-0 c.in_ok-retractions.retractions work.retracted made c.rows_fit_decisions.ensures.wave c.requires.sound
-        (no_shorter _ _ (record { grown = c.fire.ensures.from.words })) c.fire.ensures.from.letters (omega (arith, firings))
-        (renews_old old c.fire.new.self c.renew.new.prefs work.retracted made.rows (Ok c.in_ok-added.added) c.fire.ensures.from (rw (c.as_slice-gone.ensures, c.as_slice.ensures) at c.in_ok-added.ensures.renewed)) c.in_ok-wave.ensures.known
-        (subst (λ n. IsFit n made) (sym firings)
-        (made_fit old work.fired c.fire.new.self.table c.fire.new.self.letters made c.rows_fit_decisions.ensures.wishes c.rows_fit_decisions.ensures.joined c.in_ok-wave.ensures.answer)));
+          (fired_sound old c.fire.new.self.table c.fire.new.self.letters c.renew.new.prefs c.renew_live.new.live c.in_ok-waves.waves c.in_ok-self.field-0 c.in_ok-retractions.retractions work.retracted made c.rows_fit_decisions.ensures.wave c.requires.sound
+          (no_shorter _ _ (record { grown = c.fire.ensures.from.words })) c.fire.ensures.from.letters (omega (arith, firings))
+          (renews_old old c.fire.new.self c.renew.new.prefs work.retracted made.rows (Ok c.in_ok-added.added) c.fire.ensures.from (rw (c.as_slice-gone.ensures, c.as_slice.ensures) at c.in_ok-added.ensures.renewed)) c.in_ok-wave.ensures.known
+          (subst (λ n. IsFit n made) (sym firings)
+          (made_fit old work.fired c.fire.new.self.table c.fire.new.self.letters made c.rows_fit_decisions.ensures.wishes c.rows_fit_decisions.ensures.joined c.in_ok-wave.ensures.answer)));
     }
 
 pub returns-in_err-changes-clause-wave : goal.returns-in_err-changes-clause-wave
@@ -116,9 +116,9 @@ returns-in_err-changes-clause-wave c =
     (settling_stop old mid c.resettle.new.self history w c.in_err-changes.field-0.0 counted fired.within
     (rows_fit old history work w c.renew.new.prefs made.rows c.requires.sound pend fired.rows_are (renews_old old c.fire.new.self c.renew.new.prefs work.retracted made.rows (Ok c.in_ok-added.added) c.fire.ensures.from (rw (c.as_slice-gone.ensures, c.as_slice.ensures) at c.in_ok-added.ensures.renewed)))
     (mid_stands old c.fire.new.self history work w made c.renew.new.prefs c.renew_live.new.live c.in_ok-waves.waves c.in_ok-self.field-0 c.in_ok-retractions.retractions c.fire.ensures.from c.requires.sound pend fired
-        (renews_old old c.fire.new.self c.renew.new.prefs work.retracted made.rows (Ok c.in_ok-added.added) c.fire.ensures.from (rw (c.as_slice-gone.ensures, c.as_slice.ensures) at c.in_ok-added.ensures.renewed))
-        (lives_old old c.fire.new.self work.retracted c.renew_live.new.live made.live c.fire.ensures.from (rw c.as_slice-gone.ensures at c.in_ok-renew_live.ensures))
-        (waves_more _ _ c.in_ok-waves.ensures.count.0) (firings_old old c.fire.new.self c.in_ok-self.field-0 c.len-2.result (length work.fired) c.fire.ensures.from c.len-2.ensures c.in_ok-self.ensures.count.0) (retractions_more old work w c.len.result c.in_ok-retractions.retractions pend c.len.ensures c.in_ok-retractions.ensures.count.0))
+    (renews_old old c.fire.new.self c.renew.new.prefs work.retracted made.rows (Ok c.in_ok-added.added) c.fire.ensures.from (rw (c.as_slice-gone.ensures, c.as_slice.ensures) at c.in_ok-added.ensures.renewed))
+    (lives_old old c.fire.new.self work.retracted c.renew_live.new.live made.live c.fire.ensures.from (rw c.as_slice-gone.ensures at c.in_ok-renew_live.ensures))
+    (waves_more _ _ c.in_ok-waves.ensures.count.0) (firings_old old c.fire.new.self c.in_ok-self.field-0 c.len-2.result (length work.fired) c.fire.ensures.from c.len-2.ensures c.in_ok-self.ensures.count.0) (retractions_more old work w c.len.result c.in_ok-retractions.retractions pend c.len.ensures c.in_ok-retractions.ensures.count.0))
     (c.in_err-changes.ensures.resettled (agent_of mid history) (stands_at mid history (mid_remembers old c.fire.new.self history c.renew.new.prefs c.renew_live.new.live c.in_ok-waves.waves c.in_ok-self.field-0 c.in_ok-retractions.retractions c.fire.ensures.from remembers)))))
 
 pub remember-requires-clause-few : goal.remember-requires-clause-few
@@ -155,16 +155,16 @@ returns-clause-wave c =
     (done old mid new history w (length work.fired) made depends firings c.args.text.now c.push_str.new.self counted fired
     (rows_fit old history work w c.renew.new.prefs made.rows c.requires.sound pend fired.rows_are renews)
     (mid_stands old c.fire.new.self history work w made c.renew.new.prefs c.renew_live.new.live c.in_ok-waves.waves c.in_ok-self.field-0 c.in_ok-retractions.retractions c.fire.ensures.from c.requires.sound pend fired
-        (renews_old old c.fire.new.self c.renew.new.prefs work.retracted made.rows (Ok c.in_ok-added.added) c.fire.ensures.from (rw (c.as_slice-gone.ensures, c.as_slice.ensures) at c.in_ok-added.ensures.renewed))
-        (lives_old old c.fire.new.self work.retracted c.renew_live.new.live made.live c.fire.ensures.from (rw c.as_slice-gone.ensures at c.in_ok-renew_live.ensures))
-        (waves_more _ _ c.in_ok-waves.ensures.count.0) (firings_old old c.fire.new.self c.in_ok-self.field-0 c.len-2.result (length work.fired) c.fire.ensures.from c.len-2.ensures c.in_ok-self.ensures.count.0) (retractions_more old work w c.len.result c.in_ok-retractions.retractions pend c.len.ensures c.in_ok-retractions.ensures.count.0))
+    (renews_old old c.fire.new.self c.renew.new.prefs work.retracted made.rows (Ok c.in_ok-added.added) c.fire.ensures.from (rw (c.as_slice-gone.ensures, c.as_slice.ensures) at c.in_ok-added.ensures.renewed))
+    (lives_old old c.fire.new.self work.retracted c.renew_live.new.live made.live c.fire.ensures.from (rw c.as_slice-gone.ensures at c.in_ok-renew_live.ensures))
+    (waves_more _ _ c.in_ok-waves.ensures.count.0) (firings_old old c.fire.new.self c.in_ok-self.field-0 c.len-2.result (length work.fired) c.fire.ensures.from c.len-2.ensures c.in_ok-self.ensures.count.0) (retractions_more old work w c.len.result c.in_ok-retractions.retractions pend c.len.ensures c.in_ok-retractions.ensures.count.0))
     settled
     (remembers_wave c.dependencies_grow.ensures.goals old mid new history w (length work.fired) made c.in_ok-added.added depends firings c.requires.sound remembers c.fire.ensures.from.letters fired settled
-        (ap recorded (c.resettle.ensures.left.past ∙ ap (λ (a : PartsKept). a.past) c.fire.ensures.from.same)) c.in_ok-wave.ensures.recorded.0 c.in_ok-wave.ensures.recorded.2
-        (added_is ∙ ap (λ (a : PartsKept). rows_added (without_firings a.prefs.rows work.retracted) made.rows) c.fire.ensures.from.same
-        ∙ (λ k. rows_added (without_firings old.prefs.rows (pend.retracted_are k)) (fired.rows_are k)))
-        c.in_ok-remember.ensures.kept
-        (rw (c.as_slice-2.ensures, c.as_slice-3.ensures, c.list.ensures.goals) at (c.in_ok-remember.ensures.depends old.goals old.memory.elements c.in_ok-wave.ensures.levels)))
+    (ap recorded (c.resettle.ensures.left.past ∙ ap (λ (a : PartsKept). a.past) c.fire.ensures.from.same)) c.in_ok-wave.ensures.recorded.0 c.in_ok-wave.ensures.recorded.2
+    (added_is ∙ ap (λ (a : PartsKept). rows_added (without_firings a.prefs.rows work.retracted) made.rows) c.fire.ensures.from.same
+    ∙ (λ k. rows_added (without_firings old.prefs.rows (pend.retracted_are k)) (fired.rows_are k)))
+    c.in_ok-remember.ensures.kept
+    (rw (c.as_slice-2.ensures, c.as_slice-3.ensures, c.list.ensures.goals) at (c.in_ok-remember.ensures.depends old.goals old.memory.elements c.in_ok-wave.ensures.levels)))
     (c.in_ok-push_str.ensures.ok ∙ ap (λ t. c.args.text.now ++ t) c.as_str.ensures)))
 
 pub returns-clause-sound : goal.returns-clause-sound

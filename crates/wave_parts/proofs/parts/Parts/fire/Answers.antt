@@ -25,8 +25,7 @@ returns-in_err-fired-clause-answer c =
 pub returns-clause-recorded : goal.returns-clause-recorded
 returns-clause-recorded c =
     let a = c.args.self.now in
-    let goals_are = c.in_ok-before.ensures.goals ∙ c.list.ensures.goals in
-    (
+    let goals_are = c.in_ok-before.ensures.goals ∙ c.list.ensures.goals in (
       c.in_ok-fired.ensures.numbers,
       c.in_ok-fired.ensures.earlier (subst (λ (p : PreferenceMemory). AreOfFirings a.firings p.rows) (sym c.in_ok-before.ensures.prefs) c.requires.sound.rows_of_firings)
           (subst (AreMakersOfFirings a.firings) (sym goals_are) c.requires.sound.makers_of_firings),
