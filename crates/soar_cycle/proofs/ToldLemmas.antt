@@ -1,5 +1,5 @@
 -- What was said into a text of its own, appended.
-use Rattle.std.proofs.Common.{◌≡◌, ℕ, ◌∙◌, Bool, true, false, List, [], ◌∷◌, ◌++◌, Result, Ok, Err, refl, sym, ap, subst}
+use Rattle.std.proofs.Common.{◌≡◌, ℕ, ◌∙◌, Bool, true, false, List, [], ◌∷◌, ◌++◌, Result, Ok, Err, IfOk, refl, sym, ap, subst}
 use Rattle.defs_soar.specs.Agents.{Agent}
 use Rattle.defs_soar.specs.Phases.{Course, Phased}
 use Rattle.defs_soar.specs.Resettling.{AgentStep}
@@ -11,7 +11,7 @@ use Rattle.cycle_parts.specs.Waving.{WavesFrom, Worked}
 use Rattle.cycle_parts.specs.declared.waving.Waved.{Waved}
 use Rattle.cycle_parts.specs.declared.waving.Waved.TheVariants as waved
 use Rattle.soar_cycle.specs.Courses.{Goes, IsEndOf, Passed, Went}
-use Rattle.soar_cycle.specs.Telling.{Tells, without_limit}
+use Rattle.soar_cycle.specs.Telling.{Tells}
 use Rattle.soar_cycle.specs.declared.phase.Ended.{Ended}
 
 -- the text that was said into nothing comes behind what was there
@@ -36,7 +36,7 @@ goes_told {T} mid c new new_mid start said before after answer (Err (stop.Limit 
     record { passed = passed.passed; text = appended start said before after _ empty passed.text tells.1; mid_line = passed.mid_line }
 goes_told mid c new new_mid start said before after answer (Err stop.NoMemory) empty tells goes = tt
 
-step_told : {T : Type 0} (mid : Bool) (s : AgentStep) (new : PartsKept) (new_mid : Bool) (start said before after : List ℕ) (answer result : Result T Stop) → start ≡ []
+pub step_told : {T : Type 0} (mid : Bool) (s : AgentStep) (new : PartsKept) (new_mid : Bool) (start said before after : List ℕ) (answer result : Result T Stop) → start ≡ []
     → Tells answer said before after result → GoesStep mid s new new_mid start said answer → GoesStep mid s new new_mid before after result
 step_told {T} mid s new new_mid start said before after answer (Ok done) empty tells goes =
     let went : WentStep mid s new new_mid start said = subst (λ (r : Result T Stop). GoesStep mid s new new_mid start said r) tells.0 goes in
@@ -46,18 +46,10 @@ step_told {T} mid s new new_mid start said before after answer (Err (stop.Limit 
     record { passed = stops.passed; text = unsaid start said before after empty stops.text tells.1 (nothing_more before); mid_line = stops.mid_line }
 step_told mid s new new_mid start said before after answer (Err stop.NoMemory) empty tells goes = tt
 
--- a decision tells no limit of goals
-without : (mid : Bool) (s : AgentStep) (new : PartsKept) (new_mid : Bool) (before after : List ℕ) (answer : Result (Unit {0}) Stop) → GoesStep mid s new new_mid before after answer
-    → GoesStep mid s new new_mid before after (without_limit answer)
-without mid s new new_mid before after (Ok done) goes = goes
-without mid s new new_mid before after (Err (stop.Limit limit)) goes = goes
-without mid s new new_mid before after (Err stop.NoMemory) goes = tt
-
-pub decision_told : (mid : Bool) (s : AgentStep) (new : PartsKept) (new_mid : Bool) (start said before after : List ℕ) (inner : Result (Unit {0}) Stop) (answer result : Result Bool Stop) → start ≡ []
-    → answer ≡ without_limit inner → Tells answer said before after result → GoesStep mid s new new_mid start said inner → GoesStep mid s new new_mid before after result
-decision_told mid s new new_mid start said before after inner answer result empty is tells goes =
-    step_told mid s new new_mid start said before after answer result empty tells
-    (subst (λ (r : Result Bool Stop). GoesStep mid s new new_mid start said r) (sym is) (without mid s new new_mid start said inner goes))
+-- so is whether the limit of goals halted
+pub halted_told : (halted : Bool) (said before after : List ℕ) (answer result : Result Bool Stop) → Tells answer said before after result → IfOk answer (λ h. h ≡ halted) → IfOk result (λ h. h ≡ halted)
+halted_told halted said before after answer (Ok done) tells is = subst (λ (r : Result Bool Stop). IfOk r (λ h. h ≡ halted)) tells.0 is
+halted_told halted said before after answer (Err why) tells is = tt
 
 worked_told : (proposing : Bool) (s : Agent) (halted : Bool) (new : PartsKept) (mid new_mid : Bool) (start said before after : List ℕ) → start ≡ [] → after ≡ before ++ said
     → Worked proposing s halted new mid new_mid start said → Worked proposing s halted new mid new_mid before after

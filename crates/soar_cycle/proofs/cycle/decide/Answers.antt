@@ -1,9 +1,20 @@
+use Rattle.std.proofs.Common.{◌∙◌, Bool, Ok, Err, ap, sym, subst}
+use Rattle.std.proofs.lemmas.Result.{err_from_is_err_and}
 use Rattle.defs_soar.specs.Cycle.{then_decision}
 use Rattle.defs_soar.specs.Decision.{decided_by}
-use Rattle.soar_cycle.proofs.CycleLemmas.{step_on, unless_on}
+use Rattle.soar_cycle.specs.Cycling.{GoesOn, with_decision}
+use Rattle.soar_cycle.proofs.CycleLemmas.{other_answer, step_on, unless_on}
 use Rattle.soar_cycle.proofs.cycle.decide.Goals as goal
+
+pub returns-in_err-decide-clause-course : goal.returns-in_err-decide-clause-course
+returns-in_err-decide-clause-course g c =
+    let p = err_from_is_err_and c.from_residual.result c.from_residual.ensures.1 in
+    subst (GoesOn {T = Unit {0}} with_decision c.args.engine.now.parts c.decide.new.self.parts c.args.mid_line.now c.decide.new.mid_line c.args.out.now c.decide.new.out) (sym (p.1 ∙ ap Err p.2))
+    (other_answer Bool (Unit {0}) with_decision c.args.engine.now.parts c.decide.new.self.parts c.args.mid_line.now c.decide.new.mid_line c.args.out.now c.decide.new.out c.in_err-decide.field-0.0
+    (unless_on {T = Bool} (then_decision decided_by) c.args.engine.now.parts c.decide.new.self.parts c.args.mid_line.now c.decide.new.mid_line c.args.out.now c.decide.new.out (Err c.in_err-decide.field-0.0) c.if-engine.false
+    (step_on {T = Bool} decided_by c.args.engine.now.parts c.decide.new.self.parts c.args.mid_line.now c.decide.new.mid_line c.args.out.now c.decide.new.out (Err c.in_err-decide.field-0.0) c.in_err-decide.ensures.step)))
 
 pub returns-clause-course : goal.returns-clause-course
 returns-clause-course g c =
-    unless_on (then_decision decided_by) c.args.engine.now.parts c.decide.new.self.parts c.args.mid_line.now c.decide.new.mid_line c.args.out.now c.decide.new.out c.decide.result c.if-engine.false
-    (step_on decided_by c.args.engine.now.parts c.decide.new.self.parts c.args.mid_line.now c.decide.new.mid_line c.args.out.now c.decide.new.out c.decide.result c.decide.ensures.step)
+    unless_on (then_decision decided_by) c.args.engine.now.parts c.decide.new.self.parts c.args.mid_line.now c.decide.new.mid_line c.args.out.now c.decide.new.out (Ok c.in_ok-decide.field-0) c.if-engine.false
+    (step_on decided_by c.args.engine.now.parts c.decide.new.self.parts c.args.mid_line.now c.decide.new.mid_line c.args.out.now c.decide.new.out (Ok c.in_ok-decide.field-0) c.in_ok-decide.ensures.step)
