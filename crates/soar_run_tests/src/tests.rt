@@ -1,9 +1,11 @@
 ghost use Rattle.std.specs.Prelude.{◌-◌, ◌^◌, ◌<◌};
 
+use cases::wrong_of;
 use soar_edge::{FineShelf, FineSink, FineSource, Sink, Source, Status};
 use soar_run::run_soar;
 use soar_sym::List;
 use std::alloc::{AllocError, Global};
+use std::test::Fail;
 
 mod cases;
 mod checking;
@@ -33,4 +35,52 @@ fn runs(alloc: Global, piece: usize, bytes: List<u8>, status: Status, text: &str
     let mut sink = FineSink::new(alloc, piece);
     let ended = run(alloc, &mut source, &mut sink);
     ended == status && sink.bytes() == text.as_bytes()
+}
+
+/// What is read and run without a refusal, but for the tables that take longer.
+const DONE: [&str; 6] = [
+    checking::CHECKED,
+    labels::LABELS,
+    reading::READ,
+    running::SELECTED,
+    running::LINKED,
+    running::HALTED,
+];
+
+/// What is refused, among what is not.
+const REFUSED: [&str; 6] = [
+    checking::FAULTY,
+    commands::REFUSED,
+    labels::LABELS_REFUSED,
+    reading::NONE,
+    running::RUN_REFUSED,
+    impasses::BELOW,
+];
+
+#[test]
+fn inputs_are_read_and_run(rt: HostRuntime) -> Result<(), Fail> {
+    let wrong = wrong_of(rt.alloc(), Status::Done, &DONE)?;
+    assert!(rt; wrong.is_empty(), "{wrong}");
+    Ok(())
+}
+
+#[test]
+fn commands_are_carried_out(rt: HostRuntime) -> Result<(), Fail> {
+    let wrong = wrong_of(rt.alloc(), Status::Done, &[commands::DONE])?;
+    assert!(rt; wrong.is_empty(), "{wrong}");
+    Ok(())
+}
+
+#[test]
+fn substates_come_and_go(rt: HostRuntime) -> Result<(), Fail> {
+    let wrong = wrong_of(rt.alloc(), Status::Done, &[impasses::MET, impasses::BROKEN])?;
+    assert!(rt; wrong.is_empty(), "{wrong}");
+    Ok(())
+}
+
+#[test]
+fn faults_are_refused(rt: HostRuntime) -> Result<(), Fail> {
+    let wrong = wrong_of(rt.alloc(), Status::Refusals, &REFUSED)?;
+    assert!(rt; wrong.is_empty(), "{wrong}");
+    Ok(())
 }

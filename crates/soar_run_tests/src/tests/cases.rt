@@ -49,11 +49,26 @@ fn first_wrong(alloc: Global, piece: usize, status: Status, cases: &str) -> Resu
 }
 
 /// The first case that does not come true byte by byte or in large pieces.
-pub fn wrong(alloc: Global, status: Status, cases: &str) -> Result<&str, AllocError> {
+fn wrong(alloc: Global, status: Status, cases: &str) -> Result<&str, AllocError> {
     let wrong = first_wrong(alloc, 1, status, cases)?;
     if wrong.is_empty() {
         first_wrong(alloc, 4096, status, cases)
     } else {
         Ok(wrong)
     }
+}
+
+/// The same of several tables.
+pub fn wrong_of<'a>(
+    alloc: Global,
+    status: Status,
+    tables: &[&'a str],
+) -> Result<&'a str, AllocError> {
+    for table in tables {
+        let found = wrong(alloc, status, table)?;
+        if !found.is_empty() {
+            return Ok(found);
+        }
+    }
+    Ok("")
 }

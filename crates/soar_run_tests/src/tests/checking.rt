@@ -1,10 +1,7 @@
 // Productions that are checked and put in match order, tests and negations that are matched.
-use super::cases::wrong;
-use soar_edge::Status;
-use std::test::Fail;
 
 /// Conditions in match order, tests and negations.
-const CHECKED: &str =
+pub const CHECKED: &str =
     r#"sp {o (<x> ^b > <y>) -{(<y> ^d <z>) (<x> ^c <z>)} (<s> ^a <x>) (state <s> ^n <y>) --> (<s> ^ok <x>)}
 print o
 =>
@@ -98,7 +95,7 @@ no elements
 "#;
 
 /// Of several faults the first of the list is told.
-const FAULTY: &str = r#"sp {n (<s> ^a 1) --> (halt)}
+pub const FAULTY: &str = r#"sp {n (<s> ^a 1) --> (halt)}
 sp {u (state <s> ^a > <x>) --> (<s> ^b 1)}
 sp {c (state <s> ^a 1) (<z> ^b 2) --> (halt)}
 sp {b (state <s> ^a 1) --> (<s> ^b 1 !)}
@@ -182,17 +179,3 @@ error 18 -:14: not built
 12: (S1 ^N1 I4)
 ;;
 "#;
-
-#[test]
-fn productions_are_put_in_match_order(rt: HostRuntime) -> Result<(), Fail> {
-    let wrong = wrong(rt.alloc(), Status::Done, CHECKED)?;
-    assert!(rt; wrong.is_empty(), "{wrong}");
-    Ok(())
-}
-
-#[test]
-fn faulty_productions_are_refused(rt: HostRuntime) -> Result<(), Fail> {
-    let wrong = wrong(rt.alloc(), Status::Refusals, FAULTY)?;
-    assert!(rt; wrong.is_empty(), "{wrong}");
-    Ok(())
-}

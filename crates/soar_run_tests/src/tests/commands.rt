@@ -1,5 +1,5 @@
 // Whole runs, what they write, and what is refused.
-use super::cases::{input_runs, wrong};
+use super::cases::input_runs;
 use super::runs;
 use soar_edge::Status;
 use soar_sym::List;
@@ -7,7 +7,7 @@ use std::alloc::{AllocError, Global};
 use std::test::Fail;
 
 /// Whole runs that refuse nothing.
-const DONE: &str = r#"sp {two (state <s> ^a <x>) (<s> ^a <y>) --> (<s> ^b <x>)}
+pub const DONE: &str = r#"sp {two (state <s> ^a <x>) (<s> ^a <y>) --> (<s> ^b <x>)}
 matches
 add-wme S1 ^a 1
 matches
@@ -187,7 +187,7 @@ matches
 "#;
 
 /// Whole runs that refuse something.
-const REFUSED: &str = r#"add-wme S1 ^a 1
+pub const REFUSED: &str = r#"add-wme S1 ^a 1
 add-wme S1 ^a 1
 fly
 sp {n -(state <s> ^a 1) --> (<s> ^b 1)}
@@ -279,20 +279,6 @@ error 32 -:4: no production e
 error 11 -:5: unfinished command
 ;;
 "#;
-
-#[test]
-fn runs_that_refuse_nothing(rt: HostRuntime) -> Result<(), Fail> {
-    let wrong = wrong(rt.alloc(), Status::Done, DONE)?;
-    assert!(rt; wrong.is_empty(), "{wrong}");
-    Ok(())
-}
-
-#[test]
-fn runs_that_refuse_something(rt: HostRuntime) -> Result<(), Fail> {
-    let wrong = wrong(rt.alloc(), Status::Refusals, REFUSED)?;
-    assert!(rt; wrong.is_empty(), "{wrong}");
-    Ok(())
-}
 
 #[test]
 fn blank_lines_and_a_last_line_without_an_end(rt: HostRuntime) -> Result<(), Fail> {

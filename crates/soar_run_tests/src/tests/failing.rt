@@ -57,12 +57,6 @@ fn each_read_may_fail(alloc: Global) -> Result<bool, AllocError> {
     ends_at_read(alloc, 6, Status::Done, "no matches\nno matches\n")
 }
 
-#[test]
-fn a_source_fails_at_each_call_in_turn(rt: HostRuntime) -> Result<(), Fail> {
-    assert!(rt; each_read_may_fail(rt.alloc())?);
-    Ok(())
-}
-
 /// In pieces of seven bytes the first line takes five writes, and the second takes two.
 const BOTH: &str = "error 10 -:1: unknown command\nno matches\n";
 
@@ -95,7 +89,7 @@ fn each_write_may_fail(alloc: Global) -> Result<bool, AllocError> {
 }
 
 #[test]
-fn a_sink_fails_at_each_call_in_turn(rt: HostRuntime) -> Result<(), Fail> {
-    assert!(rt; each_write_may_fail(rt.alloc())?);
+fn source_and_sink_fail_at_each_call_in_turn(rt: HostRuntime) -> Result<(), Fail> {
+    assert!(rt; each_read_may_fail(rt.alloc())? && each_write_may_fail(rt.alloc())?);
     Ok(())
 }

@@ -1,10 +1,7 @@
 // Labels of commands, and identifiers below the top state.
-use super::cases::wrong;
-use soar_edge::Status;
-use std::test::Fail;
 
 /// Labels, and identifiers below the top state.
-const LABELS: &str = r#"add-wme i1 ^color red
+pub const LABELS: &str = r#"add-wme i1 ^color red
 add-wme S1 ^box <b>
 add-wme <b> ^size 3
 add-wme <b> ^next <b>
@@ -48,7 +45,7 @@ print S1
 "#;
 
 /// The first identifier that there is not is told, and a refused command makes no label.
-const LABELS_REFUSED: &str = r#"add-wme Q7 ^a 1
+pub const LABELS_REFUSED: &str = r#"add-wme Q7 ^a 1
 add-wme <b> ^a 1
 add-wme S1 ^Q7 <b>
 add-wme S1 ^a Q7
@@ -93,17 +90,3 @@ error 18 -:8: not built
 error 18 -:9: not built
 ;;
 "#;
-
-#[test]
-fn labels_name_identifiers(rt: HostRuntime) -> Result<(), Fail> {
-    let wrong = wrong(rt.alloc(), Status::Done, LABELS)?;
-    assert!(rt; wrong.is_empty(), "{wrong}");
-    Ok(())
-}
-
-#[test]
-fn labels_of_a_refused_command_are_not_made(rt: HostRuntime) -> Result<(), Fail> {
-    let wrong = wrong(rt.alloc(), Status::Refusals, LABELS_REFUSED)?;
-    assert!(rt; wrong.is_empty(), "{wrong}");
-    Ok(())
-}

@@ -108,15 +108,6 @@ fn comment_ends(
     ))
 }
 
-#[test]
-fn a_command_has_at_most_1_mib(rt: HostRuntime) -> Result<(), Fail> {
-    assert!(rt;
-        comment_ends(rt.alloc(), 1_048_567, Status::Done, "no matches\n")?
-            && comment_ends(rt.alloc(), 1_048_568, Status::TooLong, "")?
-    );
-    Ok(())
-}
-
 /// Whether a production of so many conditions ends so and writes this.
 fn conditions_end(
     alloc: Global,
@@ -139,20 +130,6 @@ fn conditions_end(
     ))
 }
 
-#[test]
-fn a_production_has_at_most_1000_conditions(rt: HostRuntime) -> Result<(), Fail> {
-    assert!(rt;
-        conditions_end(rt.alloc(), 999, Status::Done, "")?
-            && conditions_end(
-                rt.alloc(),
-                1000,
-                Status::Refusals,
-                "error 23 -:1: too many 1001\n"
-            )?
-    );
-    Ok(())
-}
-
 /// Whether a production with so many braces in one another ends so and writes this.
 fn braces_end(alloc: Global, count: usize, status: Status, text: &str) -> Result<bool, AllocError> {
     let mut bytes = repeated(alloc, b"sp {p ", count, b"{", b"(state <s> ^a 1)")?;
@@ -162,11 +139,21 @@ fn braces_end(alloc: Global, count: usize, status: Status, text: &str) -> Result
 }
 
 #[test]
-fn sixty_four_brackets_may_be_open(rt: HostRuntime) -> Result<(), Fail> {
+fn commands_and_productions_have_their_limits(rt: HostRuntime) -> Result<(), Fail> {
+    let alloc = rt.alloc();
     assert!(rt;
-        braces_end(rt.alloc(), 63, Status::Done, "")?
+        comment_ends(alloc, 1_048_567, Status::Done, "no matches\n")?
+            && comment_ends(alloc, 1_048_568, Status::TooLong, "")?
+            && conditions_end(alloc, 999, Status::Done, "")?
+            && conditions_end(
+                alloc,
+                1000,
+                Status::Refusals,
+                "error 23 -:1: too many 1001\n"
+            )?
+            && braces_end(alloc, 63, Status::Done, "")?
             && braces_end(
-                rt.alloc(),
+                alloc,
                 64,
                 Status::Refusals,
                 "error 17 -:1: nesting too deep at byte 70\n"

@@ -1,10 +1,7 @@
 // The language of productions: what is read, as it is printed, and what is refused.
-use super::cases::wrong;
-use soar_edge::Status;
-use std::test::Fail;
 
 /// Productions, each with what is printed of it.
-const READ: &str = r#"sp {p (state <s> ^a 1 ^b <x> <y>) --> }
+pub const READ: &str = r#"sp {p (state <s> ^a 1 ^b <x> <y>) --> }
 print p
 =>
 sp {p
@@ -184,7 +181,7 @@ sp {p
 "#;
 
 /// Texts that spell no production.
-const NONE: &str = r#"sp
+pub const NONE: &str = r#"sp
 =>
 error 16 -:1: unexpected token at byte 2
 ;;
@@ -233,17 +230,3 @@ sp {p (state <s> ^a -9223372036854775809) --> }
 error 14 -:1: number too wide at byte 20
 ;;
 "#;
-
-#[test]
-fn productions_are_printed_as_they_are_read(rt: HostRuntime) -> Result<(), Fail> {
-    let wrong = wrong(rt.alloc(), Status::Done, READ)?;
-    assert!(rt; wrong.is_empty(), "{wrong}");
-    Ok(())
-}
-
-#[test]
-fn what_is_no_production_is_refused_at_its_byte(rt: HostRuntime) -> Result<(), Fail> {
-    let wrong = wrong(rt.alloc(), Status::Refusals, NONE)?;
-    assert!(rt; wrong.is_empty(), "{wrong}");
-    Ok(())
-}

@@ -1,10 +1,7 @@
 // Cycles: operators, input and output, and the end of a run where the agent halts.
-use super::cases::wrong;
-use soar_edge::Status;
-use std::test::Fail;
 
 /// Operators that are proposed, selected and applied.
-const SELECTED: &str = r#"sp {init :o-support (state <s> ^superstate nil) --> (<s> ^n 0)}
+pub const SELECTED: &str = r#"sp {init :o-support (state <s> ^superstate nil) --> (<s> ^n 0)}
 sp {count*propose (state <s> ^superstate nil ^n <x>) --> (<s> ^operator <o> +) (<o> ^name count ^from <x>)}
 sp {count*apply (state <s> ^operator <o> ^n <x>) (<o> ^name count ^from <x>) --> (<s> ^n <x> - (+ <x> 1))}
 run 4
@@ -64,7 +61,8 @@ run 1
 "#;
 
 /// What comes in and goes out at the links of the top state.
-const LINKED: &str = r#"sp {o (state <s> ^superstate nil ^io.output-link <ol>) --> (<ol> ^say hi)}
+pub const LINKED: &str =
+    r#"sp {o (state <s> ^superstate nil ^io.output-link <ol>) --> (<ol> ^say hi)}
 run 1
 =>
 1:   ==>S: S2 (state no-change)
@@ -104,7 +102,7 @@ print S1
 "#;
 
 /// A run ends where the agent halts, with cycles left.
-const HALTED: &str = r#"sp {hello*propose
+pub const HALTED: &str = r#"sp {hello*propose
    (state <s> ^type state)
    -->
    (<s> ^operator <o> +)
@@ -126,7 +124,7 @@ halt
 "#;
 
 /// A halted agent does not run, and changes that are not queued.
-const RUN_REFUSED: &str = r#"sp {hello*propose
+pub const RUN_REFUSED: &str = r#"sp {hello*propose
    (state <s> ^type state)
    -->
    (<s> ^operator <o> +)
@@ -179,31 +177,3 @@ error 14 -:13: number too wide at byte 7
 error 18 -:14: not built
 ;;
 "#;
-
-#[test]
-fn operators_are_selected_and_applied(rt: HostRuntime) -> Result<(), Fail> {
-    let wrong = wrong(rt.alloc(), Status::Done, SELECTED)?;
-    assert!(rt; wrong.is_empty(), "{wrong}");
-    Ok(())
-}
-
-#[test]
-fn what_comes_in_and_goes_out(rt: HostRuntime) -> Result<(), Fail> {
-    let wrong = wrong(rt.alloc(), Status::Done, LINKED)?;
-    assert!(rt; wrong.is_empty(), "{wrong}");
-    Ok(())
-}
-
-#[test]
-fn a_run_ends_where_the_agent_halts(rt: HostRuntime) -> Result<(), Fail> {
-    let wrong = wrong(rt.alloc(), Status::Done, HALTED)?;
-    assert!(rt; wrong.is_empty(), "{wrong}");
-    Ok(())
-}
-
-#[test]
-fn a_halted_agent_does_not_run(rt: HostRuntime) -> Result<(), Fail> {
-    let wrong = wrong(rt.alloc(), Status::Refusals, RUN_REFUSED)?;
-    assert!(rt; wrong.is_empty(), "{wrong}");
-    Ok(())
-}

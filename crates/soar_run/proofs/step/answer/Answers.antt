@@ -1,4 +1,4 @@
-use Rattle.std.proofs.Common.{List, [], ℕ, Ok, OnOk, subst, ◌∙◌}
+use Rattle.std.proofs.Common.{List, ℕ, Ok, OnOk, subst, ◌∙◌}
 use Rattle.soar_edge.specs.Cutting.{whole}
 use Rattle.soar_edge.specs.Outside.{Appends, AppendsSome}
 use Rattle.defs_run.specs.Sessions.{Reply, Session}
