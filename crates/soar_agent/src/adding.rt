@@ -76,7 +76,8 @@ impl<M: Matcher> Session<M> {
         ensures reply { Carries self.old self.new origin.now.source.now origin.now.line (adds_at_top slot.id slot.attr (operand_seen value)) out.old out.new result }
         ensures ready { IfOk result (λ _. IsReady self.new.agent) }
     {
-        if self.lookup(out.allocator()).is_top_level(slot.id)? {
+        let at_top = self.lookup(out.allocator()).is_top_level(slot.id)?;
+        if at_top {
             self.add_unless_reserved(origin, slot, value, out)
         } else {
             self.refuse(origin, &Reason::NotOfTheTopState, out)

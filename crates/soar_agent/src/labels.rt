@@ -50,12 +50,10 @@ impl<M: Matcher> Session<M> {
     {
         let letter = letter_from(name.as_str().as_bytes());
         match self.agent.fresh(letter) {
-            Ok(Sym::Ident { letter, number }) => {
-                let symbol = Sym::Ident { letter, number };
+            Ok(symbol) => {
                 self.labels.push(Label { name, symbol })?;
                 Ok(symbol)
             }
-            Ok(_) => unreachable!(),
             Err(stop) => Err(stop),
         }
     }

@@ -10,20 +10,20 @@ use Rattle.soar_agent.specs.States.{session_of}
 use Rattle.soar_agent.specs.Steps.{Obeys}
 use Rattle.soar_agent.proofs.state.Session.add_at_top.Goals as goal
 
-pub returns-then-is_top_level-clause-reply : goal.returns-then-is_top_level-clause-reply
-returns-then-is_top_level-clause-reply g c = λ history remembers.
+pub returns-then-at_top-clause-reply : goal.returns-then-at_top-clause-reply
+returns-then-at_top-clause-reply g c = λ history remembers.
     let s : Session = session_of c.args.self.now history in
     let top : true ≡ is_top_level s c.args.slot.id =
-    sym c.if-is_top_level.true ∙ (c.in_ok-is_top_level.ensures s ∙ ap (λ (t : Session). is_top_level t c.args.slot.id) (c.lookup.ensures.session history)) in
+    sym c.if-at_top.true ∙ (c.in_ok-at_top.ensures s ∙ ap (λ (t : Session). is_top_level t c.args.slot.id) (c.lookup.ensures.session history)) in
     subst (λ (b : Bool). Obeys c.args.self.now.agent.mid_line (replied_by c.args.origin.now.source.now c.args.origin.now.line s (if not b then refuses not_of_the_top_state else adds_to c.args.slot.id c.args.slot.attr (operand_seen c.args.value) s))
     c.add_unless_reserved.new.self c.args.out.now c.add_unless_reserved.new.out c.add_unless_reserved.result)
     top (c.add_unless_reserved.ensures.reply history remembers)
 
-pub returns-else-is_top_level-clause-reply : goal.returns-else-is_top_level-clause-reply
-returns-else-is_top_level-clause-reply g c = λ history remembers.
+pub returns-else-at_top-clause-reply : goal.returns-else-at_top-clause-reply
+returns-else-at_top-clause-reply g c = λ history remembers.
     let s : Session = session_of c.args.self.now history in
     let top : false ≡ is_top_level s c.args.slot.id =
-    sym c.if-is_top_level.false ∙ (c.in_ok-is_top_level.ensures s ∙ ap (λ (t : Session). is_top_level t c.args.slot.id) (c.lookup.ensures.session history)) in
+    sym c.if-at_top.false ∙ (c.in_ok-at_top.ensures s ∙ ap (λ (t : Session). is_top_level t c.args.slot.id) (c.lookup.ensures.session history)) in
     subst (λ (b : Bool). Obeys c.args.self.now.agent.mid_line (replied_by c.args.origin.now.source.now c.args.origin.now.line s (if not b then refuses not_of_the_top_state else adds_to c.args.slot.id c.args.slot.attr (operand_seen c.args.value) s))
     c.refuse.new.self c.args.out.now c.refuse.new.out c.refuse.result)
     top (c.refuse.ensures.reply history remembers)

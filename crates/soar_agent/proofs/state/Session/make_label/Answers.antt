@@ -1,19 +1,29 @@
-use Rattle.std.proofs.Common.{◌≡◌, ◌∙◌, ap, refl}
+use Rattle.std.proofs.Common.{◌≡◌, ◌∙◌, ◌+◌, ap, refl, subst, sym}
+use Rattle.std.specs.Prelude.{IsTrue}
+use Rattle.soar_sym.specs.Letters.{last_of}
+use Rattle.soar_sym.specs.Words.{IsKnown}
+use Rattle.soar_sym.specs.declared.symbol.Sym.{Sym}
 use Rattle.defs_soar.specs.Naming.{letter_from}
 use Rattle.wave_parts.specs.Seen.{agent_of}
 use Rattle.wave_parts.proofs.StandsLemmas.{stands_at}
+use Rattle.session_parts.specs.Lettered.{is_lettered}
 use Rattle.soar_agent.proofs.LabelLemmas.{known_lettered, makes_label, makes_none}
 use Rattle.soar_agent.proofs.ReplyLemmas.{with_kept}
 use Rattle.soar_agent.proofs.state.Session.make_label.Goals as goal
 
 pub invariant_of-push : goal.invariant_of-push
-invariant_of-push g c = record { lettered = known_lettered c.fresh.new.self.parts.table _ _ (c.in-Ok-Ident.ensures.known c.requires.0) }
+invariant_of-push g c =
+    let letter = c.letter_from-letter.result in
+    let table = c.fresh.new.self.parts.table in
+    let is = c.in-Ok.ensures.symbol c.requires.0 in
+    let known = subst (IsKnown table) is (c.in-Ok.ensures.known c.requires.0) in
+    record { lettered = subst (λ (s : Sym). IsTrue (is_lettered s)) (sym is) (known_lettered table letter (last_of c.args.self.now.agent.parts.letters letter + 1) known) }
 
-pub returns-in_ok-push-in-Ok-Ident-clause-symbol : goal.returns-in_ok-push-in-Ok-Ident-clause-symbol
-returns-in_ok-push-in-Ok-Ident-clause-symbol g c = λ history remembers.
+pub returns-in_ok-push-in-Ok-clause-symbol : goal.returns-in_ok-push-in-Ok-clause-symbol
+returns-in_ok-push-in-Ok-clause-symbol g c = λ history remembers.
     let first : c.letter_from-letter.result ≡ letter_from c.args.name = c.letter_from-letter.ensures.letter ∙ ap letter_from (c.as_bytes.ensures.value ∙ c.as_str.ensures) in
-    makes_label c.args.self.now c.fresh.new.self c.push.new.self _ c.letter_from-letter.result c.args.name history first refl c.in_ok-push-in-Ok-Ident.ensures.ok c.in-Ok-Ident.ensures.mid_line
-    (c.in-Ok-Ident.ensures.step c.requires.0 (agent_of c.args.self.now.agent.parts history) (stands_at c.args.self.now.agent.parts history remembers))
+    makes_label c.args.self.now c.fresh.new.self c.push.new.self _ c.letter_from-letter.result c.args.name history first refl c.in_ok-push-in-Ok.ensures.ok c.in-Ok.ensures.mid_line
+    (c.in-Ok.ensures.step c.requires.0 (agent_of c.args.self.now.agent.parts history) (stands_at c.args.self.now.agent.parts history remembers))
 
 pub returns-in-Err-clause-symbol : goal.returns-in-Err-clause-symbol
 returns-in-Err-clause-symbol g c = λ history remembers.

@@ -1,11 +1,19 @@
+use Rattle.std.proofs.Common.{◌∙◌, ◌++◌, ap}
 use Rattle.defs_soar.specs.Cycle.{cycle}
 use Rattle.defs_soar.specs.Decision.{decided_by}
 use Rattle.defs_soar.specs.Learning.{without_learning}
 use Rattle.defs_soar.specs.Phases.{Course}
 use Rattle.wave_parts.specs.Seen.{agent_of}
 use Rattle.wave_parts.proofs.StandsLemmas.{stands_at}
-use Rattle.soar_agent.proofs.CycleLemmas.{cycle_stopped}
+use Rattle.soar_agent.proofs.CycleLemmas.{cycle_said, cycle_stopped}
 use Rattle.soar_agent.proofs.state.Session.run_cycle.Goals as goal
+
+pub returns-in-Ok-clause-course : goal.returns-in-Ok-clause-course
+returns-in-Ok-clause-course g c = λ history remembers.
+    let course : Course = cycle decided_by without_learning (agent_of c.args.self.now.agent.parts history) in
+    cycle_said c.args.self.now.agent.mid_line course c.cycle.new.self.parts c.cycle.new.self.mid_line _ c.cycle.new.text c.args.text.now c.push_str.new.self c.new-said.ensures
+    (c.in-Ok.ensures.step c.requires.0 (agent_of c.args.self.now.agent.parts history) (stands_at c.args.self.now.agent.parts history remembers))
+    (c.in_ok-push_str-in-Ok.ensures.ok ∙ ap (λ t. c.args.text.now ++ t) c.as_str.ensures)
 
 pub returns-clause-course : goal.returns-clause-course
 returns-clause-course g c = λ history remembers.
