@@ -21,7 +21,7 @@ use wave_parts::Stop;
 
 impl<M: Matcher> Engine<M> {
     /// Settles once the last goal has an operator selected, and tells it by the name that it had before.
-    pub fn select(
+    pub(crate) fn select(
         &mut self,
         alloc: Global,
         operator: Sym,
@@ -51,7 +51,7 @@ impl<M: Matcher> Engine<M> {
     }
 
     /// Makes a substate below the last goal, and tells it.
-    pub fn make_substate(
+    pub(crate) fn make_substate(
         &mut self,
         alloc: Global,
         why: Impasse,
@@ -82,7 +82,7 @@ impl<M: Matcher> Engine<M> {
     }
 
     /// Settles, and halts since a goal too many would be due.
-    pub fn halt_at_limit(
+    pub(crate) fn halt_at_limit(
         &mut self,
         alloc: Global,
         out: &mut Text,

@@ -98,7 +98,7 @@ WordsGiven = present_transcript (codes "a" ∷ []) [] (codes "matches\n") ≡ re
 
 -- ---- operators, input and output
 
--- a counter: each operator is applied in the next cycle but one, and the next number is proposed in the cycle after
+-- a counter: what an operator makes proposes the next one, which the next cycle selects; the first substate goes with the first selection
 abbrev pub CountedNow : Type 0
 CountedNow =
     WritesNow
