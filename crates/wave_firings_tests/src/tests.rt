@@ -1,0 +1,117 @@
+ghost use Rattle.std.specs.Prelude.{◌≡◌, ◌∷◌, []};
+ghost use Rattle.defs_soar.specs.Goals.{goal_ids};
+
+mod parts;
+
+use crate::tests::parts::{S1, S2, goals, instance, memory, rule};
+use defs_soar::Preference;
+use firing_records::{Before, Recorded};
+use goal_trimming::Live;
+use soar_prefs::Prefs;
+use soar_settle::Stop;
+use soar_sym::{Letters, List, Sym, SymTable, is_symbol};
+use std::alloc::Global;
+use std::test::Fail;
+use wave_firings::{Fired, fire_all};
+
+/// What the rule makes when it fires twice after the number 7, for an element of S1 and for one of S2.
+fn fired(alloc: Global) -> Result<Fired, Stop> {
+    let goals = goals(alloc)?;
+    let prefs = Prefs::new(alloc, 9)?;
+    let memory = memory(alloc)?;
+    let before = Before::new(alloc, &goals, &prefs, &memory)?;
+    fired_after(&before)
+}
+
+fn fired_after(before: &Before<'_>) -> Result<Fired, Stop>
+    requires { goal_ids before.now.goals.now ≡ Sym.Ident 83 1 ∷ Sym.Ident 83 2 ∷ [] }
+{
+    let alloc = before.alloc;
+    let mut table = SymTable::new(alloc)?;
+    let mut letters = Letters::new();
+    let mut rules = List::new(alloc);
+    rules.push(rule(alloc)?)?;
+    let mut instances = List::new(alloc);
+    instances.push(instance(alloc, 1)?)?;
+    instances.push(instance(alloc, 2)?)?;
+    fire_all(
+        alloc,
+        &mut table,
+        &mut letters,
+        before,
+        &rules,
+        &instances,
+        7,
+    )
+}
+
+/// The firings of rows, the states that they are for, and whether they have operator support. A firing of S2 makes a result
+/// for S1. The third row is for an operator of S2.
+const ROWS: [(u64, Sym, bool); 6] = [
+    (8, S1, true),
+    (8, S2, true),
+    (8, S2, false),
+    (9, S1, false),
+    (9, S2, true),
+    (9, S2, false),
+];
+
+fn are_rows(rows: &[Preference]) -> bool {
+    if rows.len() != ROWS.len() {
+        return false;
+    }
+    for (row, (firing, id, operator_support)) in rows.iter().zip(&ROWS) {
+        let same = is_symbol(row.wish.id, *id) && row.operator_support == *operator_support;
+        if row.firing != *firing || !same {
+            return false;
+        }
+    }
+    true
+}
+
+/// Whether the firings 8 and 9 are live, at the depths 1 and 2.
+fn are_live(live: &[Live]) -> bool {
+    match live {
+        [top, below] => top.number == 8 && top.depth == 1 && below.number == 9 && below.depth == 2,
+        _ => false,
+    }
+}
+
+/// Whether they are recorded, each with its goal, the element that it used, and its three wishes.
+fn are_recorded(recorded: &[Recorded]) -> bool {
+    match recorded {
+        [top, below] => is_recorded(top, 8, S1, 1) && is_recorded(below, 9, S2, 2),
+        _ => false,
+    }
+}
+
+fn is_recorded(recorded: &Recorded, number: u64, goal: Sym, tag: u32) -> bool {
+    let firing = &recorded.firing;
+    let used = match firing.used.as_slice() {
+        [used] => used.element.tag == tag,
+        _ => false,
+    };
+    let of_goal = match recorded.goal {
+        Some(id) => is_symbol(id, goal),
+        None => false,
+    };
+    firing.number == number && of_goal && used && firing.made.len() == 3 && recorded.operator_kind
+}
+
+/// Whether all that the two firings made is as it should be.
+fn is_fired(alloc: Global) -> Result<bool, Stop> {
+    let fired = fired(alloc)?;
+    Ok(
+        are_rows(fired.rows.as_slice())
+            && are_live(fired.live.as_slice())
+            && are_recorded(fired.recorded.as_slice())
+            && fired.text.as_str() == "33"
+            && !fired.halted,
+    )
+}
+
+#[test]
+fn a_firing_of_the_substate_holds_its_result_as_an_instance(rt: HostRuntime) -> Result<(), Fail> {
+    assert!(rt; is_fired(rt.alloc())?);
+    Ok(())
+}
