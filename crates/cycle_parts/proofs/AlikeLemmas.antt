@@ -1,5 +1,5 @@
 -- A decision is the walk, and then the step that follows from there. It tells of the goals that the walk leaves behind besides, which no line of the first level does.
-use Rattle.std.proofs.Common.{◌≡◌, ◌∙◌, ℕ, ◌+◌, Bool, true, false, not, nat_lt, cond, List, [], ◌∷◌, ◌++◌, filter, length, Option, Some, None, Result, Ok, Err, refl, sym, ap, subst}
+use Rattle.std.proofs.Common.{◌≡◌, ◌∙◌, ℕ, ◌+◌, Bool, true, false, not, nat_lt, cond, List, [], ◌∷◌, ◌++◌, filter, length, Option, Result, Ok, Err, refl, sym, ap, subst}
 use Rattle.soar_sym.specs.Letters.{last_of, with_last}
 use Rattle.soar_sym.specs.declared.symbol.Sym.{Sym}
 use Rattle.soar_sym.specs.declared.symbol.Sym.TheVariants.{Ident}
@@ -15,18 +15,17 @@ use Rattle.defs_soar.specs.Phases.{halting}
 use Rattle.defs_soar.specs.Resettling.{AgentStep, resettled, without_elements}
 use Rattle.defs_soar.specs.Settling.{elements_after, kept_triples}
 use Rattle.defs_soar.specs.Trace.{Written, pieces_of, rendered}
-use Rattle.defs_soar.specs.Trimming.{RemovedGoal, Remains, trimmed, without_goals}
+use Rattle.defs_soar.specs.Trimming.{RemovedGoal, Remains}
 use Rattle.defs_soar.specs.Walk.{Decided, Walked, meets, selects_operator}
 use Rattle.goal_trimming.specs.Held.{Held}
 use Rattle.goal_trimming.proofs.TagLemmas.{removed_apart}
 use Rattle.soar_settle.specs.declared.stop.Stop.{Stop}
 use Rattle.soar_settle.specs.declared.stop.Stop.TheVariants as stop
 use Rattle.wave_parts.specs.Resettles.{resettled_now}
-use Rattle.wave_parts.specs.Seen.{Stepped}
 use Rattle.wave_parts.specs.Stands.{Stands}
 use Rattle.wave_parts.specs.declared.parts.Parts.{Parts as PartsKept}
 use Rattle.cycle_parts.specs.Deciding.{decision_step, impasse_step, limit_step, selection_step, substate_step, walk_of, walked_state}
-use Rattle.cycle_parts.specs.Stepping.{GoesStep, WentStep, step_written}
+use Rattle.cycle_parts.specs.Stepping.{GoesStep, step_written}
 use Rattle.cycle_parts.proofs.EventLemmas.{Each, IsMute, each_filter, said_alone}
 use Rattle.cycle_parts.proofs.QuietLemmas.{settling_mute}
 

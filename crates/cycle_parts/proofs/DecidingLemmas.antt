@@ -1,15 +1,12 @@
 -- The step that follows the walk of a decision: what it settles, and its line.
-use Rattle.std.proofs.Common.{◌≡◌, ◌∙◌, ℕ, nat_lt, Bool, true, false, cond, List, [], ◌∷◌, ◌++◌, length, Result, Ok, Err, IfOk, refl, sym, ap, subst}
-use Rattle.soar_sym.specs.Words.{Texts}
+use Rattle.std.proofs.Common.{◌≡◌, ◌∙◌, ℕ, nat_lt, Bool, cond, List, ◌++◌, length, Result, Ok, Err, IfOk, refl, sym, ap}
 use Rattle.defs_soar.specs.declared.goal.Goal.{Goal}
 use Rattle.defs_soar.specs.declared.goal.Impasse.{Impasse}
 use Rattle.defs_soar.specs.declared.goal.Item.{Item}
 use Rattle.defs_soar.specs.Agents.{Agent}
-use Rattle.defs_soar.specs.Decision.{decided_by, with_decision, without_words}
+use Rattle.defs_soar.specs.Decision.{decided_by, with_decision}
 use Rattle.defs_soar.specs.Events.{Event}
-use Rattle.defs_soar.specs.History.{RecordedFiring}
-use Rattle.defs_soar.specs.Limits.{first_passed}
-use Rattle.defs_soar.specs.Resettling.{AgentStep, resettled}
+use Rattle.defs_soar.specs.Resettling.{resettled}
 use Rattle.defs_soar.specs.Trace.{Written, pieces_of, rendered}
 use Rattle.defs_soar.specs.Walk.{Decided}
 use Rattle.soar_settle.specs.declared.stop.Stop.{Stop}

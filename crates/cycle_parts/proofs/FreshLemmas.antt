@@ -4,7 +4,6 @@ use Rattle.std.specs.Prelude.{slice_index, slice_set}
 use Rattle.soar_sym.specs.Letters.{last_of, with_last}
 use Rattle.soar_sym.specs.declared.symbol.Sym.{Sym}
 use Rattle.soar_sym.specs.declared.symbol.Sym.TheVariants.{Ident}
-use Rattle.defs_soar.specs.declared.goal.Goal.{Goal}
 use Rattle.defs_soar.specs.Agents.{Agent}
 use Rattle.defs_soar.specs.History.{RecordedFiring}
 use Rattle.defs_soar.specs.Limits.{first_passed, identifiers_to}

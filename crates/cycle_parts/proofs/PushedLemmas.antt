@@ -2,7 +2,7 @@
 use Rattle.std.proofs.Common.{◌≡◌, ◌∙◌, ℕ, ◌+◌, ◌<◌, ◌≤◌, ◌==◌, ◌&&◌, Bool, true, false, List, [], ◌∷◌, ◌++◌, drop, length, length-append, Option, Some, None, ◌⊎◌, inl, inr, refl, sym, ap, subst, arith}
 use Rattle.soar_sym.specs.Equality.{symbol_eq}
 use Rattle.soar_sym.specs.Letters.{last_of, with_last}
-use Rattle.soar_sym.specs.Words.{Texts, IsKnown}
+use Rattle.soar_sym.specs.Words.{IsKnown}
 use Rattle.soar_sym.specs.declared.symbol.Sym.{Sym}
 use Rattle.soar_sym.specs.declared.symbol.Sym.TheVariants.{Ident, Int, Word}
 use Rattle.defs_soar.specs.declared.goal.Goal.{Goal}
@@ -20,7 +20,7 @@ use Rattle.learning_laws.specs.LawfulAgents.{IsNumbered}
 use Rattle.soar_fire.specs.Growth.{LettersKeep}
 use Rattle.soar_goals.specs.Known.{AreItemsKnown}
 use Rattle.wave_parts.specs.Remembers.{PastGoalsAreNumbered, Remembers}
-use Rattle.wave_parts.specs.Seen.{AreGoalsKnown, IsGoalKnown, IsSound, agent_of}
+use Rattle.wave_parts.specs.Seen.{IsGoalKnown, IsSound, agent_of}
 use Rattle.wave_parts.specs.Stands.{Stands}
 use Rattle.wave_parts.specs.declared.parts.Parts.{Parts as PartsKept}
 use Rattle.wave_parts.proofs.GrownLemmas.{numbered_later}

@@ -1,6 +1,6 @@
 -- The parts of an agent after the walk of a decision.
-use Rattle.std.proofs.Common.{◌≡◌, ◌∙◌, ℕ, zero, suc, ◌+◌, ◌-◌, ◌≤◌, List, [], ◌∷◌, map, length, Option, Some, None, inl, inr, refl, sym, ap, subst, arith}
-use Rattle.std.specs.Prelude.{take, drop, filter, not, nat_lt}
+use Rattle.std.proofs.Common.{◌≡◌, ◌∙◌, ℕ, zero, suc, ◌+◌, ◌-◌, List, [], ◌∷◌, map, length, Option, Some, None, inl, inr, refl, sym, ap, subst, arith}
+use Rattle.std.specs.Prelude.{take, drop, not}
 use Rattle.std.proofs.lemmas.List.{length-take}
 use Rattle.soar_sym.specs.Words.{Texts, IsKnown}
 use Rattle.soar_sym.specs.declared.symbol.Sym.{Sym}
@@ -17,9 +17,9 @@ use Rattle.defs_soar.specs.Laws.{IsIn}
 use Rattle.defs_soar.specs.Preferences.{is_of_gone, without_firings}
 use Rattle.defs_soar.specs.Standing.{dependencies_from}
 use Rattle.defs_soar.specs.Trimming.{numbers_of}
-use Rattle.defs_soar.specs.Walk.{View, Walked}
+use Rattle.defs_soar.specs.Walk.{View}
 use Rattle.decision_walk.specs.First.{AreFirst}
-use Rattle.decision_walk.specs.Known.{AreSelectionsKnown, IsSelectionKnown, IsWalkKnown}
+use Rattle.decision_walk.specs.Known.{AreSelectionsKnown, IsSelectionKnown}
 use Rattle.decision_walk.specs.Makers.{AreFiringsUpTo, AreMakersUpTo, IsMakerUpTo}
 use Rattle.goal_trimming.specs.declared.live.Live.{Live}
 use Rattle.goal_trimming.specs.Living.{live_above, live_from, live_seen}

@@ -1,5 +1,5 @@
 -- A new label, and what is replied in a session with labels.
-use Rattle.std.proofs.Common.{◌≡◌, ℕ, ◌≤◌, Bool, List, [], ◌∷◌, ◌++◌, map, Option, Some, None, Result, Ok, Err, refl, sym, ap, subst, ◌∙◌, arith}
+use Rattle.std.proofs.Common.{◌≡◌, ℕ, Bool, List, [], ◌∷◌, ◌++◌, map, Option, Some, None, Result, Ok, Err, refl, sym, ap, subst, ◌∙◌, arith}
 use Rattle.std.specs.Prelude.{IsTrue}
 use Rattle.std.proofs.lemmas.Bool.Decides.{nat_tests}
 use Rattle.std.proofs.lemmas.List.{map-append}
@@ -19,7 +19,6 @@ use Rattle.defs_run.specs.Sessions.{Label, Session, Reply, Resolved, label_in, l
 use Rattle.soar_settle.specs.declared.stop.Stop.{Stop}
 use Rattle.soar_settle.specs.declared.stop.Stop.TheVariants as stop
 use Rattle.wave_parts.specs.Seen.{agent_of}
-use Rattle.wave_parts.specs.declared.parts.Parts.{Parts as PartsKept}
 use Rattle.wave_parts.proofs.StandsLemmas.{state_is}
 use Rattle.cycle_parts.specs.Calls.{GivesFresh, fresh_step, next_number}
 use Rattle.soar_cycle.specs.Agents.{AgentSeen}

@@ -1,10 +1,8 @@
-use Rattle.std.proofs.Common.{◌≡◌, ◌∙◌, Bool, false, true, Some, length, nat_lt, ap, subst, sym, arith}
-use Rattle.defs_soar.specs.Agents.{Agent}
+use Rattle.std.proofs.Common.{◌≡◌, ◌∙◌, false, true, Some, length, nat_lt, ap, subst, sym, arith}
 use Rattle.defs_soar.specs.Decision.{decided_by}
 use Rattle.defs_soar.specs.Resettling.{AgentStep}
-use Rattle.defs_soar.specs.Walk.{Decided, meets, selects_operator}
+use Rattle.defs_soar.specs.Walk.{meets, selects_operator}
 use Rattle.decision_walk.specs.Ends.{decided_seen}
-use Rattle.wave_parts.specs.Stands.{Stands}
 use Rattle.cycle_parts.specs.Stepping.{GoesStep}
 use Rattle.cycle_parts.proofs.DecidingLemmas.{answer_of, decides, decides_halt, impasse_is}
 use Rattle.cycle_parts.proofs.SubstateLemmas.{selection_goes_on, substate_goes_on}
