@@ -1,0 +1,5 @@
+//! Tests of the generator.
+#![tactic(auto)]
+
+#[cfg(test)]
+mod tests;
