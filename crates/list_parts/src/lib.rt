@@ -1,0 +1,19 @@
+//! What commands that look at an agent list: preferences, productions, elements, matches and counts, as lines of text.
+#![tactic(auto)]
+
+mod elements;
+mod line;
+mod matches;
+mod order;
+mod preferences;
+mod rules;
+mod stats;
+mod texts;
+mod wish;
+
+pub use elements::list_elements;
+pub use matches::list_matches_of;
+pub use preferences::list_preferences;
+pub use rules::list_rules;
+pub use stats::{Stats, say_stats};
+pub use wish::show_wish;

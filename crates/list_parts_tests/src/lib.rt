@@ -1,0 +1,5 @@
+//! Tests of the lists of an agent.
+#![tactic(auto)]
+
+#[cfg(test)]
+mod tests;
