@@ -1,8 +1,7 @@
 // The instances of one production.
-ghost use Rattle.std.specs.Prelude.{◌≡◌, ◌++◌, ◌==◌, false, filter, map, OnErr, OnOk};
+ghost use Rattle.std.specs.Prelude.{◌≡◌, ◌++◌, ◌==◌, false, map, OnErr, OnOk};
 ghost use Rattle.std.specs.List.{list_any};
 ghost use Rattle.soar_sym.specs.Words.{IsKnown};
-ghost use Rattle.defs_text.specs.Symbols.{instance_text};
 ghost use Rattle.defs_match.specs.Rules.{rule_seen};
 ghost use Rattle.defs_soar.specs.Agents.{Agent};
 ghost use Rattle.defs_soar.specs.Trace.{line_text};
