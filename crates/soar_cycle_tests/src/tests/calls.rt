@@ -1,0 +1,62 @@
+// The calls of a session, and waves for a rule.
+ghost use Rattle.soar_cycle.specs.Agents.{IsSoundAgent};
+
+use super::parts::{input, production};
+use super::steps::goes_down;
+use match_direct::Direct;
+use soar_cycle::{Agent, Phase, Stop, Waved};
+use soar_sym::{Sym, Text, is_symbol};
+use std::alloc::Global;
+
+/// Whether the calls of a session give what they should, a rule fires, and decisions make substates.
+pub fn takes_calls(alloc: Global, agent: &mut Agent<Direct>) -> Result<bool, Stop>
+    requires { IsSoundAgent agent.old }
+{
+    Ok(
+        takes_inputs(agent)?
+            && loads(alloc, agent)?
+            && fires_once(alloc, agent)?
+            && goes_down(alloc, agent)?,
+    )
+}
+
+/// Whether the first identifier of a letter is given, one input is there at once, and another that is queued is not.
+fn takes_inputs(agent: &mut Agent<Direct>) -> Result<bool, Stop>
+    requires { IsSoundAgent agent.old }
+    ensures { IsSoundAgent agent.new }
+{
+    let given = agent.fresh(b'Q')?;
+    agent.queue(true, input(1))?;
+    agent.input_now(true, input(2))?;
+    let first = Sym::Ident {
+        letter: b'Q',
+        number: 1,
+    };
+    let memory = agent.memory();
+    Ok(
+        is_symbol(given, first)
+            && memory.find(input(1)).is_none()
+            && memory.find(input(2)) == Some(6),
+    )
+}
+
+/// Whether a rule without conditions has one instance.
+fn loads(alloc: Global, agent: &mut Agent<Direct>) -> Result<bool, Stop>
+    requires { IsSoundAgent agent.old }
+    ensures { IsSoundAgent agent.new }
+{
+    agent.load(production(alloc))?;
+    let instances = agent.conflict()?;
+    Ok(instances.len() == 1)
+}
+
+/// Whether there is a wave to do, and then none.
+fn fires_once(alloc: Global, agent: &mut Agent<Direct>) -> Result<bool, Stop>
+    requires { IsSoundAgent agent.old }
+    ensures { IsSoundAgent agent.new }
+{
+    let mut out = Text::new(alloc);
+    let first = agent.wave(Phase::Proposal, &mut out)?;
+    let second = agent.wave(Phase::Application, &mut out)?;
+    Ok(first == Waved::Went && second == Waved::Rest && out.as_str().is_empty())
+}
