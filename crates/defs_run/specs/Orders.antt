@@ -52,9 +52,6 @@ unfinished_command = refusal 11 (codes "unfinished command")
 abbrev pub unknown_command : Refusal
 unknown_command = refusal 10 (codes "unknown command")
 
-abbrev pub not_built : Refusal
-not_built = refusal 18 (codes "not built")
-
 abbrev pub at_byte : ℕ → List ℕ → ℕ → Refusal
 at_byte number text place = refusal number (text ++ (codes " at byte " ++ decimal place))
 

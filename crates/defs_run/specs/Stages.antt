@@ -15,4 +15,3 @@ pub record Stage : Type 0 where
   pub cuts : Bool → List ℕ → List Cut  -- of a stream that ends, or of the front of one
   pub read : Texts → List ℕ → Reading
   pub run : ℕ → Agent → Course
-  pub takes_words : Bool  -- whether the command line may have words

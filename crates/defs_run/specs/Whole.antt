@@ -1,5 +1,5 @@
 -- The whole program, once all commands are built.
-use Rattle.std.specs.Prelude.{ℕ, true, List}
+use Rattle.std.specs.Prelude.{ℕ, List}
 use Rattle.soar_edge.specs.Cutting.{cuts_of}
 use Rattle.soar_edge.specs.declared.filed.Filed.{Filed}
 use Rattle.defs_soar.specs.Cycle.{run}
@@ -10,7 +10,7 @@ use Rattle.defs_run.specs.Transcripts.{Transcript, transcript_at}
 use Rattle.defs_run.specs.WholeReading.{read_whole}
 
 abbrev pub whole_stage : Stage
-whole_stage = record { cuts = cuts_of; read = read_whole; run = run decided_by with_learning; takes_words = true }
+whole_stage = record { cuts = cuts_of; read = read_whole; run = run decided_by with_learning }
 
 -- the words of the command line, the files by name, and the input
 unfoldable pub whole_transcript : List (List ℕ) → List Filed → List ℕ → Transcript

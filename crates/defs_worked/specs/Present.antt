@@ -15,11 +15,17 @@ MadeAndGone =
     (codes "1:   ==>S: S2 (state no-change)\n3: (S1 ^io I1)\n4: (S1 ^superstate nil)\n5: (S1 ^type state)\n6: (S1 ^a 1)\n7: (S1 ^b 1)\n2:     ==>S: S3 (state no-change)\n3: (S1 ^io I1)\n4: (S1 ^superstate nil)\n5: (S1 ^type state)\n")
     status.Done
 
--- what is not built yet, and elements that are not there or no inputs
-abbrev pub NotBuiltYet : Type 0
-NotBuiltYet =
+-- words of no form, a production that was taken away, and elements that are not there or no inputs
+abbrev pub WrongWordsNow : Type 0
+WrongWordsNow =
     WritesNow (codes "add-wme S1 ^<a> x\nsp {n (state <s> ^a 1) --> (halt)}\nexcise n\nprint n\nprint Q9\nremove-wme 5\nremove-wme 99\nrun 0\nadd-wme S1 ^a 1\nadd-wme S1 ^a 1\n")
-    (codes "error 18 -:1: not built\nerror 10 -:3: unknown command\nsp {n\n    (state <s> ^a 1)\n    -->\n    (halt)\n}\nerror 31 -:5: unknown identifier Q9\nerror 34 -:6: not an input element 5\nerror 33 -:7: no element 99\nerror 18 -:8: not built\nerror 35 -:10: already there as 6\n") status.Refusals
+    (codes "error 30 -:1: wrong words\nerror 32 -:4: no production n\nerror 31 -:5: unknown identifier Q9\nerror 34 -:6: not an input element 5\nerror 33 -:7: no element 99\nerror 30 -:8: wrong words\nerror 35 -:10: already there as 6\n") status.Refusals
+
+-- what belongs to learning is unknown, in its own form alone
+abbrev pub LearningNow : Type 0
+LearningNow =
+    WritesNow (codes "chunk always\nchunk never\nexplain p\nprint --chunks\nprint --chunks now\nexplain S1\nchunk allow-local-negations on\n")
+    (codes "error 10 -:1: unknown command\nerror 10 -:2: unknown command\nerror 10 -:3: unknown command\nerror 10 -:4: unknown command\nerror 30 -:5: wrong words\nerror 30 -:6: wrong words\n") status.Refusals
 
 -- ---- reading and matching
 
@@ -42,11 +48,11 @@ Joined =
     WritesNow (codes " \nsp {j (state <s> ^a <x>) (<s> ^b <x>) --> (<s> ^c <y>) (<y> ^d 1)}\nadd-wme S1 ^b 2\nadd-wme S1 ^a 2\nadd-wme S1 ^a 1\nadd-wme S1 ^b 1\nadd-wme S1 ^b |2|\nmatches\n")
     (codes "j: 7 6\nj: 8 9\n") status.Done
 
--- what is not built: more behind; and an unconnected group, a proposal, a comment, a float, an open brace
+-- a name that is not loaded; an unconnected group, a proposal, a comment, a float, an open brace
 abbrev pub Forms : Type 0
 Forms =
     WritesNow (codes "sp {a (state <s> ^a 1) (<t> ^b 2) --> }\nsp {a (state <s> ^a 1) --> (<s> ^operator 1)}\nmatches #\nmatches now\nadd-wme S1 ^a 1.5\nadd-wme S1 ^a S1 1\nadd-wme S1 ^a |S1|\nmatches{\nsp")
-    (codes "error 22 -:1: unconnected condition 2\nno matches\nerror 18 -:4: not built\nerror 13 -:5: floating-point number at byte 14\nerror 18 -:6: not built\nerror 11 -:8: unfinished command\n") status.Refusals
+    (codes "error 22 -:1: unconnected condition 2\nno matches\nerror 32 -:4: no production now\nerror 13 -:5: floating-point number at byte 14\nerror 30 -:6: wrong words\nerror 11 -:8: unfinished command\n") status.Refusals
 
 -- an arrow is missing, and a number is too wide
 abbrev pub Syntax : Type 0
@@ -92,9 +98,15 @@ InMatchOrder =
     WritesNow (codes "sp {o (<x> ^b > <y>) -{(<y> ^d <z>) (<x> ^c <z>)} (<s> ^a <x>) (state <s> ^n <y>) --> (<s> ^ok <x>)}\nprint o\n")
     (codes "sp {o\n    (state <s> ^n <y>)\n    (<s> ^a <x>)\n    (<x> ^b > <y>)\n    -{(<y> ^d <z>) (<x> ^c <z>)}\n    -->\n    (<s> ^ok <x> +)\n}\n") status.Done
 
--- no word of the command line is taken
-abbrev pub WordsGiven : Type 0
-WordsGiven = present_transcript (codes "a" ∷ []) [] (codes "matches\n") ≡ record { text = codes "usage: soar_app [--watch N] [--generate N] [FILE]...\n"; status = status.Usage }
+-- a file of the command line that is not there, and then the input
+abbrev pub FileMissingNow : Type 0
+FileMissingNow = present_transcript (codes "a" ∷ []) [] (codes "matches\n") ≡ record { text = codes "error 40 -:0: no file a\nno matches\n"; status = status.Refusals }
+
+-- a file that is sourced, and quits
+abbrev pub QuitInFileNow : Type 0
+QuitInFileNow =
+    present_transcript [] (record { name = codes "b c"; bytes = codes "print Q7\nquit\nmatches\n" } ∷ []) (codes "source b c # there\nmatches\n")
+    ≡ record { text = codes "error 31 b c:1: unknown identifier Q7\n"; status = status.Refusals }
 
 -- ---- operators, input and output
 
@@ -122,7 +134,7 @@ abbrev pub QueuedNow : Type 0
 QueuedNow =
     WritesNow
     (codes "input add S1 ^a <n>\ninput add <n> ^b 1\ninput remove <n> ^b 1\nprint S1\nrun 1\nprint S1\nprint <n>\ninput add S1 ^operator x\ninput add S1 ^a Q1\ninput add S1\nrandom\nrandom 18446744073709551615\nrandom 18446744073709551616\nrandom -1\n")
-    (codes "3: (S1 ^io I1)\n4: (S1 ^superstate nil)\n5: (S1 ^type state)\n1:   ==>S: S2 (state no-change)\n3: (S1 ^io I1)\n4: (S1 ^superstate nil)\n5: (S1 ^type state)\n6: (S1 ^a N1)\nno elements\nerror 36 -:8: reserved attribute\nerror 31 -:9: unknown identifier Q1\nerror 18 -:10: not built\nerror 18 -:11: not built\nerror 14 -:13: number too wide at byte 7\nerror 18 -:14: not built\n")
+    (codes "3: (S1 ^io I1)\n4: (S1 ^superstate nil)\n5: (S1 ^type state)\n1:   ==>S: S2 (state no-change)\n3: (S1 ^io I1)\n4: (S1 ^superstate nil)\n5: (S1 ^type state)\n6: (S1 ^a N1)\nno elements\nerror 36 -:8: reserved attribute\nerror 31 -:9: unknown identifier Q1\nerror 30 -:10: wrong words\nerror 30 -:11: wrong words\nerror 14 -:13: number too wide at byte 7\nerror 30 -:14: wrong words\n")
     status.Refusals
 
 -- ---- impasses and substates

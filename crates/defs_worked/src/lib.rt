@@ -87,7 +87,8 @@ pub fn worked_learning()
 /// The program at its present stage: whole runs that were worked out by hand.
 pub fn worked_present()
     ensures made_and_gone { present.MadeAndGone }
-    ensures not_built_yet { present.NotBuiltYet }
+    ensures wrong_words { present.WrongWordsNow }
+    ensures learning { present.LearningNow }
     ensures empty_input { present.EmptyInput }
     ensures one_element_twice { present.OneElementTwice }
     ensures replaced_and_barred { present.ReplacedAndBarred }
@@ -100,7 +101,8 @@ pub fn worked_present()
     ensures refused { present.RefusedNow }
     ensures labelled { present.Labelled }
     ensures in_match_order { present.InMatchOrder }
-    ensures words_given { present.WordsGiven }
+    ensures file_missing { present.FileMissingNow }
+    ensures quit_in_file { present.QuitInFileNow }
     ensures counted { present.CountedNow }
     ensures shown { present.ShownNow }
     ensures halted { present.HaltedNow }

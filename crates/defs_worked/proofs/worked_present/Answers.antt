@@ -6,9 +6,13 @@ pub returns-clause-made_and_gone : goal.returns-clause-made_and_gone
 unfolding computing
 returns-clause-made_and_gone c = refl
 
-pub returns-clause-not_built_yet : goal.returns-clause-not_built_yet
+pub returns-clause-wrong_words : goal.returns-clause-wrong_words
 unfolding computing
-returns-clause-not_built_yet c = refl
+returns-clause-wrong_words c = refl
+
+pub returns-clause-learning : goal.returns-clause-learning
+unfolding computing
+returns-clause-learning c = refl
 
 pub returns-clause-one_element_twice : goal.returns-clause-one_element_twice
 unfolding computing
@@ -30,9 +34,13 @@ pub returns-clause-empty_input : goal.returns-clause-empty_input
 unfolding computing
 returns-clause-empty_input c = refl
 
-pub returns-clause-words_given : goal.returns-clause-words_given
+pub returns-clause-file_missing : goal.returns-clause-file_missing
 unfolding computing
-returns-clause-words_given c = refl
+returns-clause-file_missing c = refl
+
+pub returns-clause-quit_in_file : goal.returns-clause-quit_in_file
+unfolding computing
+returns-clause-quit_in_file c = refl
 
 pub returns-clause-syntax : goal.returns-clause-syntax
 unfolding computing
