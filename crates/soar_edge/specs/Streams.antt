@@ -1,4 +1,4 @@
--- A source and a sink over std's readers and writers, as contracts see them.
+-- A source, a sink and a shelf over std's readers, writers and files, as contracts see them.
 use Rattle.std.specs.Prelude.{ℕ, List, Option}
 
 -- the bytes that the reader has left, where std knows them, and how many faults there were
@@ -9,4 +9,8 @@ pub record ReaderState : Type 0 where
 -- the bytes that the writer holds, where std knows them, and how many faults there were
 pub record WriterState : Type 0 where
   pub written : Option (List ℕ)
+  pub faults : ℕ
+
+-- how many faults a shelf over files had
+pub record FolderState : Type 0 where
   pub faults : ℕ

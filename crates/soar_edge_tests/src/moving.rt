@@ -2,11 +2,12 @@
 ghost use Rattle.std.specs.Prelude.{◌<◌};
 
 use soar_edge::{
-    Failed, Fetch, Filed, FineShelf, FineSink, FineSource, MemShelf, MemSink, MemSource, PutFault,
-    Shelf, Sink, Source, Status, StdSink, StdSource, put_all,
+    DirShelf, Failed, Fetch, Filed, FineShelf, FineSink, FineSource, MemShelf, MemSink, MemSource,
+    PutFault, Shelf, Sink, Source, Status, StdSink, StdSource, put_all,
 };
 use soar_sym::{List, NoMemory, Text};
 use std::alloc::Global;
+use std::fs;
 use std::io::{Error, ErrorKind, Read, Result as IoResult};
 use std::test::Fail;
 
@@ -134,6 +135,27 @@ fn refuses<S: Shelf>(shelf: &mut S, alloc: Global, name: &str, why: Fetch) -> bo
         Ok(_) => false,
         Err(fault) => fault == why,
     }
+}
+
+/// A file of the folder that the test runs in.
+const PATH: &str = "soar_edge_tests.soar";
+
+#[test]
+fn a_file_of_the_system_is_fetched(rt: HostRuntime) -> Result<(), Fail> {
+    fs::write(&rt, PATH, b"sp".as_slice())?;
+    let mut shelf = DirShelf::new(&rt);
+    let fetched = gives(&mut shelf, rt.alloc(), PATH)
+        && refuses(&mut shelf, rt.alloc(), ".", Fetch::Failed)
+        && refuses(
+            &mut shelf,
+            rt.alloc(),
+            "soar_edge_tests.soa",
+            Fetch::Missing,
+        )
+        && refuses(&mut shelf, rt.alloc(), "/dev/zero", Fetch::TooLong);
+    fs::remove_file(&rt, PATH)?;
+    assert!(rt; fetched);
+    Ok(())
 }
 
 #[test]
