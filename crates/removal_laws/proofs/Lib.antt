@@ -1,0 +1,4 @@
+pub mod OrderLemmas
+pub mod AloneLemmas
+pub mod NestedLemmas
+pub mod ApartLemmas
