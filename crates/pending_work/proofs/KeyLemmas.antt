@@ -13,6 +13,7 @@ use Rattle.defs_match.specs.declared.instance.Instance.{Instance}
 use Rattle.defs_soar.specs.declared.goal.Goal.{Goal}
 use Rattle.defs_soar.specs.Agents.{LiveFiring}
 use Rattle.defs_soar.specs.Pending.{firable_of, instance_eq, is_justification, is_listed, is_of_operator_kind, tags_eq}
+use Rattle.goal_trimming.specs.declared.live.Live.{Live}
 use Rattle.pending_work.specs.Candidates.{fires_by, fires_now, rule_numbered}
 use Rattle.pending_work.specs.Keys.{Key, TellsLive, fires_but, fires_by_but, has_key, key_eq}
 
@@ -120,6 +121,6 @@ ready_agree proposing rules elements goals live keys tells instances =
 -- ---- what matches no more
 
 pub gone_agree : (instances : List Instance) (keys : List Key) → ((i : Instance) → has_key keys i ≡ is_listed instances i)
-    → (live : List LiveFiring) → filter (λ l. not (has_key keys l.instance)) live ≡ filter (λ l. not (is_listed instances l.instance)) live
+    → (live : List Live) → filter (λ l. not (has_key keys l.instance)) live ≡ filter (λ l. not (is_listed instances l.instance)) live
 gone_agree instances keys tells live =
     filter_agree (λ l. not (has_key keys l.instance)) (λ l. not (is_listed instances l.instance)) (λ l. ap not (tells l.instance)) live

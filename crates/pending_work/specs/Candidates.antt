@@ -1,4 +1,4 @@
--- Whether an instance may fire by the rule of its number, and what is kept of a firing to retract.
+-- Whether an instance may fire by the rule of its number.
 use Rattle.std.specs.Prelude.{ℕ, Bool, false, List, [], ◌∷◌, Option, Some, None, if◌then◌else◌}
 use Rattle.soar_wm.specs.declared.element.Element.{Element}
 use Rattle.defs_match.specs.Contents.{is_numbered}
@@ -7,10 +7,6 @@ use Rattle.defs_match.specs.declared.instance.Instance.{Instance}
 use Rattle.defs_soar.specs.declared.goal.Goal.{Goal}
 use Rattle.defs_soar.specs.Agents.{LiveFiring}
 use Rattle.defs_soar.specs.Pending.{firable_of, may_fire}
-use Rattle.pending_work.specs.declared.candidates.Gone.{Gone}
-
-abbrev pub gone_of : LiveFiring → Gone
-gone_of l = record { number = l.number; depth = l.depth }
 
 -- the first rule of a number
 abbrev pub rule_numbered : ℕ → List RuleOf → Option RuleOf

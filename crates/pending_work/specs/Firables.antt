@@ -6,6 +6,7 @@ use Rattle.defs_match.specs.Contents.{is_numbered}
 use Rattle.defs_match.specs.Rules.{RuleOf}
 use Rattle.defs_match.specs.declared.instance.Instance.{Instance}
 use Rattle.defs_soar.specs.Pending.{Firable, Work as WorkOf, firable_of}
+use Rattle.goal_trimming.specs.Living.{live_seen}
 use Rattle.pending_work.specs.declared.work.Work.{Work}
 
 -- each number is below all that come after it
@@ -25,9 +26,9 @@ rules_of rules number = filter (is_numbered number) rules
 abbrev pub firables_for : List RuleOf → List Element → Instance → List Firable
 firables_for rules elements i = map (λ rule. firable_of elements rule i) (rules_of rules i.rule)
 
--- the numbers of what is to be retracted, and the instances of what is to be fired
+-- what is to be retracted as it is listed, and the instances of what is to be fired
 pub record IsPending (rules : List RuleOf) (elements : List Element) (work : Work) (w : WorkOf) : Type 0 where
-  pub retracted_are : work.retracted ≡ map (λ l. l.number) w.retracted
+  pub retracted_are : map live_seen work.retracted ≡ w.retracted
   pub fired_are : flat_map (firables_for rules elements) work.fired ≡ w.fired
 
 -- one symbol for each variable that the rule's conditions bind

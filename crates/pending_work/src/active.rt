@@ -3,10 +3,10 @@ ghost use Rattle.std.specs.Prelude.{◌≡◌, ◌==◌, ◌++◌, map, filter, 
 ghost use Rattle.defs_soar.specs.Pending.{least};
 ghost use Rattle.pending_work.specs.Active.{active_of, depth_at, lesser, least_from};
 
-use crate::candidates::Gone;
 use crate::work::Work;
 use defs_match::Instance;
 use defs_soar::Goal;
+use goal_trimming::Live;
 use soar_levels::match_depth;
 use soar_sym::{List, NoMemory};
 use soar_wm::Memory;
@@ -17,25 +17,25 @@ pub fn of_active_level(
     alloc: Global,
     goals: &[Goal],
     memory: &Memory,
-    gone: &[Gone],
+    gone: List<Live>,
     instances: List<Instance>,
 ) -> Result<Work, NoMemory>
-    ensures { IfOk result (λ work. work ≡ active_of goals.now memory.now.elements gone.now instances) }
+    ensures { IfOk result (λ work. work ≡ active_of goals.now memory.now.elements gone instances) }
 {
-    let level = active_level(goals, memory, gone, instances.as_slice());
-    let retracted = numbers_at(alloc, level, gone)?;
+    let level = active_level(goals, memory, gone.as_slice(), instances.as_slice());
+    let retracted = firings_at(alloc, level, gone)?;
     let fired = instances_at(alloc, level, goals, memory, instances)?;
     Ok(Work { retracted, fired })
 }
 
 /// The least depth of any of these, and 0 where there are none.
-fn active_level(goals: &[Goal], memory: &Memory, gone: &[Gone], instances: &[Instance]) -> usize
+fn active_level(goals: &[Goal], memory: &Memory, gone: &[Live], instances: &[Instance]) -> usize
     ensures { result ≡ least (map (λ g. g.depth) gone.now ++ map (depth_at goals.now memory.now.elements) instances.now) }
 {
     least_of_instances(goals, memory, instances, least_of_gone(gone)).unwrap_or(0)
 }
 
-fn least_of_gone(gone: &[Gone]) -> Option<usize>
+fn least_of_gone(gone: &[Live]) -> Option<usize>
     ensures { result ≡ least_from None (map (λ g. g.depth) gone.now) }
 {
     let mut least = None;
@@ -70,17 +70,17 @@ fn lesser(least: Option<usize>, depth: usize) -> usize
     }
 }
 
-/// The numbers of the firings of a depth.
-fn numbers_at(alloc: Global, level: usize, gone: &[Gone]) -> Result<List<u64>, NoMemory>
-    ensures { IfOk result (λ numbers. numbers ≡ map (λ g. g.number) (filter (λ g. g.depth == level) gone.now)) }
+/// The firings of a depth, in order.
+fn firings_at(alloc: Global, level: usize, gone: List<Live>) -> Result<List<Live>, NoMemory>
+    ensures { IfOk result (λ at. at ≡ filter (λ g. g.depth == level) gone) }
 {
-    let mut numbers = List::new(alloc);
-    'gone: for one in gone {
+    let mut at = List::new(alloc);
+    'gone: for one in gone.into_vec() {
         if one.depth == level {
-            numbers.push(one.number)?;
+            at.push(one)?;
         }
     }
-    Ok(numbers)
+    Ok(at)
 }
 
 /// The instances of a depth, in order.

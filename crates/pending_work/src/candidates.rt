@@ -4,9 +4,8 @@ ghost use Rattle.std.specs.Option.{option_copied, option_map};
 ghost use Rattle.soar_rule.specs.Variables.{bound_variables};
 ghost use Rattle.defs_match.specs.Rules.{rule_seen};
 ghost use Rattle.defs_soar.specs.Pending.{firable_of, is_justification};
-ghost use Rattle.pending_work.specs.Candidates.{gone_of, rule_numbered};
+ghost use Rattle.pending_work.specs.Candidates.{rule_numbered};
 ghost use Rattle.pending_work.specs.Firables.{AreBound, IsInstance};
-ghost use Rattle.goal_trimming.specs.Living.{live_seen};
 ghost use Rattle.pending_work.specs.Keys.{fires_but, has_key, may_fire_but};
 
 use crate::instances::InstanceSet;
@@ -19,31 +18,37 @@ use soar_sym::{List, NoMemory};
 use soar_wm::Memory;
 use std::alloc::Global;
 
-/// A firing to retract: its number, and the depth of its match goal.
-#[derive(Clone, Copy)]
-pub struct Gone {
-    pub number: u64,
-    pub depth: usize,
-}
-
-/// The live firings whose instances are not among these.
+/// Copies of the live firings whose instances are not among these.
 pub fn unmatched(
     alloc: Global,
     live: &[Live],
     instances: &InstanceSet,
-) -> Result<List<Gone>, NoMemory>
-    ensures { IfOk result (λ gone. gone ≡ map gone_of (filter (λ l. not (has_key instances.now l.instance)) (map live_seen live.now))) }
+) -> Result<List<Live>, NoMemory>
+    ensures { IfOk result (λ gone. gone ≡ filter (λ l. not (has_key instances.now l.instance)) live.now) }
 {
     let mut gone = List::new(alloc);
     'live: for firing in live {
         if !instances.has(&firing.instance)? {
-            gone.push(Gone {
-                number: firing.number,
-                depth: firing.depth,
-            })?;
+            gone.push(copy_of(alloc, firing)?)?;
         }
     }
     Ok(gone)
+}
+
+fn copy_of(alloc: Global, firing: &Live) -> Result<Live, NoMemory>
+    ensures { IfOk result (λ copy. copy ≡ firing.now) }
+{
+    let instance = Instance {
+        rule: firing.instance.rule,
+        tags: List::from_slice(alloc, firing.instance.tags.as_slice())?,
+        binds: List::from_slice(alloc, firing.instance.binds.as_slice())?,
+    };
+    Ok(Live {
+        number: firing.number,
+        name: firing.name,
+        depth: firing.depth,
+        instance,
+    })
 }
 
 /// The instances among these that may fire, in order.

@@ -18,10 +18,10 @@ use soar_sym::{List, NoMemory};
 use soar_wm::Memory;
 use std::alloc::Global;
 
-/// The work of a wave: the numbers of the firings to retract, and the instances to fire, by rule and by tags.
+/// The work of a wave: the firings to retract as they are listed, and the instances to fire, by rule and by tags.
 #[derive(Drop)]
 pub struct Work {
-    pub retracted: List<u64>,
+    pub retracted: List<Live>,
     pub fired: List<Instance>,
 }
 
@@ -59,5 +59,5 @@ pub fn pending(
     let gone = unmatched(alloc, live, &matched)?;
     let living = InstanceSet::of_live(alloc, live)?;
     let ready = ready(alloc, proposing, rules, memory, goals, &living, instances)?;
-    of_active_level(alloc, goals.as_slice(), memory, gone.as_slice(), ready)
+    of_active_level(alloc, goals.as_slice(), memory, gone, ready)
 }

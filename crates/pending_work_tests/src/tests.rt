@@ -50,9 +50,23 @@ fn is_pending(
 }
 
 fn is_work(work: &Work, retracted: &[u64], fired: &[(u64, u32)]) -> bool {
-    work.retracted.as_slice() == retracted
+    retracts(work, retracted)
         && fires(work, fired)
         && work.is_nothing() == (retracted.is_empty() && fired.is_empty())
+}
+
+/// Whether the firings of these numbers are retracted, in order.
+fn retracts(work: &Work, numbers: &[u64]) -> bool {
+    let retracted = work.retracted.as_slice();
+    if retracted.len() != numbers.len() {
+        return false;
+    }
+    for (firing, number) in retracted.iter().zip(numbers) {
+        if firing.number != *number {
+            return false;
+        }
+    }
+    true
 }
 
 /// Whether the instances of these rules and tags fire, in order.

@@ -25,19 +25,13 @@ use Rattle.defs_soar.specs.WaveFirings.{with_firing, with_firings, made_in, firi
 use Rattle.defs_soar.specs.Waves.{held_row, rows_of_fresh, live_of}
 use Rattle.firing_records.specs.Recorded.{Standing, fresh_seen}
 use Rattle.pending_work.specs.Firables.{firables_for}
-use Rattle.wave_firings.specs.FiresAll.{Begins, FiresAll, texts_of_fresh}
-use Rattle.wave_firings.specs.Rows.{Against, against, row_made}
+use Rattle.wave_firings.specs.FiresAll.{Begins, FiresAll}
+use Rattle.wave_firings.specs.Rows.{against, row_made}
 use Rattle.wave_firings.specs.FiringOutcome.{Gathered, gathered, nothing_fired, Outcome, reached, stopped, then_on, within_limits, rows_made, with_made, next_outcome, firings_outcome, instances_outcome, Leaves}
 use Rattle.wave_firings.specs.declared.firing.Fired.{Fired}
+use Rattle.wave_firings.proofs.ToldLemmas.{against_wave, told_next, told_unlearned}
 use Rattle.soar_settle.specs.declared.stop.Stop.{Stop}
 use Rattle.soar_settle.specs.declared.stop.Stop.TheVariants as stop
-
-abbrev text_of_fresh : Fresh → List ℕ
-text_of_fresh x = x.text
-
--- what firings are held against at a moment
-abbrev pub against_wave : BeforeWave → Against
-against_wave m = record { reach = m.reach; rows = m.rows; elements = m.elements }
 
 -- the rows that these firings hold themselves where nothing is learned
 abbrev pub rows_unlearned : BeforeWave → List Entry → List Preference
@@ -52,7 +46,7 @@ front m w = record {
   rows = rows_unlearned m w.entries;
   live = map live_of (all_fresh w.entries);
   recorded = map fresh_seen (all_fresh w.entries);
-  text = texts_of_fresh (all_fresh w.entries);
+  told = told_unlearned m w.entries;
   halted = w.halted;
 }
 
@@ -147,11 +141,10 @@ same_front m w f =
     let x = fresh_firing m (firing_of_work m w f (made_in w m f)) (is_of_operator_kind m.reach.goals f) (made_in w m f) in
     rw (
       ← rows_next m w f,
+      ← told_next m w f,
       fresh_push w.entries x,
       map-append live_of (all_fresh w.entries) (x ∷ []),
       map-append fresh_seen (all_fresh w.entries) (x ∷ []),
-      flat_map-append text_of_fresh (all_fresh w.entries) (x ∷ []),
-      append-nil (made_in w m f).text,
     ) refl
 
 agrees_by : (m : BeforeWave) (over : Bool) (passed : Option Which) (g : Gathered) (w : Wave) → g ≡ front m w
@@ -209,7 +202,7 @@ module _ (words : Texts) (letters : List ℕ) (s : Standing) (last : ℕ) where
         rows_are = ap (λ g. g.rows) same.0;
         live_are = ap (λ g. g.live) same.0;
         recorded_are = ap (λ g. g.recorded) same.0;
-        text_is = ap (λ g. g.text) same.0;
+        told_are = ap (λ g. g.told) same.0;
         halted_is = ap (λ g. g.halted) same.0;
         within = same.1;
       }

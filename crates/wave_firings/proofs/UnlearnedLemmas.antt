@@ -11,7 +11,6 @@ use Rattle.defs_soar.specs.Results.{is_result}
 use Rattle.defs_soar.specs.WaveAtHand.{SupportedWish, BeforeWave, Wave, Fresh, Entry, fired, noted, all_fresh, fresh_of}
 use Rattle.defs_soar.specs.Waves.{live_of}
 use Rattle.firing_records.specs.Recorded.{fresh_seen}
-use Rattle.wave_firings.specs.FiresAll.{texts_of_fresh}
 use Rattle.wave_firings.specs.FiringOutcome.{rows_made}
 use Rattle.wave_firings.specs.Rows.{Against}
 
@@ -34,19 +33,6 @@ module _ (m : BeforeWave) where
       by true later = ap₂ (λ y ys. y ∷ ys) (h x wishes) later
       by false later = ap (λ ys. g x ∷ ys) later
 
-  same_texts : (entries : List Entry) → texts_of_fresh (all_fresh (unlearned entries)) ≡ texts_of_fresh (all_fresh entries)
-  same_texts [] = refl
-  same_texts (noted learning_event ∷ entries) = same_texts entries
-  same_texts (fired x ∷ entries) = by (nat_lt 1 x.firing.depth) (same_texts entries)
-    where
-      wishes : List SupportedWish
-      wishes = map (with_support_by (is_result m.reach x.firing.depth) by_instance) x.wishes
-
-      by : (below : Bool) → texts_of_fresh (all_fresh (unlearned entries)) ≡ texts_of_fresh (all_fresh entries)
-          → texts_of_fresh (fresh_of (if below then fired (record x { wishes = wishes }) else fired x) ++ all_fresh (unlearned entries)) ≡ x.text ++ texts_of_fresh (all_fresh entries)
-      by true later = ap (λ text. x.text ++ text) later
-      by false later = ap (λ text. x.text ++ text) later
-
 -- all of the wave but its entries and what it would learn from
 pub record KeepsWave (old new : Wave) : Type 0 where
   pub names_are : new.names ≡ old.names
@@ -67,10 +53,6 @@ unlearned_live m w = same_each m live_of (λ x wishes. refl) w.entries
 pub unlearned_recorded : (m : BeforeWave) (w : Wave) → map fresh_seen (all_fresh (without_learning m w).entries) ≡ map fresh_seen (all_fresh w.entries)
 unfolding without_learning
 unlearned_recorded m w = same_each m fresh_seen (λ x wishes. refl) w.entries
-
-pub unlearned_texts : (m : BeforeWave) (w : Wave) → texts_of_fresh (all_fresh (without_learning m w).entries) ≡ texts_of_fresh (all_fresh w.entries)
-unfolding without_learning
-unlearned_texts m w = same_texts m w.entries
 
 -- the rows of a firing have its wishes, whatever their support
 pub wishes_of_rows : (a : Against) (f : Firable) (number : ℕ) (wishes : List Wish) → map (λ (row : Preference). row.wish) (rows_made a f number wishes) ≡ wishes

@@ -6,12 +6,13 @@ use Rattle.defs_match.specs.Rules.{RuleOf}
 use Rattle.defs_match.specs.declared.instance.Instance.{Instance}
 use Rattle.defs_soar.specs.Learning.{without_learning}
 use Rattle.defs_soar.specs.Limits.{first_passed}
-use Rattle.defs_soar.specs.WaveAtHand.{BeforeWave, Wave, Fresh, all_fresh}
+use Rattle.defs_soar.specs.WaveAtHand.{BeforeWave, Wave, all_fresh}
 use Rattle.defs_soar.specs.WaveFirings.{with_firings}
-use Rattle.defs_soar.specs.Waves.{rows_of_fresh, live_of}
+use Rattle.defs_soar.specs.Waves.{entry_events, rows_of_fresh, live_of}
 use Rattle.pending_work.specs.Firables.{firables_for}
 use Rattle.firing_records.specs.Recorded.{Standing, fresh_seen, reach_of, recorded_seen}
 use Rattle.goal_trimming.specs.Living.{live_seen}
+use Rattle.wave_firings.specs.Told.{told_events}
 use Rattle.wave_firings.specs.declared.firing.Fired.{Fired}
 use Rattle.soar_settle.specs.declared.stop.Stop.{Stop}
 use Rattle.soar_settle.specs.declared.stop.Stop.TheVariants as stop
@@ -29,10 +30,7 @@ pub record Begins (words : Texts) (letters : List ℕ) (s : Standing) (last : �
   pub not_halted : w.halted ≡ false
   pub nothing_drawn : w.totals ≡ []
 
-abbrev pub texts_of_fresh : List Fresh → List ℕ
-texts_of_fresh fresh = flat_map (λ x. x.text) fresh
-
--- what the wave holds after the firings; the rows are those without learning, by which all else stays
+-- what the wave holds after the firings; the rows and what is told are those without learning, by which all else stays
 pub record HasFired (m : BeforeWave) (words : Texts) (letters : List ℕ) (count : ℕ) (fired : Fired) (before after : Wave) : Type 0 where
   pub words_are : words ≡ after.names.words
   pub letters_are : letters ≡ after.names.letters
@@ -40,7 +38,7 @@ pub record HasFired (m : BeforeWave) (words : Texts) (letters : List ℕ) (count
   pub rows_are : fired.rows ≡ flat_map rows_of_fresh (all_fresh (without_learning m after).entries)
   pub live_are : map live_seen fired.live ≡ map live_of (all_fresh after.entries)
   pub recorded_are : map recorded_seen fired.recorded ≡ map fresh_seen (all_fresh after.entries)
-  pub text_is : fired.text ≡ texts_of_fresh (all_fresh after.entries)
+  pub told_are : flat_map told_events fired.told ≡ flat_map entry_events (without_learning m after).entries
   pub halted_is : fired.halted ≡ after.halted
   pub within : first_passed after.totals ≡ None
 

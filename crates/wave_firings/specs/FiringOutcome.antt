@@ -5,6 +5,7 @@ use Rattle.soar_sym.specs.declared.symbol.Sym.{Sym}
 use Rattle.soar_rule.specs.Symbols.{AreKnown, constants_of}
 use Rattle.defs_match.specs.Rules.{RuleOf}
 use Rattle.defs_match.specs.declared.instance.Instance.{Instance}
+use Rattle.defs_soar.specs.declared.firing.Dropped.{Dropped}
 use Rattle.defs_soar.specs.declared.firing.Made.{Made}
 use Rattle.defs_soar.specs.declared.goal.Goal.{Goal}
 use Rattle.defs_soar.specs.declared.limit.Which.{Which}
@@ -12,6 +13,7 @@ use Rattle.defs_soar.specs.declared.limit.Which.TheVariants as which
 use Rattle.defs_soar.specs.declared.preference.Preference.{Preference}
 use Rattle.defs_soar.specs.declared.preference.Wish.{Wish}
 use Rattle.defs_soar.specs.Agents.{LiveFiring}
+use Rattle.defs_soar.specs.Events.{Event}
 use Rattle.defs_soar.specs.Firing.{MadeSoFar, made_by}
 use Rattle.defs_soar.specs.Limits.{limit_of, first_passed}
 use Rattle.defs_soar.specs.Pending.{Firable, depth_of, is_of_operator_kind}
@@ -23,9 +25,12 @@ use Rattle.soar_fire.specs.Fires.{IsMade}
 use Rattle.firing_records.specs.Recorded.{RecordedAs, recorded_seen}
 use Rattle.pending_work.specs.Firables.{firables_for}
 use Rattle.goal_trimming.specs.Living.{live_seen}
+use Rattle.trace_laws.specs.Events.{AreEventsKnown}
 use Rattle.soar_settle.specs.Known.{AreInstancesKnown, AreRulesKnown, AreRowsKnown}
 use Rattle.wave_firings.specs.Rows.{Against, row_made}
+use Rattle.wave_firings.specs.Told.{told_events}
 use Rattle.wave_firings.specs.declared.firing.Fired.{Fired}
+use Rattle.wave_firings.specs.declared.told.Told.{Told}
 use Rattle.soar_settle.specs.declared.stop.Stop.{Stop}
 use Rattle.soar_settle.specs.declared.stop.Stop.TheVariants as stop
 
@@ -37,7 +42,7 @@ pub record Gathered : Type 0 where
   pub rows : List Preference
   pub live : List LiveFiring
   pub recorded : List RecordedAs
-  pub text : List ℕ
+  pub told : List Event
   pub halted : Bool
 
 abbrev pub gathered : Texts → List ℕ → ℕ → Fired → Gathered
@@ -48,12 +53,12 @@ gathered words letters last fired = record {
   rows = fired.rows;
   live = map live_seen fired.live;
   recorded = map recorded_seen fired.recorded;
-  text = fired.text;
+  told = flat_map told_events fired.told;
   halted = fired.halted;
 }
 
 abbrev pub nothing_fired : Fired
-nothing_fired = record { rows = []; live = []; recorded = []; text = []; halted = false }
+nothing_fired = record { rows = []; live = []; recorded = []; told = []; halted = false }
 
 -- what was gathered, or the limit that was passed
 pub data Outcome : Type 0 where
@@ -85,6 +90,13 @@ rows_made a f number wishes = map (row_made a (depth_of a.reach.goals f) number 
 abbrev pub live_made : List Goal → Firable → ℕ → LiveFiring
 live_made goals f number = record { number = number; name = f.rule.production.name; depth = depth_of goals f; instance = f.instance }
 
+abbrev pub told_as : RuleOf → Instance → ℕ → List Preference → List Dropped → List ℕ → Told
+told_as rule i number rows dropped text = record { number = number; name = rule.production.name; instance = i; rows = rows; dropped = dropped; text = text }
+
+-- the firing as it is told, with the rows that it holds itself
+abbrev pub told_made : Against → Firable → ℕ → List Wish → List Dropped → List ℕ → Told
+told_made a f number wishes dropped text = told_as f.rule f.instance number (rows_made a f number wishes) dropped text
+
 -- the goals among the symbols of the firing, by the words of its turn
 abbrev pub goals_named : List Goal → Firable → Texts → List Sym
 goals_named goals f words = goals_among words goals (f.instance.binds ++ constants_of f.rule.production)
@@ -115,7 +127,7 @@ with_made a f number made g = record {
   rows = g.rows ++ rows_made a f number made.wishes;
   live = g.live ++ live_made a.reach.goals f number ∷ [];
   recorded = g.recorded ++ recorded_made a f number (goals_named a.reach.goals f g.words) made.wishes ∷ [];
-  text = g.text ++ made.text;
+  told = g.told ++ told_events (told_made a f number made.wishes made.dropped made.text);
   halted = g.halted || made.halted;
 }
 
@@ -169,3 +181,6 @@ pub record KnowsGoals (words : Texts) (goals : List Goal) : Type 0 where
 
 pub record KnowsRows (words : Texts) (rows : List Preference) : Type 0 where
   pub are_known : AreRowsKnown words rows
+
+pub record KnowsTold (words : Texts) (told : List Told) : Type 0 where
+  pub are_known : AreEventsKnown words (flat_map told_events told)

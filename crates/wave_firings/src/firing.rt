@@ -1,33 +1,36 @@
-ghost use Rattle.std.specs.Prelude.{◌≡◌, ◌≤◌, length, map, IfOk};
+ghost use Rattle.std.specs.Prelude.{◌≡◌, ◌≤◌, flat_map, length, map, IfOk};
 ghost use Rattle.soar_rule.specs.Symbols.{AreKnown};
 ghost use Rattle.soar_fire.specs.Growth.{Grown, LettersKeep};
 ghost use Rattle.defs_match.specs.Rules.{rule_seen};
 ghost use Rattle.defs_soar.specs.Goals.{goal_ids};
+ghost use Rattle.trace_laws.specs.Events.{AreEventsKnown};
 ghost use Rattle.soar_settle.specs.Known.{AreInstancesKnown, AreRulesKnown, AreRowsKnown};
 ghost use Rattle.firing_records.specs.Recorded.{recorded_seen, standing};
 ghost use Rattle.pending_work.specs.Firables.{AreNumbered, AreBound};
 ghost use Rattle.wave_firings.specs.FiresAll.{FiresAll};
 ghost use Rattle.wave_firings.specs.FiringOutcome.{nothing_fired};
 ghost use Rattle.wave_firings.specs.Numbered.{AreGoalsOf, AreMakersOfFirings, AreMakersUpTo, AreNumberedAfter, AreOfFirings};
+ghost use Rattle.wave_firings.specs.Told.{told_events};
 
 use crate::scene::Scene;
+use crate::told::Told;
 use crate::turns::fire_each;
 use defs_match::{Instance, Rule};
 use defs_soar::Preference;
 use firing_records::{Before, Recorded};
 use goal_trimming::Live;
 use soar_settle::Stop;
-use soar_sym::{Letters, List, SymTable, Text};
+use soar_sym::{Letters, List, SymTable};
 use std::alloc::Global;
 
-/// What the firings of a wave made: rows in order of firing, the firings themselves, how each is recorded, their
-/// texts, and whether one halts.
+/// What the firings of a wave made: rows in order of firing, the firings themselves, how each is recorded and told,
+/// and whether one halts.
 #[derive(Drop)]
 pub struct Fired {
     pub rows: List<Preference>,
     pub live: List<Live>,
     pub recorded: List<Recorded>,
-    pub text: Text,
+    pub told: List<Told>,
     pub halted: bool,
 }
 
@@ -57,6 +60,7 @@ pub fn fire_all(
     ensures numbers { IfOk result (λ fired. AreNumberedAfter last (map recorded_seen fired.recorded)) }
     ensures earlier { AreOfFirings last before.now.prefs.now.rows → AreMakersOfFirings last before.now.goals.now
         → IfOk result (λ fired. AreMakersUpTo last (map recorded_seen fired.recorded)) }
+    ensures told_known { IfOk result (λ fired. AreEventsKnown table.new (flat_map told_events fired.told)) }
     ensures goals { IfOk result (λ fired. AreGoalsOf before.now.goals.now (map recorded_seen fired.recorded)) }
 {
     let mut fired = nothing_fired(alloc);
@@ -84,7 +88,7 @@ fn nothing_fired(alloc: Global) -> Fired
         rows: List::new(alloc),
         live: List::new(alloc),
         recorded: List::new(alloc),
-        text: Text::new(alloc),
+        told: List::new(alloc),
         halted: false,
     }
 }

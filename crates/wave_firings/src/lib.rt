@@ -5,6 +5,8 @@ mod firing;
 mod gathering;
 mod rows;
 mod scene;
+mod told;
 mod turns;
 
 pub use firing::{Fired, fire_all};
+pub use told::Told;

@@ -1,5 +1,5 @@
 // The rows of a firing, as it holds them itself.
-ghost use Rattle.std.specs.Prelude.{◌≡◌, ◌++◌, map, OnOk};
+ghost use Rattle.std.specs.Prelude.{◌≡◌, map, IfOk};
 ghost use Rattle.defs_soar.specs.Results.{is_result};
 ghost use Rattle.firing_records.specs.Recorded.{reach_of, standing};
 ghost use Rattle.wave_firings.specs.Rows.{against, is_lasting, row_made};
@@ -7,22 +7,23 @@ ghost use Rattle.wave_firings.specs.Rows.{against, is_lasting, row_made};
 use defs_soar::{Preference, Wish, is_operator_slot};
 use firing_records::{Before, Recorded};
 use soar_sym::{List, Sym};
-use std::alloc::AllocError;
+use std::alloc::{AllocError, Global};
 
-/// Adds the rows of a firing's wishes.
-pub fn add_rows(
+/// The rows of a firing's wishes.
+pub fn rows_of(
+    alloc: Global,
     before: &Before<'_>,
     recorded: &Recorded,
     wishes: &[Wish],
-    rows: &mut List<Preference>,
-) -> Result<(), AllocError>
-    ensures { OnOk result (rows.new ≡ rows.old
-        ++ map (row_made (against (standing before.now)) recorded.now.firing.depth recorded.now.firing.number recorded.now.operator_kind) wishes.now) }
+) -> Result<List<Preference>, AllocError>
+    ensures { IfOk result (λ rows. rows
+        ≡ map (row_made (against (standing before.now)) recorded.now.firing.depth recorded.now.firing.number recorded.now.operator_kind) wishes.now) }
 {
+    let mut rows = List::new(alloc);
     'wishes: for wish in wishes {
         rows.push(row_of(before, recorded, *wish))?;
     }
-    Ok(())
+    Ok(rows)
 }
 
 fn row_of(before: &Before<'_>, recorded: &Recorded, wish: Wish) -> Preference

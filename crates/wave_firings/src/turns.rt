@@ -9,7 +9,7 @@ ghost use Rattle.defs_match.specs.Rules.{rule_seen};
 ghost use Rattle.defs_soar.specs.Pending.{firable_of};
 ghost use Rattle.pending_work.specs.Firables.{firables_for, rules_of, AreBound, IsInstance};
 ghost use Rattle.firing_records.specs.Recorded.{standing};
-ghost use Rattle.wave_firings.specs.FiringOutcome.{first_of, firing_outcome, gathered, instances_outcome, Leaves, LeavesOne, Makes, KnowsGoals, KnowsInstances, KnowsRows, KnowsRules};
+ghost use Rattle.wave_firings.specs.FiringOutcome.{first_of, firing_outcome, gathered, instances_outcome, Leaves, LeavesOne, Makes, KnowsGoals, KnowsInstances, KnowsRows, KnowsRules, KnowsTold};
 ghost use Rattle.wave_firings.specs.Rows.{against};
 
 use crate::firing::Fired;
@@ -36,11 +36,13 @@ pub fn fire_each(
     requires goals { KnowsGoals table.old scene.now.before.now.goals.now }
     requires instances { KnowsInstances table.old instances.now }
     requires rows { KnowsRows table.old fired.old.rows }
+    requires told { KnowsTold table.old fired.old.told }
     ensures answer { Leaves
         (instances_outcome (against (standing scene.now.before.now)) (map rule_seen scene.now.rules.now) instances.now
         (gathered table.old letters.old last fired.old))
         (gathered table.new letters.new (last + length instances.now) fired.new) result }
     ensures rows { OnOk result (KnowsRows table.new fired.new.rows) }
+    ensures told { OnOk result (KnowsTold table.new fired.new.told) }
     ensures gains { OnlyGains table.old letters.old table.new letters.new }
 {
     let mut number = last;
@@ -78,10 +80,12 @@ fn fire_one(
     requires goals { KnowsGoals table.old scene.now.before.now.goals.now }
     requires known { AreKnown table.old instance.now.binds }
     requires rows { KnowsRows table.old fired.old.rows }
+    requires told { KnowsTold table.old fired.old.told }
     ensures answer { LeavesOne (against (standing scene.now.before.now)) number (gathered table.old letters.old number fired.old)
         (firables_for (map rule_seen scene.now.rules.now) scene.now.before.now.memory.now.elements instance.now)
         (gathered table.new letters.new number fired.new) result }
     ensures rows { OnOk result (KnowsRows table.new fired.new.rows) }
+    ensures told { OnOk result (KnowsTold table.new fired.new.told) }
     ensures words { Grown table.old table.new }
     ensures letters { LettersKeep letters.old letters.new }
 {
@@ -118,11 +122,13 @@ fn fire_rule(
     requires known { IsFirable table.old (rule_seen rule.now) instance.now }
     requires goals { KnowsGoals table.old scene.now.before.now.goals.now }
     requires rows { KnowsRows table.old fired.old.rows }
+    requires told { KnowsTold table.old fired.old.told }
     ensures answer { Leaves
         (firing_outcome (against (standing scene.now.before.now)) number (gathered table.old letters.old number fired.old)
         (firable_of scene.now.before.now.memory.now.elements (rule_seen rule.now) instance.now))
         (gathered table.new letters.new number fired.new) result }
     ensures rows { OnOk result (KnowsRows table.new fired.new.rows) }
+    ensures told { OnOk result (KnowsTold table.new fired.new.told) }
     ensures words { Grown table.old table.new }
     ensures letters { LettersKeep letters.old letters.new }
 {

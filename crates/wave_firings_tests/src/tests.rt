@@ -12,7 +12,7 @@ use soar_settle::Stop;
 use soar_sym::{Letters, List, Sym, SymTable, is_symbol};
 use std::alloc::Global;
 use std::test::Fail;
-use wave_firings::{Fired, fire_all};
+use wave_firings::{Fired, Told, fire_all};
 
 /// What the rule makes when it fires twice after the number 7, for an element of S1 and for one of S2.
 fn fired(alloc: Global) -> Result<Fired, Stop> {
@@ -98,6 +98,22 @@ fn is_recorded(recorded: &Recorded, number: u64, goal: Sym, tag: u32) -> bool {
     firing.number == number && of_goal && used && firing.made.len() == 3 && recorded.operator_kind
 }
 
+/// Whether they are told in turn, each with its three rows and its text.
+fn are_told(told: &[Told]) -> bool {
+    match told {
+        [top, below] => is_told(top, 8, true) && is_told(below, 9, false),
+        _ => false,
+    }
+}
+
+fn is_told(told: &Told, number: u64, operator_support: bool) -> bool {
+    let rows = match told.rows.as_slice() {
+        [first, _, _] => { first.firing == number && first.operator_support == operator_support }
+        _ => false,
+    };
+    told.number == number && rows && told.dropped.is_empty() && told.text.as_str() == "3"
+}
+
 /// Whether all that the two firings made is as it should be.
 fn is_fired(alloc: Global) -> Result<bool, Stop> {
     let fired = fired(alloc)?;
@@ -105,7 +121,7 @@ fn is_fired(alloc: Global) -> Result<bool, Stop> {
         are_rows(fired.rows.as_slice())
             && are_live(fired.live.as_slice())
             && are_recorded(fired.recorded.as_slice())
-            && fired.text.as_str() == "33"
+            && are_told(fired.told.as_slice())
             && !fired.halted,
     )
 }

@@ -4,7 +4,7 @@ use Rattle.defs_match.specs.Conflict.{conflict}
 use Rattle.defs_match.specs.Rules.{rule_seen}
 use Rattle.defs_soar.specs.Pending.{is_listed}
 use Rattle.pending_work.specs.Active.{active_of}
-use Rattle.pending_work.specs.Candidates.{fires_now, gone_of}
+use Rattle.pending_work.specs.Candidates.{fires_now}
 use Rattle.pending_work.specs.Firables.{AreBound, AreNumbered}
 use Rattle.goal_trimming.specs.Living.{live_seen}
 use Rattle.pending_work.proofs.ConflictLemmas.{bound_conflict}
@@ -30,20 +30,20 @@ returns c =
     let now = c.requires.conflict in
     let seen = map live_seen c.as_slice-live.result.now in
     let gone =
-    c.as_slice-3.ensures ∙ c.in_ok-gone.ensures
-    ∙ ap (map gone_of) (gone_agree c.as_slice.result.now c.in_ok-matched.matched c.in_ok-matched.ensures seen)
-    ∙ ap₂ (λ is ls. map gone_of (filter (λ l. not (is_listed is l.instance)) (map live_seen ls))) (c.as_slice.ensures ∙ now) c.as_slice-live.ensures in
+    c.in_ok-gone.ensures
+    ∙ gone_agree c.as_slice.result.now c.in_ok-matched.matched c.in_ok-matched.ensures c.as_slice-live.result.now
+    ∙ ap₂ (λ is ls. filter (λ l. not (is_listed is l.instance)) ls) (c.as_slice.ensures ∙ now) c.as_slice-live.ensures in
     let ready =
     c.in_ok-ready.ensures
     ∙ ready_agree c.args.proposing (map rule_seen c.as_slice-rules.result.now) elements goals seen c.in_ok-living.living c.in_ok-living.ensures c.args.instances
     ∙ ap₂ (λ rs ls. filter (fires (map rule_seen rs) elements goals (map live_seen ls)) c.args.instances) c.as_slice-rules.ensures c.as_slice-live.ensures
     ∙ ap (filter (fires rules elements goals live)) now in
     let active =
-    ap (λ gs. active_of gs elements c.as_slice-3.result.now c.in_ok-ready.ready) c.as_slice-2.ensures
+    ap (λ gs. active_of gs elements c.in_ok-gone.gone c.in_ok-ready.ready) c.as_slice-2.ensures
     ∙ ap₂ (active_of goals elements) gone ready in
     let result = c.of_active_level.result in
-    let all : IfOk result (Promised c.args.proposing rules elements goals live c.requires.numbered) =
-    IfOk-weaker result _ _ (λ work e. promised c.args.proposing rules elements goals live c.requires.numbered work (e ∙ active)) c.of_active_level.ensures in
+    let all : IfOk result (Promised c.args.proposing rules elements goals c.args.live.now c.requires.numbered) =
+    IfOk-weaker result _ _ (λ work e. promised c.args.proposing rules elements goals c.args.live.now c.requires.numbered work (e ∙ active)) c.of_active_level.ensures in
     record {
       work = IfOk-weaker result _ _ (λ work p. p.work_is) all;
       bound = IfOk-weaker result _ _ (λ work p. p.bound) all;

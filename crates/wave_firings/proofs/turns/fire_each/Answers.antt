@@ -19,6 +19,7 @@ instances-init c = record {
   goals = c.requires.goals;
   instances = c.requires.instances;
   rows = c.requires.rows;
+  told = c.requires.told;
   gains = gains_none _ _;
   rest = refl;
 }
@@ -45,6 +46,7 @@ instances-preserved c =
       goals = goals_grown _ _ _ c.instances.invariant.goals longer;
       instances = instances_grown c.instances.table _ _ (record { are_known = known.1 }) longer;
       rows = c.in_ok-fire_one.ensures.rows;
+      told = c.in_ok-fire_one.ensures.told;
       gains = gains_twice _ _ _ _ _ _ c.instances.invariant.gains one;
       rest =
           sym (next_fires a c.instances.table c.instances.letters c.instances.fired c.instances.number rules instances place i c.instances-test.true c.instance-item.is

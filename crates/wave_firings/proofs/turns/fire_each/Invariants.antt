@@ -2,7 +2,7 @@ use Rattle.std.proofs.Common.{◌≡◌, ◌+◌, map, drop}
 use Rattle.defs_match.specs.Rules.{rule_seen}
 use Rattle.soar_fire.specs.Growth.{OnlyGains}
 use Rattle.pending_work.specs.Firables.{AreBound}
-use Rattle.wave_firings.specs.FiringOutcome.{gathered, instances_outcome, KnowsGoals, KnowsInstances, KnowsRows, KnowsRules}
+use Rattle.wave_firings.specs.FiringOutcome.{gathered, instances_outcome, KnowsGoals, KnowsInstances, KnowsRows, KnowsRules, KnowsTold}
 use Rattle.firing_records.specs.Recorded.{standing}
 use Rattle.wave_firings.specs.Rows.{against}
 use Rattle.wave_firings.proofs.turns.fire_each.Given as goal
@@ -15,6 +15,7 @@ invariant-instances l = record {
   goals : KnowsGoals l.table l.scene.before.now.goals.now;
   instances : KnowsInstances l.table (drop l.instance-index l.instances);
   rows : KnowsRows l.table l.fired.rows;
+  told : KnowsTold l.table l.fired.told;
   gains : OnlyGains l.initial.table l.initial.letters l.table l.letters;
   rest : instances_outcome (against (standing l.scene.before.now)) (map rule_seen l.scene.rules.now) (drop l.instance-index l.instances) (gathered l.table l.letters l.number l.fired)
       ≡ instances_outcome (against (standing l.scene.before.now)) (map rule_seen l.scene.rules.now) l.instances (gathered l.initial.table l.initial.letters l.last l.initial.fired);
