@@ -1,0 +1,4 @@
+pub mod Blanks
+pub mod KnownLemmas
+pub mod SayingLemmas
+pub mod TextLemmas
