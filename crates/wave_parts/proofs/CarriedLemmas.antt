@@ -12,8 +12,10 @@ use Rattle.defs_soar.specs.Limits.{first_passed}
 use Rattle.defs_soar.specs.Pending.{Work as WorkOf}
 use Rattle.defs_soar.specs.Preferences.{without_firings, with_rows}
 use Rattle.defs_soar.specs.Resettling.{AgentStep}
+use Rattle.defs_soar.specs.Trimming.{numbers_of}
 use Rattle.defs_soar.specs.WaveFirings.{first_wave, before_wave, with_firings}
 use Rattle.defs_soar.specs.Waves.{wave_of}
+use Rattle.goal_trimming.specs.Living.{live_seen}
 use Rattle.soar_prefs.specs.Memory.{PreferenceMemory}
 use Rattle.wave_parts.specs.Carrying.{Carries, CarriesOut}
 use Rattle.wave_parts.specs.Counting.{Counts}
@@ -41,19 +43,19 @@ abbrev pub StopsAs : AgentStep → Stop → Type 0
 StopsAs s (stop.Limit limit) = first_passed s.totals ≡ Some limit
 StopsAs s stop.NoMemory = Unit {0}
 
-pub carries_not : (new : PartsKept) (text : List ℕ) (s : AgentStep) (r : Result Done Stop) (why : Stop) → r ≡ Err why → StopsAs s why → Carries new text text s r
-carries_not new text s r why is stops = subst (Carries new text text s) (sym is) (by why stops)
+pub carries_not : (new : PartsKept) (s : AgentStep) (r : Result Done Stop) (why : Stop) → r ≡ Err why → StopsAs s why → Carries new s r
+carries_not new s r why is stops = subst (Carries new s) (sym is) (by why stops)
   where
-    by : (why : Stop) → StopsAs s why → Carries new text text s (Err why)
-    by (stop.Limit limit) h = record { passed = h; text = refl }
+    by : (why : Stop) → StopsAs s why → Carries new s (Err why)
+    by (stop.Limit limit) h = h
     by stop.NoMemory h = tt
 
 -- what carrying out does with each history it does in each state that the agent stands for
-pub of_each_wave : (old new : PartsKept) (work : Work) (before after : List ℕ) (r : Result Done Stop)
-    → ((history : List RecordedFiring) → Remembers old history → (w : WorkOf) → IsPending (map rule_seen old.rules) old.memory.elements work w → Carries new before after (wave_of without_learning (agent_of old history) w) r)
-    → CarriesOut old new work before after r
-of_each_wave old new work before after r =
-    of_each_state (λ (s : Agent). (w : WorkOf) → IsPending (map rule_seen old.rules) old.memory.elements work w → Carries new before after (wave_of without_learning s w) r) old
+pub of_each_wave : (old new : PartsKept) (work : Work) (r : Result Done Stop)
+    → ((history : List RecordedFiring) → Remembers old history → (w : WorkOf) → IsPending (map rule_seen old.rules) old.memory.elements work w → Carries new (wave_of without_learning (agent_of old history) w) r)
+    → CarriesOut old new work r
+of_each_wave old new work r =
+    of_each_state (λ (s : Agent). (w : WorkOf) → IsPending (map rule_seen old.rules) old.memory.elements work w → Carries new (wave_of without_learning s w) r) old
 
 -- ---- counts
 
@@ -62,7 +64,12 @@ waves_stop old history w (stop.Limit limit) sound c = stops_at_waves (agent_of o
 waves_stop old history w stop.NoMemory sound c = tt
 
 pub retracted_length : (rules : List RuleOf) (elements : List Element) (work : Work) (w : WorkOf) → IsPending rules elements work w → length work.retracted ≡ length w.retracted
-retracted_length rules elements work w pend = ap length pend.retracted_are ∙ length-map w.retracted (λ l. l.number)
+retracted_length rules elements work w pend = sym (length-map work.retracted live_seen) ∙ ap length pend.retracted_are
+
+-- the numbers of the firings that are retracted
+pub numbers_are : (rules : List RuleOf) (elements : List Element) (work : Work) (w : WorkOf) (gone : List ℕ) → IsPending rules elements work w → gone ≡ numbers_of (map live_seen work.retracted)
+    → gone ≡ numbers_of w.retracted
+numbers_are rules elements work w gone pend is = is ∙ ap numbers_of pend.retracted_are
 
 pub retractions_stop : (old : PartsKept) (history : List RecordedFiring) (work : Work) (w : WorkOf) (n : ℕ) (why : Stop) → IsSound old → IsPending (map rule_seen old.rules) old.memory.elements work w
     → old.waves + 1 ≤ 18446744073709551615 → n ≡ length work.retracted → Counts (old.retractions + n) (Err why) → StopsAs (wave_of without_learning (agent_of old history) w) why
@@ -129,20 +136,20 @@ firings_stop old history work w words letters made n stop.NoMemory fired fits is
 
 -- ---- rows
 
-pub rows_all : (old : PartsKept) (history : List RecordedFiring) (work : Work) (w : WorkOf) (made : List Preference) → IsPending (map rule_seen old.rules) old.memory.elements work w
+pub rows_all : (old : PartsKept) (history : List RecordedFiring) (w : WorkOf) (gone : List ℕ) (made : List Preference) → gone ≡ numbers_of w.retracted
     → made ≡ rows_made_in (ended_in (agent_of old history) w)
-    → length (with_rows (without_firings old.prefs.rows work.retracted) made) ≡ rows_in_all (agent_of old history) w.retracted (ended_in (agent_of old history) w)
-rows_all old history work w made pend same = λ k. length (with_rows (without_firings old.prefs.rows (pend.retracted_are k)) (same k))
+    → length (with_rows (without_firings old.prefs.rows gone) made) ≡ rows_in_all (agent_of old history) w.retracted (ended_in (agent_of old history) w)
+rows_all old history w gone made gone_is same = λ k. length (with_rows (without_firings old.prefs.rows (gone_is k)) (same k))
 
-pub rows_stop : (old : PartsKept) (history : List RecordedFiring) (work : Work) (w : WorkOf) (new : PreferenceMemory) (made : List Preference) (why : Stop) → IsSound old
-    → IsPending (map rule_seen old.rules) old.memory.elements work w → Counted (agent_of old history) w
+pub rows_stop : (old : PartsKept) (history : List RecordedFiring) (w : WorkOf) (new : PreferenceMemory) (gone : List ℕ) (made : List Preference) (why : Stop) → IsSound old
+    → gone ≡ numbers_of w.retracted → Counted (agent_of old history) w
     → made ≡ rows_made_in (ended_in (agent_of old history) w) → first_passed (fired_in (agent_of old history) w).totals ≡ None
-    → Renews old.prefs new work.retracted made (Err why) → StopsAs (wave_of without_learning (agent_of old history) w) why
-rows_stop old history work w new made (stop.Limit limit) sound pend counted same within over =
-    stops_at_rows (agent_of old history) w counted within (omega (arith, sound.row_limit, over.1, rows_all old history work w made pend same)) ∙ ap Some (sym over.0)
-rows_stop old history work w new made stop.NoMemory sound pend counted same within over = tt
+    → Renews old.prefs new gone made (Err why) → StopsAs (wave_of without_learning (agent_of old history) w) why
+rows_stop old history w new gone made (stop.Limit limit) sound gone_is counted same within over =
+    stops_at_rows (agent_of old history) w counted within (omega (arith, sound.row_limit, over.1, rows_all old history w gone made gone_is same)) ∙ ap Some (sym over.0)
+rows_stop old history w new gone made stop.NoMemory sound gone_is counted same within over = tt
 
-pub rows_fit : (old : PartsKept) (history : List RecordedFiring) (work : Work) (w : WorkOf) (new : PreferenceMemory) (made : List Preference) → IsSound old
-    → IsPending (map rule_seen old.rules) old.memory.elements work w → made ≡ rows_made_in (ended_in (agent_of old history) w)
-    → RenewsRows old.prefs new work.retracted made → rows_in_all (agent_of old history) w.retracted (ended_in (agent_of old history) w) ≤ 1000000
-rows_fit old history work w new made sound pend same renews = omega (arith, renews.room, sound.row_limit, rows_all old history work w made pend same)
+pub rows_fit : (old : PartsKept) (history : List RecordedFiring) (w : WorkOf) (new : PreferenceMemory) (gone : List ℕ) (made : List Preference) → IsSound old
+    → gone ≡ numbers_of w.retracted → made ≡ rows_made_in (ended_in (agent_of old history) w)
+    → RenewsRows old.prefs new gone made → rows_in_all (agent_of old history) w.retracted (ended_in (agent_of old history) w) ≤ 1000000
+rows_fit old history w new gone made sound gone_is same renews = omega (arith, renews.room, sound.row_limit, rows_all old history w gone made gone_is same)

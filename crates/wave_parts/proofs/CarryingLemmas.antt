@@ -1,7 +1,5 @@
 -- The parts of an agent between the firings of a wave and settling.
-use Rattle.std.proofs.Common.{◌≡◌, ℕ, suc, ◌+◌, ◌≤◌, ◌∙◌, List, ◌++◌, map, length, Result, Ok, refl, sym, ap, subst, arith}
-use Rattle.soar_sym.specs.Words.{Texts}
-use Rattle.defs_match.specs.Rules.{rule_seen}
+use Rattle.std.proofs.Common.{◌≡◌, ℕ, suc, ◌+◌, ◌∙◌, List, ◌++◌, map, length, Result, sym, ap, subst, arith}
 use Rattle.defs_soar.specs.declared.preference.Preference.{Preference}
 use Rattle.defs_soar.specs.History.{RecordedFiring}
 use Rattle.defs_soar.specs.Pending.{Work as WorkOf}
@@ -9,8 +7,6 @@ use Rattle.defs_soar.specs.Trimming.{numbers_of}
 use Rattle.defs_soar.specs.WaveFirings.{first_wave, before_wave}
 use Rattle.goal_trimming.specs.declared.live.Live.{Live}
 use Rattle.goal_trimming.specs.Living.{live_seen}
-use Rattle.pending_work.specs.Firables.{IsPending}
-use Rattle.pending_work.specs.declared.work.Work.{Work}
 use Rattle.soar_prefs.specs.Memory.{PreferenceMemory}
 use Rattle.soar_settle.specs.Renewal.{Renews, RenewsRows}
 use Rattle.soar_settle.specs.declared.stop.Stop.{Stop}
@@ -49,13 +45,13 @@ mid_remembers old fired history prefs live waves firings retractions from rememb
     subst (λ (a : PartsKept). Remembers a history) (sym (mid_is old fired prefs live waves firings retractions from))
     (fired_remembers old history fired.table fired.letters prefs live waves firings retractions from.letters remembers)
 
-pub mid_stands : (old fired : PartsKept) (history : List RecordedFiring) (work : Work) (w : WorkOf) (made : Fired) (prefs : PreferenceMemory) (live : List Live) (waves firings retractions : ℕ)
-    → IsFiredFrom old fired → IsSound old → IsPending (map rule_seen old.rules) old.memory.elements work w
-    → HasFired (before_wave (agent_of old history)) fired.table fired.letters (length work.fired) made (first_wave (agent_of old history)) (fired_in (agent_of old history) w)
-    → RenewsRows old.prefs prefs work.retracted made.rows
-    → map live_seen live ≡ still_live work.retracted (map live_seen old.live) ++ map live_seen made.live
-    → waves ≡ suc old.waves → firings ≡ old.firings + length work.fired → retractions ≡ old.retractions + length w.retracted
+pub mid_stands : (old fired : PartsKept) (history : List RecordedFiring) (w : WorkOf) (count : ℕ) (gone : List ℕ) (made : Fired) (prefs : PreferenceMemory) (live : List Live) (waves firings retractions : ℕ)
+    → IsFiredFrom old fired → IsSound old → gone ≡ numbers_of w.retracted
+    → HasFired (before_wave (agent_of old history)) fired.table fired.letters count made (first_wave (agent_of old history)) (fired_in (agent_of old history) w)
+    → RenewsRows old.prefs prefs gone made.rows
+    → map live_seen live ≡ still_live gone (map live_seen old.live) ++ map live_seen made.live
+    → waves ≡ suc old.waves → firings ≡ old.firings + count → retractions ≡ old.retractions + length w.retracted
     → agent_of (mid_of fired prefs live waves firings retractions) history ≡ unsettled (agent_of old history) w.retracted (ended_in (agent_of old history) w)
-mid_stands old fired history work w made prefs live waves firings retractions from sound pend has renews lives waves_is firings_is retractions_is =
+mid_stands old fired history w count gone made prefs live waves firings retractions from sound gone_is has renews lives waves_is firings_is retractions_is =
     ap (λ (a : PartsKept). agent_of a history) (mid_is old fired prefs live waves firings retractions from)
-    ∙ fired_stands old history work w made fired.table fired.letters prefs live waves firings retractions sound pend has renews lives waves_is firings_is retractions_is
+    ∙ fired_stands old history w count gone made fired.table fired.letters prefs live waves firings retractions sound gone_is has renews lives waves_is firings_is retractions_is

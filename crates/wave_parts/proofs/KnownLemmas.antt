@@ -1,5 +1,5 @@
 -- What settling leaves has only symbols of the table where what it began with had.
-use Rattle.std.proofs.Common.{◌≡◌, ℕ, zero, suc, ◌<◌, ◌≤◌, ◌==◌, ◌&&◌, ◌||◌, Bool, true, false, not, cond, List, [], ◌∷◌, ◌++◌, filter, map, flat_map, length, Option, Some, None, is_some, inl, inr, refl, subst, arith}
+use Rattle.std.proofs.Common.{ℕ, suc, ◌<◌, ◌≤◌, ◌&&◌, ◌||◌, Bool, true, false, not, cond, List, [], ◌∷◌, ◌++◌, filter, map, flat_map, length, Option, Some, None, is_some, inl, inr, refl, subst, arith}
 use Rattle.std.specs.Ordering.{is_lt}
 use Rattle.soar_sym.specs.Order.{triple_cmp}
 use Rattle.soar_sym.specs.Words.{Texts, IsKnown}
@@ -51,7 +51,7 @@ rows_filter words p (row ∷ rows) h = by (p row) (rows_filter words p rows h.1)
     by true later = (h.0, later)
     by false later = later
 
-elements_filter : (words : Texts) (p : Element → Bool) (elements : List Element) → AreElementsKnown words elements → AreElementsKnown words (filter p elements)
+pub elements_filter : (words : Texts) (p : Element → Bool) (elements : List Element) → AreElementsKnown words elements → AreElementsKnown words (filter p elements)
 elements_filter words p [] h = tt
 elements_filter words p (e ∷ elements) h = by (p e) (elements_filter words p elements h.1)
   where

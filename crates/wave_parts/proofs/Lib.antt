@@ -10,7 +10,10 @@ pub mod FitLemmas
 pub mod GrownLemmas
 pub mod KnownLemmas
 pub mod LimitLemmas
+pub mod NamedLemmas
 pub mod RememberedLemmas
+pub mod RemovedLemmas
 pub mod ResettlingLemmas
+pub mod RestartLemmas
 pub mod StandsLemmas
 pub mod UnsettledLemmas

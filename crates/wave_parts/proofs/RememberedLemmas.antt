@@ -1,7 +1,6 @@
 -- The firings of a wave join what is remembered.
-use Rattle.std.proofs.Common.{◌≡◌, ◌∙◌, ℕ, suc, ◌+◌, ◌<◌, ◌≤◌, ◌⊎◌, List, [], ◌∷◌, ◌++◌, map, drop, length, flat_map, Some, inl, inr, refl, sym, ap, subst, arith}
+use Rattle.std.proofs.Common.{◌≡◌, ◌∙◌, ℕ, suc, ◌+◌, ◌<◌, ◌≤◌, ◌⊎◌, List, [], ◌∷◌, ◌++◌, map, length, flat_map, inl, inr, refl, sym, ap, subst, arith}
 use Rattle.soar_sym.specs.declared.symbol.Sym.{Sym}
-use Rattle.soar_wm.specs.declared.element.Element.{Element}
 use Rattle.defs_soar.specs.declared.goal.Goal.{Goal}
 use Rattle.defs_soar.specs.declared.preference.Preference.{Preference}
 use Rattle.defs_soar.specs.Explanation.{maker_named}
@@ -9,8 +8,8 @@ use Rattle.defs_soar.specs.Goals.{goal_ids}
 use Rattle.defs_soar.specs.History.{FiringOf, Reach, RecordedFiring}
 use Rattle.defs_soar.specs.Laws.{IsIn}
 use Rattle.defs_soar.specs.Standing.{dependencies_from}
-use Rattle.defs_soar.specs.WaveAtHand.{Fresh, all_fresh}
-use Rattle.defs_soar.specs.Waves.{lasting_of, recorded_firing}
+use Rattle.defs_soar.specs.WaveAtHand.{Fresh}
+use Rattle.defs_soar.specs.Waves.{lasting_of}
 use Rattle.agent_laws.specs.Dependence.{AreLater, GoalsDependOnMore, MakersAreEarlier, each_with, firings_in, tags_from}
 use Rattle.agent_laws.specs.Records.{AreRisingFrom}
 use Rattle.firing_records.specs.Recorded.{RecordedAs, recorded_seen}

@@ -1,36 +1,39 @@
 -- An agent is settled by its goals, what they depend on, its rows, inputs, live firings and elements.
-use Rattle.std.proofs.Common.{◌≡◌, ◌≤◌, ℕ, false, zero, suc, List, ◌∷◌, [], ◌++◌, map, length, take, None, Result, Ok, Err, IfOk, inl, inr, refl, sym, ap, subst, ◌∙◌, arith}
-use Rattle.soar_sym.specs.Words.{Texts}
+use Rattle.std.proofs.Common.{◌≡◌, ℕ, false, zero, suc, List, ◌∷◌, [], ◌++◌, map, length, take, drop, Result, Ok, Err, inl, inr, refl, sym, ap, subst, ◌∙◌, arith}
 use Rattle.soar_sym.specs.declared.symbol.Triple.{Triple}
 use Rattle.soar_wm.specs.WorkingMemory.{WorkingMemory}
 use Rattle.soar_wm.specs.declared.element.Element.{Element}
 use Rattle.defs_soar.specs.declared.goal.Goal.{Goal}
-use Rattle.defs_soar.specs.declared.preference.Preference.{Preference}
-use Rattle.defs_soar.specs.Cycle.{held_with}
 use Rattle.defs_soar.specs.Events.{goes, comes}
 use Rattle.defs_soar.specs.History.{RecordedFiring}
 use Rattle.defs_soar.specs.Laws.{IsIn}
 use Rattle.defs_soar.specs.Limits.{elements_to, tags_to, first_passed}
 use Rattle.defs_soar.specs.Resettling.{AgentStep, resettled, without_elements, removal_events}
 use Rattle.defs_soar.specs.Settling.{kept_triples}
-use Rattle.defs_soar.specs.Trimming.{Remains, supports_of, trimmed}
+use Rattle.defs_soar.specs.Trimming.{Remains, at_depths, supports_of, trimmed}
 use Rattle.goal_trimming.specs.Held.{held_by, kept_held, supports_held}
 use Rattle.goal_trimming.specs.Living.{live_seen}
 use Rattle.goal_trimming.specs.Trims.{KeepsFirst, Trims, remains_of}
 use Rattle.goal_trimming.specs.declared.live.Live.{Live}
-use Rattle.matching_laws.specs.Telling.{ChangesAreTold, IsTold}
-use Rattle.soar_choose.specs.Rows.{AreInRange}
+use Rattle.removal_laws.specs.Alone.{RemovalsAlone}
+use Rattle.removal_laws.specs.Nested.{RemovalsAreNested}
 use Rattle.soar_prefs.specs.Memory.{PreferenceMemory}
-use Rattle.soar_settle.specs.Known.{AreElementsKnown, AreRowsKnown, AreTriplesKnown}
+use Rattle.soar_settle.specs.Known.{AreElementsKnown, AreTriplesKnown}
 use Rattle.soar_settle.specs.Settles.{after_of, last_of, passed_by, Retags}
 use Rattle.soar_settle.specs.declared.changes.Changes.{Changes}
 use Rattle.soar_settle.specs.declared.stop.Stop.{Stop}
 use Rattle.soar_settle.specs.declared.stop.Stop.TheVariants as stop
+use Rattle.step_report.specs.Reports.{removed_seen, settled_events}
+use Rattle.step_report.specs.declared.settled.Removed.{Removed}
+use Rattle.step_report.specs.declared.settled.Settled.{Settled}
+use Rattle.trace_laws.specs.Events.{AreEventsKnown}
 use Rattle.wave_parts.specs.Remembers.{Remembers}
 use Rattle.wave_parts.specs.Resettles.{resettled_now, IsResettled, Resettles}
 use Rattle.wave_parts.specs.Seen.{agent_of, AreGoalsKnown, IsSound}
 use Rattle.wave_parts.specs.declared.parts.Parts.{Parts as PartsKept}
 use Rattle.wave_parts.proofs.KnownLemmas.{KnowsSupports, kept_known, after_known, rows_left, triples_left, range_left}
+use Rattle.wave_parts.proofs.NamedLemmas.{live_left}
+use Rattle.wave_parts.proofs.RemovedLemmas.{length_take, removed_behind, settled_known}
 use Rattle.wave_parts.proofs.StandsLemmas.{stands_for}
 
 -- ---- what trimming left
@@ -52,6 +55,16 @@ pub record HasTrimmed (a : PartsKept) (l : Left) (kept : List Triple) : Type 0 w
       → Trims history a.memory.elements (held_by a.goals a.depends a.prefs a.inputs a.live) (held_by l.goals l.depends l.prefs l.inputs l.live) kept
   pub keeps : KeepsFirst (held_by a.goals a.depends a.prefs a.inputs a.live) (held_by l.goals l.depends l.prefs l.inputs l.live)
   pub kept_is : kept ≡ kept_held (held_by l.goals l.depends l.prefs l.inputs l.live)
+
+-- the goals behind those that are left
+pub record HasRemoved (a : PartsKept) (l : Left) (removed : List Removed) : Type 0 where
+  pub removed_are : map removed_seen removed ≡ at_depths (suc (length l.goals)) (drop (length l.goals) a.goals)
+
+pub has_removed : (a : PartsKept) (l : Left) (before sliced removed : List Removed) (count : ℕ) → map removed_seen before ≡ at_depths 1 a.goals → sliced ≡ before → count ≡ length l.goals
+    → removed ≡ drop count sliced → HasRemoved a l removed
+has_removed a l before sliced removed count is same count_is removed_is = record {
+  removed_are = ap (map removed_seen) removed_is ∙ (λ k. map removed_seen (drop (count_is k) (same k))) ∙ removed_behind (length l.goals) a.goals before is;
+}
 
 -- the elements afterwards
 abbrev pub elements_left : PartsKept → Left → List Triple → List Element
@@ -118,18 +131,41 @@ remembers_left a l kept history memory remembers h = record {
   goals_numbered = remembers.goals_numbered;
 }
 
-settles : (a : PartsKept) (l : Left) (kept : List Triple) (history : List RecordedFiring) (memory : WorkingMemory) (changes : Changes) → Remembers a history → HasTrimmed a l kept
-    → Retags a.table l.goals kept a.memory memory (Ok changes) → IsResettled (with_left a l memory) (resettled_now (agent_of a history))
-settles a l kept history memory changes remembers h tagged = record {
+-- the goals that went are those that trimming removes
+goals_removed : RemovalsAreNested → RemovalsAlone → (a : PartsKept) (l : Left) (kept : List Triple) (removed : List Removed) (history : List RecordedFiring) → Remembers a history → HasTrimmed a l kept
+    → HasRemoved a l removed → map removed_seen removed ≡ (trimmed_of a history).removed
+goals_removed nested alone a l kept removed history remembers h gone =
+    let left = trimmed_of a history in
+    let same = (h.trims history remembers).goals_are in
+    gone.removed_are
+    ∙ (λ k. at_depths (suc (length (same k))) (drop (length (same k)) a.goals))
+    ∙ sym (alone (suc (length left.goals)) (drop (length left.goals) a.goals))
+    ∙ sym (nested history a.memory.elements (remains_of (held_by a.goals a.depends a.prefs a.inputs a.live)))
+
+events_left : RemovalsAreNested → RemovalsAlone → (a : PartsKept) (l : Left) (kept : List Triple) (removed : List Removed) (history : List RecordedFiring) (changes : Changes) → Remembers a history
+    → HasTrimmed a l kept → HasRemoved a l removed → changes.gone ≡ without_elements (elements_left a l kept) a.memory.elements
+    → changes.new ≡ without_elements a.memory.elements (elements_left a l kept)
+    → settled_events (record { removed = removed; changes = changes }) ≡ (step_to a history (trimmed_of a history)).events
+events_left nested alone a l kept removed history changes remembers h gone gone_are new_are =
+    let same = elements_are a l kept history remembers h in
+    let went = gone_are ∙ ap (λ after. without_elements after a.memory.elements) same in
+    let came = new_are ∙ ap (without_elements a.memory.elements) same in
+    λ k. removal_events (goals_removed nested alone a l kept removed history remembers h gone k) ++ (map goes (went k) ++ map comes (came k))
+
+pub settles : RemovalsAreNested → RemovalsAlone → (a : PartsKept) (l : Left) (kept : List Triple) (removed : List Removed) (history : List RecordedFiring) (memory : WorkingMemory) (changes : Changes)
+    → Remembers a history → HasTrimmed a l kept → HasRemoved a l removed
+    → Retags a.table l.goals kept a.memory memory (Ok changes) → IsResettled (with_left a l memory) (record { removed = removed; changes = changes }) (resettled_now (agent_of a history))
+settles nested alone a l kept removed history memory changes remembers h gone tagged = record {
   stands = stands_for (with_left a l memory) history (resettled_now (agent_of a history)).agent (remembers_left a l kept history memory remembers h)
       (agent_left a l kept history memory remembers h tagged.memory_is ∙ ap (λ (s : AgentStep). s.agent) (sym (step_is a history)));
   within = ap (λ (s : AgentStep). first_passed s.totals) (step_is a history) ∙ ap (λ after. passed_by after a.memory) (sym (elements_are a l kept history remembers h)) ∙ tagged.within;
+  events_are = events_left nested alone a l kept removed history changes remembers h gone tagged.gone_are tagged.new_are ∙ ap (λ (s : AgentStep). s.events) (sym (step_is a history));
 }
 
-pub resettles : (a : PartsKept) (l : Left) (kept : List Triple) (history : List RecordedFiring) (memory : WorkingMemory) (r : Result Changes Stop) → Remembers a history → HasTrimmed a l kept
-    → Retags a.table l.goals kept a.memory memory r → Resettles (with_left a l memory) (agent_of a history) r
-resettles a l kept history memory (Ok changes) remembers h tagged = settles a l kept history memory changes remembers h tagged
-resettles a l kept history memory (Err why) remembers h tagged = stops_resettling a (with_left a l memory) l kept history memory why remembers h tagged
+pub settles_not : (a new : PartsKept) (l : Left) (kept : List Triple) (history : List RecordedFiring) (memory : WorkingMemory) (r : Result Settled Stop) (why : Stop) → r ≡ Err why → Remembers a history
+    → HasTrimmed a l kept → Retags a.table l.goals kept a.memory memory (Err why) → Resettles new (agent_of a history) r
+settles_not a new l kept history memory r why is remembers h tagged =
+    subst (Resettles new (agent_of a history)) (sym is) (stops_resettling a new l kept history memory why remembers h tagged)
 
 -- ---- what is sound stays so
 
@@ -157,12 +193,7 @@ kept_sound a l kept h sound =
     subst (AreTriplesKnown a.table) (sym h.kept_is)
     (kept_known a.table a.letters l.goals (supports_held (held_by l.goals l.depends l.prefs l.inputs l.live)) sound.first_words (goals_left a l kept h sound) (supports_left a l kept h sound))
 
-length_take : (n : ℕ) (goals : List Goal) → length (take n goals) ≤ length goals
-length_take zero goals = omega arith
-length_take (suc n) [] = omega arith
-length_take (suc n) (goal ∷ goals) = omega (arith, length_take n goals)
-
-left_sound : (a : PartsKept) (l : Left) (kept : List Triple) (memory : WorkingMemory) → HasTrimmed a l kept → IsSound a
+pub left_sound : (a : PartsKept) (l : Left) (kept : List Triple) (memory : WorkingMemory) → HasTrimmed a l kept → IsSound a
     → memory ≡ record a.memory { elements = elements_left a l kept; last = last_of (elements_left a l kept) a.memory } → IsSound (with_left a l memory)
 left_sound a l kept memory h sound memory_is =
     let elements = ap (λ (m : WorkingMemory). m.elements) memory_is in
@@ -191,16 +222,13 @@ left_sound a l kept memory h sound memory_is =
       inputs_known = (supports_left a l kept h sound).inputs_known;
       queue_known = sound.queue_known;
       output_known = sound.output_known;
+      live_known = live_left a.table (map live_seen a.live) (map live_seen l.live) h.keeps.live_are sound.live_known;
     }
 
-pub stays_sound : (a : PartsKept) (l : Left) (kept : List Triple) (memory : WorkingMemory) (r : Result Changes Stop) → HasTrimmed a l kept → IsSound a
-    → Retags a.table l.goals kept a.memory memory r → IfOk r (λ changes. IsSound (with_left a l memory))
-stays_sound a l kept memory (Ok changes) h sound tagged = left_sound a l kept memory h sound tagged.memory_is
-stays_sound a l kept memory (Err why) h sound tagged = tt
-
--- ---- what a matcher is told
-
-pub tells : (a : PartsKept) (goals : List Goal) (kept : List Triple) (memory : WorkingMemory) (r : Result Changes Stop) → ChangesAreTold
-    → Retags a.table goals kept a.memory memory r → IfOk r (IsTold a.memory.elements memory.elements)
-tells a goals kept memory (Ok changes) told tagged = told a.table goals kept a.memory memory changes tagged.lawful tagged
-tells a goals kept memory (Err why) told tagged = tt
+-- what is told is known
+pub tells_known : (a : PartsKept) (l : Left) (kept : List Triple) (removed : List Removed) (memory : WorkingMemory) (changes : Changes) → HasTrimmed a l kept → HasRemoved a l removed → IsSound a
+    → Retags a.table l.goals kept a.memory memory (Ok changes) → AreEventsKnown a.table (settled_events (record { removed = removed; changes = changes }))
+tells_known a l kept removed memory changes h gone sound tagged =
+    settled_known a.table a.letters (length l.goals) a.goals a.memory.elements (elements_left a l kept) (record { removed = removed; changes = changes }) sound.goals_known sound.elements_known
+    (after_known a.table l.goals kept a.memory.last a.memory.elements (kept_sound a l kept h sound) sound.elements_known)
+    gone.removed_are tagged.gone_are tagged.new_are

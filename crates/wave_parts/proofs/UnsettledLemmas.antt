@@ -26,7 +26,7 @@ use Rattle.wave_parts.specs.Living.{has_left, still_live}
 use Rattle.soar_settle.specs.Renewal.{RenewsRows}
 use Rattle.wave_parts.specs.Resettles.{resettled_now}
 use Rattle.wave_parts.specs.Remembers.{Remembers}
-use Rattle.wave_parts.specs.Seen.{agent_of, AreNoJustifications, IsSound}
+use Rattle.wave_parts.specs.Seen.{agent_of, AreLiveKnown, AreNoJustifications, IsSound}
 use Rattle.wave_parts.specs.WaveParts.{ended_in, fired_in, live_after, rows_made_in, settled_after, unsettled}
 use Rattle.wave_parts.specs.declared.parts.Parts.{Parts as PartsKept}
 use Rattle.wave_firings.specs.declared.firing.Fired.{Fired}
@@ -40,6 +40,7 @@ use Rattle.wave_parts.proofs.FiredWaveLemmas.{program_stays, learned_stays, tag_
 use Rattle.wave_firings.proofs.FiringKnown.{are_rules_grown, are_rows_grown}
 use Rattle.wave_parts.proofs.EndedLemmas.{ended_last, ended_learned, ended_live, ended_names, ended_program}
 use Rattle.wave_parts.proofs.FitLemmas.{IsFit}
+use Rattle.wave_parts.proofs.NamedLemmas.{live_append, live_filter, live_grown}
 use Rattle.wave_parts.proofs.GrownLemmas.{elements_grown, goals_grown, numbered_later, triples_grown, rows_after_known}
 
 -- ---- rules
@@ -69,7 +70,7 @@ firings_more n m k count is h = omega (arith, is, h)
 
 pub retractions_more : (old : PartsKept) (work : Work) (w : WorkOf) (k n : ℕ) → IsPending (map rule_seen old.rules) old.memory.elements work w → k ≡ length work.retracted → n ≡ old.retractions + k
     → n ≡ old.retractions + length w.retracted
-retractions_more old work w k n pend is h = omega (arith, is, h, ap length pend.retracted_are, length-map w.retracted (λ l. l.number))
+retractions_more old work w k n pend is h = omega (arith, is, h, ap length pend.retracted_are, length-map work.retracted live_seen)
 
 -- ---- the agent
 
@@ -79,22 +80,22 @@ fired_agent old table letters prefs live waves firings retractions =
     record old { table = table; letters = letters; prefs = prefs; live = live; waves = waves; firings = firings; retractions = retractions }
 
 -- it is what the definition comes to
-pub fired_stands : (old : PartsKept) (history : List RecordedFiring) (work : Work) (w : WorkOf) (made : Fired) (table : Texts) (letters : List ℕ) (prefs : PreferenceMemory) (live : List Live) (waves firings retractions : ℕ)
-    → IsSound old → IsPending (map rule_seen old.rules) old.memory.elements work w
-    → HasFired (before_wave (agent_of old history)) table letters (length work.fired) made (first_wave (agent_of old history)) (fired_in (agent_of old history) w)
-    → RenewsRows old.prefs prefs work.retracted made.rows
-    → map live_seen live ≡ still_live work.retracted (map live_seen old.live) ++ map live_seen made.live
-    → waves ≡ suc old.waves → firings ≡ old.firings + length work.fired → retractions ≡ old.retractions + length w.retracted
+pub fired_stands : (old : PartsKept) (history : List RecordedFiring) (w : WorkOf) (count : ℕ) (gone : List ℕ) (made : Fired) (table : Texts) (letters : List ℕ) (prefs : PreferenceMemory) (live : List Live) (waves firings retractions : ℕ)
+    → IsSound old → gone ≡ numbers_of w.retracted
+    → HasFired (before_wave (agent_of old history)) table letters count made (first_wave (agent_of old history)) (fired_in (agent_of old history) w)
+    → RenewsRows old.prefs prefs gone made.rows
+    → map live_seen live ≡ still_live gone (map live_seen old.live) ++ map live_seen made.live
+    → waves ≡ suc old.waves → firings ≡ old.firings + count → retractions ≡ old.retractions + length w.retracted
     → agent_of (fired_agent old table letters prefs live waves firings retractions) history ≡ unsettled (agent_of old history) w.retracted (ended_in (agent_of old history) w)
-fired_stands old history work w made table letters prefs live waves firings retractions sound pend fired renews lives waves_is firings_is retractions_is =
+fired_stands old history w count gone made table letters prefs live waves firings retractions sound gone_is fired renews lives waves_is firings_is retractions_is =
     let a = agent_of old history in
     let v = fired_in a w in
     let ended = ended_in a w in
     let program : ended.program ≡ a.program = ended_program a w ∙ program_stays (before_wave a) (first_wave a) w.fired in
     let rows : prefs.rows ≡ rows_after old.prefs.rows (numbers_of w.retracted) (rows_made_in ended) =
-    ap (λ p. p.rows) renews.rows ∙ (λ k. rows_after old.prefs.rows (pend.retracted_are k) (fired.rows_are k)) in
+    ap (λ p. p.rows) renews.rows ∙ (λ k. rows_after old.prefs.rows (gone_is k) (fired.rows_are k)) in
     let lives_are : map live_seen live ≡ live_after a.holding.live w.retracted ended =
-    lives ∙ (λ k. live_is work.retracted w.retracted a.holding.live pend.retracted_are k ++ (fired.live_are ∙ sym (ended_live a w)) k) in
+    lives ∙ (λ k. live_is gone w.retracted a.holding.live gone_is k ++ (fired.live_are ∙ sym (ended_live a w)) k) in
     let rules : a.program ≡ without_spent w.retracted ended.program =
     (λ k. record a.program { rules = sym (kept_rules w.retracted a.program.rules sound.none_learned) k }) ∙ ap (without_spent w.retracted) (sym program) in
     let names = ended_names a w in
@@ -157,9 +158,10 @@ rows_after_of last more rows made gone grows old new row is =
 
 pub fired_sound : (old : PartsKept) (table : Texts) (letters : List ℕ) (prefs : PreferenceMemory) (live : List Live) (waves firings retractions : ℕ) (gone : List ℕ) (made : Fired)
     → WaveKeepsRange → IsSound old → length old.table ≤ length table → LettersKeep old.letters letters → old.firings ≤ firings → RenewsRows old.prefs prefs gone made.rows
-    → AreRowsKnown table made.rows → IsFit firings made
+    → map live_seen live ≡ still_live gone (map live_seen old.live) ++ map live_seen made.live
+    → AreRowsKnown table made.rows → AreLiveKnown table (map live_seen made.live) → IsFit firings made
     → IsSound (fired_agent old table letters prefs live waves firings retractions)
-fired_sound old table letters prefs live waves firings retractions gone made keeps sound grown keep more renews known fit =
+fired_sound old table letters prefs live waves firings retractions gone made keeps sound grown keep more renews lives known named fit =
     let rows = ap (λ (p : PreferenceMemory). p.rows) renews.rows in
     record {
       goals_some = sound.goals_some;
@@ -191,6 +193,10 @@ fired_sound old table letters prefs live waves firings retractions gone made kee
       inputs_known = triples_grown old.table table old.inputs grown sound.inputs_known;
       queue_known = triples_grown old.table table (map triple_queued old.queue) grown sound.queue_known;
       output_known = triples_grown old.table table old.output grown sound.output_known;
+      live_known =
+          subst (AreLiveKnown table) (sym lives)
+          (live_append table (still_live gone (map live_seen old.live)) (map live_seen made.live)
+          (live_filter table (λ l. not (has_left gone l)) (map live_seen old.live) (live_grown old.table table (map live_seen old.live) grown sound.live_known)) named);
     }
 
 -- a halt changes nothing that is kept
@@ -219,4 +225,5 @@ halted_sound a halted s = record {
   inputs_known = s.inputs_known;
   queue_known = s.queue_known;
   output_known = s.output_known;
+  live_known = s.live_known;
 }

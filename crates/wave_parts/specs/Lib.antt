@@ -2,8 +2,10 @@ pub mod Carrying
 pub mod Counting
 pub mod Firing
 pub mod Living
+pub mod Modes
 pub mod Remembers
 pub mod Resettles
 pub mod Seen
+pub mod Settings
 pub mod Stands
 pub mod WaveParts

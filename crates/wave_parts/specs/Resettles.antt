@@ -4,9 +4,10 @@ use Rattle.defs_soar.specs.Agents.{Agent}
 use Rattle.defs_soar.specs.Cycle.{held_with}
 use Rattle.defs_soar.specs.Limits.{first_passed}
 use Rattle.defs_soar.specs.Resettling.{AgentStep, resettled}
+use Rattle.step_report.specs.Reports.{settled_events}
+use Rattle.step_report.specs.declared.settled.Settled.{Settled}
 use Rattle.wave_parts.specs.Stands.{Stands}
 use Rattle.wave_parts.specs.declared.parts.Parts.{Parts as PartsKept}
-use Rattle.soar_settle.specs.declared.changes.Changes.{Changes}
 use Rattle.soar_settle.specs.declared.stop.Stop.{Stop}
 use Rattle.soar_settle.specs.declared.stop.Stop.TheVariants as stop
 
@@ -14,12 +15,13 @@ use Rattle.soar_settle.specs.declared.stop.Stop.TheVariants as stop
 abbrev pub resettled_now : Agent → AgentStep
 resettled_now s = resettled s (held_with s s.holding.inputs)
 
-pub record IsResettled (new : PartsKept) (s : AgentStep) : Type 0 where
+pub record IsResettled (new : PartsKept) (settled : Settled) (s : AgentStep) : Type 0 where
   pub stands : Stands new s.agent
   pub within : first_passed s.totals ≡ None
+  pub events_are : settled_events settled ≡ s.events
 
-abbrev pub Resettles : PartsKept → Agent → Result Changes Stop → Type 0
-Resettles new s (Ok changes) = IsResettled new (resettled_now s)
+abbrev pub Resettles : PartsKept → Agent → Result Settled Stop → Type 0
+Resettles new s (Ok settled) = IsResettled new settled (resettled_now s)
 Resettles new s (Err (stop.Limit which)) = first_passed (resettled_now s).totals ≡ Some which
 Resettles new s (Err stop.NoMemory) = Unit {0}
 
@@ -31,3 +33,4 @@ pub record IsLeft (old new : PartsKept) : Type 0 where
   pub rules : new.rules ≡ old.rules
   pub past : new.past ≡ old.past
   pub firings : new.firings ≡ old.firings
+  pub settings : new.settings ≡ old.settings

@@ -1,5 +1,5 @@
 -- What the parts of an agent keep, the states that they stand for, and a step.
-use Rattle.std.specs.Prelude.{◌≡◌, ℕ, suc, ◌≤◌, ◌<◌, Bool, false, List, [], ◌∷◌, map, flat_map, length, Option, Some, None}
+use Rattle.std.specs.Prelude.{◌≡◌, ℕ, suc, ◌≤◌, Bool, false, List, [], ◌∷◌, map, length, Option, Some, None}
 use Rattle.soar_sym.specs.Letters.{last_of}
 use Rattle.soar_sym.specs.Words.{Texts, IsKnown}
 use Rattle.defs_match.specs.Rules.{RuleOf, rule_seen}
@@ -7,14 +7,12 @@ use Rattle.defs_soar.specs.declared.goal.Goal.{Goal}
 use Rattle.defs_soar.specs.declared.goal.Item.{Item}
 use Rattle.defs_soar.specs.declared.goal.Selection.{Selection}
 use Rattle.defs_soar.specs.Agents.{Agent, LiveFiring}
-use Rattle.defs_soar.specs.Events.{Event, writes_text}
 use Rattle.defs_soar.specs.History.{RecordedFiring}
 use Rattle.defs_soar.specs.Laws.{IsIn}
 use Rattle.defs_soar.specs.Limits.{first_passed}
 use Rattle.defs_soar.specs.Pending.{Work, pending_in, is_justification}
 use Rattle.defs_soar.specs.Phases.{halting}
 use Rattle.defs_soar.specs.Resettling.{AgentStep}
-use Rattle.defs_soar.specs.Start.{first_settings}
 use Rattle.learning_laws.specs.LawfulAgents.{IsNumbered}
 use Rattle.agent_laws.specs.Dependence.{MakersAreEarlier}
 use Rattle.soar_record.specs.Recorded.{recorded}
@@ -24,6 +22,7 @@ use Rattle.input_queue.specs.Seen.{triple_queued}
 use Rattle.goal_trimming.specs.Living.{live_seen}
 use Rattle.pending_work.specs.Firables.{AreNumbered}
 use Rattle.wave_firings.specs.Numbered.{AreOfFirings, AreMakersOfFirings, AreRecordedUpTo}
+use Rattle.wave_parts.specs.Settings.{settings_seen}
 use Rattle.wave_parts.specs.Stands.{Stands, counts_of, queues_of}
 use Rattle.wave_parts.specs.declared.parts.Parts.{Parts as PartsKept}
 
@@ -35,7 +34,7 @@ agent_of a history = record {
   queues = queues_of a;
   program = record { rules = map rule_seen a.rules; last_rule = a.last_rule; chains = []; chunks = 0; justifications = 0 };
   counts = counts_of a;
-  settings = first_settings 1;
+  settings = settings_seen a.settings;
   history = history;
   output = a.output;
   halted = a.halted;
@@ -72,6 +71,11 @@ abbrev pub AreUpTo : ℕ → List RuleOf → Type 0
 AreUpTo last [] = Unit {0}
 AreUpTo last (rule ∷ rules) = (rule.number ≤ last) × AreUpTo last rules
 
+-- the name of each live firing is a symbol of the table
+abbrev pub AreLiveKnown : Texts → List LiveFiring → Type 0
+AreLiveKnown words [] = Unit {0}
+AreLiveKnown words (l ∷ live) = IsKnown words l.name × AreLiveKnown words live
+
 -- goals that the letters gave, the limits, rules in order of number, rows as decisions ask them, firings numbered up to the last, each of which used what earlier ones
 -- made, and words that the table has, those of the architecture among them
 pub record IsSound (a : PartsKept) : Type 0 where
@@ -98,6 +102,7 @@ pub record IsSound (a : PartsKept) : Type 0 where
   pub inputs_known : AreTriplesKnown a.table a.inputs
   pub queue_known : AreTriplesKnown a.table (map triple_queued a.queue)
   pub output_known : AreTriplesKnown a.table a.output
+  pub live_known : AreLiveKnown a.table (map live_seen a.live)
 
 -- ---- a step
 
@@ -105,11 +110,3 @@ pub record IsSound (a : PartsKept) : Type 0 where
 pub record Stepped (new : PartsKept) (s : AgentStep) : Type 0 where
   pub stands : Stands new (halting s)
   pub within : first_passed s.totals ≡ None
-
--- what an event writes at every level
-abbrev pub written_by : Event → List ℕ
-written_by (writes_text text) = text
-written_by other = []
-
-abbrev pub written_of : List Event → List ℕ
-written_of events = flat_map written_by events

@@ -5,10 +5,10 @@ use Rattle.defs_soar.specs.Agents.{Agent, Counts, Queues}
 use Rattle.defs_soar.specs.Standing.{HoldsWords, HoldsLetters, HoldsElements, HoldsLastTag, HoldsGoals, HoldsRows, HoldsInputs, HoldsLive}
 use Rattle.defs_soar.specs.Standing.{HoldsQueues, HoldsRules, HoldsLastRule, HoldsChains, HoldsLearnedNumbers, HoldsCounts}
 use Rattle.defs_soar.specs.Standing.{HoldsSettings, HoldsOutput, HoldsHalt}
-use Rattle.defs_soar.specs.Start.{first_settings}
 use Rattle.input_queue.specs.Seen.{queued_seen}
 use Rattle.goal_trimming.specs.Living.{live_seen}
 use Rattle.wave_parts.specs.Remembers.{Remembers}
+use Rattle.wave_parts.specs.Settings.{settings_seen}
 use Rattle.wave_parts.specs.declared.parts.Parts.{Parts as PartsKept}
 
 abbrev pub counts_of : PartsKept → Counts
@@ -34,7 +34,7 @@ pub record Stands (a : PartsKept) (s : Agent) : Type 0 where
   pub chains : HoldsChains [] s
   pub learned_numbers : HoldsLearnedNumbers 0 0 s
   pub counts : HoldsCounts (counts_of a) s
-  pub settings : HoldsSettings (first_settings 1) s
+  pub settings : HoldsSettings (settings_seen a.settings) s
   pub output : HoldsOutput a.output s
   pub halted : HoldsHalt a.halted s
   pub remembers : Remembers a s.history

@@ -1,5 +1,5 @@
 // The firings of a wave, against what is there before it.
-ghost use Rattle.std.specs.Prelude.{◌≡◌, map, IfOk};
+ghost use Rattle.std.specs.Prelude.{◌≡◌, flat_map, map, IfOk};
 ghost use Rattle.soar_wm.specs.WorkingMemory.{triple_of};
 ghost use Rattle.defs_match.specs.Rules.{rule_seen};
 ghost use Rattle.firing_records.specs.Recorded.{recorded_seen};
@@ -7,6 +7,8 @@ ghost use Rattle.pending_work.specs.Firables.{AreBound};
 ghost use Rattle.soar_fire.specs.Growth.{Grown, LettersKeep};
 ghost use Rattle.soar_levels.specs.Told.{TellsLevels};
 ghost use Rattle.soar_settle.specs.Known.{AreInstancesKnown, AreRowsKnown};
+ghost use Rattle.trace_laws.specs.Events.{AreEventsKnown};
+ghost use Rattle.wave_firings.specs.Told.{told_events};
 ghost use Rattle.wave_firings.specs.Numbered.{AreGoalsOf, AreMakersUpTo, AreNumberedAfter};
 ghost use Rattle.wave_parts.specs.Firing.{FiresHere, IsFiredFrom};
 ghost use Rattle.wave_parts.specs.Seen.{IsSound};
@@ -40,6 +42,7 @@ impl Parts {
         ensures answer { FiresHere self.old self.new instances.now result }
         ensures from { IsFiredFrom self.old self.new }
         ensures known { IfOk result (λ wave. AreRowsKnown self.new.table wave.fired.rows) }
+        ensures told { IfOk result (λ wave. AreEventsKnown self.new.table (flat_map told_events wave.fired.told)) }
         ensures recorded { IfOk result (λ wave. AreNumberedAfter self.old.firings (map recorded_seen wave.fired.recorded)
             × AreMakersUpTo self.old.firings (map recorded_seen wave.fired.recorded) × AreGoalsOf self.old.goals (map recorded_seen wave.fired.recorded)) }
         ensures levels { IfOk result (λ wave. TellsLevels wave.levels self.old.goals (map triple_of self.old.memory.elements)) }

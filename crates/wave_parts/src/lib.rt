@@ -1,4 +1,4 @@
-//! The parts of an agent: what is pending in them, what a wave leaves, and what stays once all has settled.
+//! The parts of an agent: what is pending in them, what a wave leaves and tells, and what stays once all has settled.
 #![tactic(auto)]
 
 mod carrying;
@@ -7,7 +7,10 @@ mod firing;
 mod living;
 mod parts;
 mod pending;
+mod removing;
 mod resettling;
+mod restarting;
+mod settings;
 mod start;
 
 pub use carrying::Done;
@@ -15,4 +18,6 @@ pub use counting::count_more;
 pub use goal_trimming::Live;
 pub use parts::Parts;
 pub use pending_work::Work;
+pub use removing::{at_depths, behind};
+pub use settings::Settings;
 pub use soar_settle::{Changes, Stop, retag, settle};

@@ -1,10 +1,23 @@
 // The live firings after a wave.
-ghost use Rattle.std.specs.Prelude.{◌≡◌, ◌++◌, map, OnOk};
+ghost use Rattle.std.specs.Prelude.{◌≡◌, ◌++◌, map, IfOk, OnOk};
+ghost use Rattle.defs_soar.specs.Trimming.{numbers_of};
 ghost use Rattle.goal_trimming.specs.Living.{live_seen};
 ghost use Rattle.wave_parts.specs.Living.{has_left, still_live};
 
 use goal_trimming::Live;
 use soar_sym::{List, NoMemory};
+use std::alloc::Global;
+
+/// The numbers of firings.
+pub fn numbers_of(alloc: Global, firings: &[Live]) -> Result<List<u64>, NoMemory>
+    ensures { IfOk result (λ numbers. numbers ≡ numbers_of (map live_seen firings.now)) }
+{
+    let mut numbers = List::new(alloc);
+    'firings: for firing in firings {
+        numbers.push(firing.number)?;
+    }
+    Ok(numbers)
+}
 
 /// Takes away the firings that left, and adds those of the wave.
 pub fn renew_live(live: &mut List<Live>, gone: &[u64], fired: List<Live>) -> Result<(), NoMemory>

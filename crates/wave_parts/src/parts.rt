@@ -1,3 +1,4 @@
+use crate::settings::Settings;
 use defs_match::Rule;
 use goal_trimming::Live;
 use input_queue::Queued;
@@ -8,7 +9,7 @@ use soar_sym::{Letters, List, SymTable, Triple};
 use soar_wm::Memory;
 
 /// What an agent keeps: its words, working memory and what holds that up, its goals, its rules, its firings, what waits
-/// for it, and how much it did.
+/// for it, how much it did, and how it is set.
 #[derive(Drop)]
 pub struct Parts {
     pub table: SymTable,
@@ -36,4 +37,5 @@ pub struct Parts {
     /// What the output link showed in the last output phase.
     pub output: List<Triple>,
     pub halted: bool,
+    pub settings: Settings,
 }

@@ -2,10 +2,11 @@ ghost use Rattle.std.specs.Prelude.{◌≡◌, map, IfOk};
 ghost use Rattle.defs_match.specs.Rules.{rule_seen};
 ghost use Rattle.defs_match.specs.Conflict.{conflict};
 ghost use Rattle.defs_soar.specs.Pending.{is_none};
+ghost use Rattle.goal_trimming.specs.Living.{live_seen};
 ghost use Rattle.pending_work.specs.Firables.{AreBound, IsPending};
 ghost use Rattle.pending_work.specs.Working.{is_nothing};
 ghost use Rattle.soar_settle.specs.Known.{AreInstancesKnown};
-ghost use Rattle.wave_parts.specs.Seen.{IsSound, pending_of};
+ghost use Rattle.wave_parts.specs.Seen.{AreLiveKnown, IsSound, pending_of};
 
 use crate::parts::Parts;
 use defs_match::Instance;
@@ -29,6 +30,7 @@ impl Parts {
         // What carrying it out asks.
         ensures bound { IfOk result (λ work. AreBound (map rule_seen self.now.rules) work.fired) }
         ensures known { IfOk result (λ work. AreInstancesKnown self.now.table work.fired) }
+        ensures names { IfOk result (λ work. AreLiveKnown self.now.table (map live_seen work.retracted)) }
     {
         pending(
             alloc,

@@ -1,27 +1,39 @@
-ghost use Rattle.std.specs.Prelude.{◌≡◌, IfOk};
+ghost use Rattle.std.specs.Prelude.{◌≡◌, suc, drop, length, map, IfOk};
 ghost use Rattle.defs_soar.specs.Agents.{Agent as AgentOf};
+ghost use Rattle.defs_soar.specs.Trimming.{at_depths};
 ghost use Rattle.matching_laws.specs.Telling.{IsTold};
+ghost use Rattle.step_report.specs.Reports.{removed_seen, settled_events};
+ghost use Rattle.trace_laws.specs.Events.{AreEventsKnown};
 ghost use Rattle.wave_parts.specs.Resettles.{IsLeft, Resettles};
 ghost use Rattle.wave_parts.specs.Seen.{IsSound};
 ghost use Rattle.wave_parts.specs.Stands.{Stands};
 
 use crate::parts::Parts;
+use crate::removing::{at_depths, behind};
 use goal_trimming::trim;
 use matching_laws::changes_are_told;
-use soar_settle::{Changes, Stop, retag};
+use removal_laws::{removals_alone, removals_are_nested};
+use soar_settle::{Stop, retag};
 use std::alloc::Global;
+use step_report::Settled;
 
 impl Parts {
     /// Settles what is held, without the goals that lost something on which they depend, and makes working memory of
-    /// it. Gives what went there and what came (Soar manual, chapter 2, support, goal dependency sets).
-    pub fn resettle(&mut self, alloc: Global) -> Result<Changes, Stop>
+    /// it. Gives the goals that went, and what went from there and what came (Soar manual, chapter 2, support, goal
+    /// dependency sets).
+    pub fn resettle(&mut self, alloc: Global) -> Result<Settled, Stop>
         requires sound { IsSound self.old }
         ensures resettled { (s : AgentOf) → Stands self.old s → Resettles self.new s result }
-        ensures told { IfOk result (IsTold self.old.memory.elements self.new.memory.elements) }
+        ensures removed { IfOk result (λ settled. map removed_seen settled.removed ≡ at_depths (suc (length self.new.goals)) (drop (length self.new.goals) self.old.goals)) }
+        ensures told { IfOk result (λ settled. IsTold self.old.memory.elements self.new.memory.elements settled.changes) }
+        ensures known { IfOk result (λ settled. AreEventsKnown self.new.table (settled_events settled)) }
         ensures left { IsLeft self.old self.new }
         ensures sound { IfOk result (λ _. IsSound self.new) }
     {
         changes_are_told();
+        removals_are_nested();
+        removals_alone();
+        let before = at_depths(alloc, self.goals.list().as_slice())?;
         let kept = trim(
             alloc,
             &mut self.goals,
@@ -31,12 +43,14 @@ impl Parts {
             &mut self.live,
             &self.memory,
         )?;
-        retag(
+        let removed = behind(alloc, before.as_slice(), self.goals.list().len())?;
+        let changes = retag(
             alloc,
             &self.table,
             self.goals.list(),
             &kept,
             &mut self.memory,
-        )
+        )?;
+        Ok(Settled { removed, changes })
     }
 }

@@ -1,11 +1,14 @@
 // The agent at the start.
 ghost use Rattle.std.specs.Prelude.{◌≡◌, ◌<◌, ◌-◌, ◌^◌, false, [], None, length, IfOk, OnOk};
-ghost use Rattle.defs_soar.specs.Start.{first_agent, first_elements, first_letters};
+ghost use Rattle.defs_soar.specs.Start.{first_agent, first_elements, first_letters, first_settings};
 ghost use Rattle.soar_wm.specs.WorkingMemory.{tag_of, with_triple};
 ghost use Rattle.wave_parts.specs.Seen.{IsSound};
+ghost use Rattle.wave_parts.specs.Settings.{settings_seen};
 ghost use Rattle.wave_parts.specs.Stands.{Stands};
 
 use crate::parts::Parts;
+use crate::settings::Settings;
+use defs_soar::Mode;
 use soar_goals::Goals;
 use soar_prefs::Prefs;
 use soar_record::Record;
@@ -15,9 +18,9 @@ use std::alloc::Global;
 
 const MOST_ELEMENTS: u32 = 4_000_000;
 
-const MOST_ROWS: u32 = 1_000_000;
+pub const MOST_ROWS: u32 = 1_000_000;
 
-const TOP: Sym = Sym::Ident {
+pub const TOP: Sym = Sym::Ident {
     letter: b'S',
     number: 1,
 };
@@ -39,8 +42,9 @@ const OUTPUT: Sym = Sym::Ident {
 
 impl Parts {
     /// The top state with its input and output links, and no rule (Soar manual, chapter 2, the top state).
-    pub fn new(alloc: Global) -> Result<Parts, NoMemory>
-        ensures stands { IfOk result (λ parts. Stands parts (first_agent 1)) }
+    /// `watch` is the watch level.
+    pub fn new(alloc: Global, watch: u8) -> Result<Parts, NoMemory>
+        ensures stands { IfOk result (λ parts. Stands parts (first_agent watch)) }
         ensures sound { IfOk result (λ parts. IsSound parts) }
     {
         let table = SymTable::new(alloc)?;
@@ -68,12 +72,26 @@ impl Parts {
             retractions: 0,
             output: List::new(alloc),
             halted: false,
+            settings: first_settings(watch),
         })
     }
 }
 
+/// The settings of the start, at a watch level.
+fn first_settings(watch: u8) -> Settings
+    ensures { settings_seen result ≡ first_settings watch }
+{
+    Settings {
+        learning: false,
+        local_negations: false,
+        mode: Mode::Softmax,
+        max_elaborations: 100,
+        watch,
+    }
+}
+
 /// The numbers of the first three identifiers of letter I and of the first of letter S are given.
-fn first_letters() -> Letters
+pub fn first_letters() -> Letters
     ensures { result ≡ first_letters }
 {
     let mut letters = Letters::new();
@@ -83,7 +101,7 @@ fn first_letters() -> Letters
 }
 
 /// Working memory with the elements of the start.
-fn first_memory(alloc: Global) -> Result<Memory, NoMemory>
+pub fn first_memory(alloc: Global) -> Result<Memory, NoMemory>
     ensures { IfOk result (λ memory. memory ≡ record { elements = first_elements; limit = 4000000; last = 5 }) }
 {
     let mut memory = Memory::new(alloc, MOST_ELEMENTS, 0)?;
