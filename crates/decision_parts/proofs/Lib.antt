@@ -1,0 +1,16 @@
+pub mod AnswerLemmas
+pub mod DecidingLemmas
+pub mod EndingLemmas
+pub mod KnownLemmas
+pub mod LeavingLemmas
+pub mod LetterLemmas
+pub mod MergedLemmas
+pub mod OperatorLemmas
+pub mod PushedLemmas
+pub mod RemovalLemmas
+pub mod SayingLemmas
+pub mod SelectedLemmas
+pub mod SettledLemmas
+pub mod StepLemmas
+pub mod SubstateLemmas
+pub mod WalkedLemmas

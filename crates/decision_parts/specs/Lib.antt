@@ -1,0 +1,5 @@
+pub mod Deciding
+pub mod Pushing
+pub mod Saying
+pub mod Settling
+pub mod Stepping
