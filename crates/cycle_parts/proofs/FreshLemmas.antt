@@ -78,6 +78,7 @@ fresh_sound a letters letter is sound =
       inputs_known = sound.inputs_known;
       queue_known = sound.queue_known;
       output_known = sound.output_known;
+      live_known = sound.live_known;
     }
 
 -- the symbol is the next of its letter, and nothing else changes
@@ -90,9 +91,7 @@ pub gave_next : (a : PartsKept) (letters : List ℕ) (letter : ℕ) (symbol : Sy
 gave_next a letters letter symbol symbol_is is within =
     of_each_state (λ (s : Agent). GaveNext letter symbol s (with_letters a letters)) a (λ history remembers. record {
       symbol_is = symbol_is;
-      stepped = stepped_at (with_letters a letters) (fresh_step letter (agent_of a history)) refl (record {
-        stands = stands_for (with_letters a letters) history (fresh_step letter (agent_of a history)).agent
-            (letters_remember a history letters (numbers_keep a.letters letters letter is) remembers) (ap (λ l. agent_of (with_letters a l) history) is);
-        within = within;
-      });
+      stepped = stepped_at (with_letters a letters) (fresh_step letter (agent_of a history)) refl
+          (stands_for (with_letters a letters) history (fresh_step letter (agent_of a history)).agent
+          (letters_remember a history letters (numbers_keep a.letters letters letter is) remembers) (ap (λ l. agent_of (with_letters a l) history) is)) within;
     })

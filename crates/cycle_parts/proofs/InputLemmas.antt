@@ -4,7 +4,7 @@ use Rattle.soar_sym.specs.declared.symbol.Triple.{Triple}
 use Rattle.defs_soar.specs.declared.limit.Which.TheVariants as which
 use Rattle.defs_soar.specs.Agents.{Agent}
 use Rattle.defs_soar.specs.Cycle.{after_input, with_changes}
-use Rattle.defs_soar.specs.Events.{begins, input_phase}
+use Rattle.defs_soar.specs.Events.{Event, begins, input_phase}
 use Rattle.defs_soar.specs.History.{RecordedFiring}
 use Rattle.defs_soar.specs.Limits.{counts_to, first_passed, limit_passed, or_limit}
 use Rattle.defs_soar.specs.Resettling.{AgentStep, resettled}
@@ -16,8 +16,9 @@ use Rattle.wave_parts.specs.Resettles.{resettled_now}
 use Rattle.wave_parts.specs.Seen.{agent_of}
 use Rattle.wave_parts.specs.Stands.{Stands}
 use Rattle.wave_parts.specs.declared.parts.Parts.{Parts as PartsKept}
+use Rattle.step_report.specs.declared.settled.Settled.{Settled}
 use Rattle.wave_parts.proofs.StandsLemmas.{of_each_state, remembers_same, stands_at}
-use Rattle.cycle_parts.specs.Stepping.{QuietStep}
+use Rattle.cycle_parts.specs.Settling.{Settles}
 
 -- ---- the number of cycles
 
@@ -51,17 +52,20 @@ input_is a history inputs cycles changed counted =
 
 -- ---- each answer
 
-in_cycle_steps : (n : ℕ) (s : AgentStep) (new : PartsKept) (result : Result (Unit {0}) Stop) → n ≤ 18446744073709551615 → QuietStep s new result → QuietStep (in_cycle n s) new result
-in_cycle_steps n s new (Ok done) fits h = record { stands = h.stands; within = ap (λ o. or_limit o (first_passed s.totals)) (within_counts n fits) ∙ h.within }
+in_cycle_steps : (n : ℕ) (s : AgentStep) (new : PartsKept) (result : Result Settled Stop) → n ≤ 18446744073709551615 → Settles [] s new result → Settles (begins input_phase ∷ []) (in_cycle n s) new result
+in_cycle_steps n s new (Ok settled) fits h = record {
+  stepped = record { stands = h.stepped.stands; within = ap (λ o. or_limit o (first_passed s.totals)) (within_counts n fits) ∙ h.stepped.within };
+  events_are = ap (λ (events : List Event). begins input_phase ∷ events) h.events_are;
+}
 in_cycle_steps n s new (Err (stop.Limit limit)) fits h = ap (λ o. or_limit o (first_passed s.totals)) (within_counts n fits) ∙ h
 in_cycle_steps n s new (Err stop.NoMemory) fits h = tt
 
-pub takes_input : (a new : PartsKept) (inputs : List Triple) (cycles : ℕ) (result : Result (Unit {0}) Stop) → inputs ≡ with_changes a.inputs (map queued_seen a.queue) → Counts (a.cycles + 1) (Ok cycles)
-    → ((s : Agent) → Stands (with_inputs a inputs cycles) s → QuietStep (resettled_now s) new result)
-    → (s : Agent) → Stands a s → QuietStep (after_input s) new result
+pub takes_input : (a new : PartsKept) (inputs : List Triple) (cycles : ℕ) (result : Result Settled Stop) → inputs ≡ with_changes a.inputs (map queued_seen a.queue) → Counts (a.cycles + 1) (Ok cycles)
+    → ((s : Agent) → Stands (with_inputs a inputs cycles) s → Settles [] (resettled_now s) new result)
+    → (s : Agent) → Stands a s → Settles (begins input_phase ∷ []) (after_input s) new result
 takes_input a new inputs cycles result changed counted settled =
-    of_each_state (λ (s : Agent). QuietStep (after_input s) new result) a
-    (λ history remembers. subst (λ (s : AgentStep). QuietStep s new result) (sym (input_is a history inputs cycles changed counted.0))
+    of_each_state (λ (s : Agent). Settles (begins input_phase ∷ []) (after_input s) new result) a
+    (λ history remembers. subst (λ (s : AgentStep). Settles (begins input_phase ∷ []) s new result) (sym (input_is a history inputs cycles changed counted.0))
     (in_cycle_steps cycles (resettled_now (agent_of (with_inputs a inputs cycles) history)) new result (omega (arith, counted.0, counted.1))
     (settled (agent_of (with_inputs a inputs cycles) history) (stands_at (with_inputs a inputs cycles) history (remembers_same a (with_inputs a inputs cycles) history refl refl refl refl remembers)))))
 
@@ -70,7 +74,7 @@ unfolding after_input resettled
 stops_at a history over = ap (λ o. or_limit o (first_passed (resettled_now (agent_of (with_inputs a (with_changes a.inputs (map queued_seen a.queue)) (suc a.cycles)) history)).totals)) (passed_counts (suc a.cycles) over)
 
 -- a cycle too many
-pub input_stops : (a new : PartsKept) (why : Stop) → Counts (a.cycles + 1) (Err why) → (s : Agent) → Stands a s → QuietStep {T = Unit {0}} (after_input s) new (Err why)
+pub input_stops : (a new : PartsKept) (why : Stop) → Counts (a.cycles + 1) (Err why) → (s : Agent) → Stands a s → Settles (begins input_phase ∷ []) (after_input s) new (Err why)
 input_stops a new (stop.Limit limit) over =
     of_each_state (λ (s : Agent). first_passed (after_input s).totals ≡ Some limit) a (λ history remembers. stops_at a history (omega (arith, over.1)) ∙ ap Some (sym over.0))
 input_stops a new stop.NoMemory over = absurd over

@@ -1,5 +1,5 @@
 -- A rule under the next number, behind those that do not have its name.
-use Rattle.std.proofs.Common.{◌≡◌, ℕ, suc, ◌+◌, false, not, List, [], ◌∷◌, ◌++◌, map, filter, Ok, refl, sym, ap, subst, ◌∙◌, arith}
+use Rattle.std.proofs.Common.{◌≡◌, ℕ, suc, ◌+◌, false, not, List, [], ◌∷◌, ◌++◌, map, Ok, refl, sym, ap, subst, ◌∙◌, arith}
 use Rattle.std.specs.List.{list_any}
 use Rattle.std.proofs.lemmas.List.{map-append}
 use Rattle.soar_sym.specs.declared.symbol.Sym.{Sym}
@@ -20,12 +20,9 @@ use Rattle.wave_parts.proofs.LimitLemmas.{passed_later, passes_not}
 use Rattle.wave_parts.proofs.StandsLemmas.{of_each_state, remembers_same, stands_for}
 use Rattle.cycle_parts.specs.Calls.{load_step}
 use Rattle.cycle_parts.proofs.NumberLemmas.{none_numbered, with_last_rule}
-use Rattle.cycle_parts.proofs.LoadedLemmas.{up_to_filter}
+use Rattle.cycle_parts.proofs.RuleLemmas.{up_to_filter}
+use Rattle.cycle_parts.proofs.SoundLemmas.{unnamed}
 use Rattle.cycle_parts.proofs.SteppingLemmas.{stepped_at}
-
--- those that do not have the name
-abbrev pub unnamed : Sym → List RuleOf → List RuleOf
-unnamed name rules = filter (λ rule. not (is_named name rule)) rules
 
 kept_given : (a : PartsKept) (rules : List Rule) (name : Sym) → IsSound a → map rule_seen rules ≡ unnamed name (map rule_seen a.rules) → AreUpTo a.last_rule (map rule_seen rules)
 kept_given a rules name sound are = subst (AreUpTo a.last_rule) (sym are) (up_to_filter (λ rule. not (is_named name rule)) a.last_rule (map rule_seen a.rules) sound.numbers_given)
@@ -63,8 +60,7 @@ pub loads : (a : PartsKept) (rules : List Rule) (number : ℕ) (production : Pro
 loads a rules number production counted are =
     let next : number ≡ suc a.last_rule = omega (arith, counted.0) in
     of_each_state (λ (s : Agent). Stepped (with_rules rules number a) (load_step production s)) a (λ history remembers.
-    stepped_at (with_rules rules number a) (load_step production (agent_of a history)) refl (record {
-      stands = stands_for (with_rules rules number a) history (load_step production (agent_of a history)).agent
-          (remembers_same a (with_rules rules number a) history refl refl refl refl remembers) (loaded_is a rules number production history next are);
-      within = passed_later (counts_to (suc a.last_rule)) [] (passes_not (suc a.last_rule) which.Counts (omega (arith, counted.1)));
-    }))
+    stepped_at (with_rules rules number a) (load_step production (agent_of a history)) refl
+    (stands_for (with_rules rules number a) history (load_step production (agent_of a history)).agent
+    (remembers_same a (with_rules rules number a) history refl refl refl refl remembers) (loaded_is a rules number production history next are))
+    (passed_later (counts_to (suc a.last_rule)) [] (passes_not (suc a.last_rule) which.Counts (omega (arith, counted.1)))))

@@ -10,8 +10,9 @@ use Rattle.defs_soar.specs.Agents.{Agent}
 use Rattle.defs_soar.specs.Cycle.{held_with}
 use Rattle.defs_soar.specs.Limits.{Total, counts_to, first_passed, identifiers_to}
 use Rattle.defs_soar.specs.Resettling.{AgentStep, resettled}
+use Rattle.defs_soar.specs.Start.{restarted}
 use Rattle.defs_soar.specs.Values.{triple_eq}
-use Rattle.defs_run.specs.Carrying.{with_production}
+use Rattle.defs_run.specs.Carrying.{with_production, without_name}
 use Rattle.soar_settle.specs.declared.stop.Stop.{Stop}
 use Rattle.soar_settle.specs.declared.stop.Stop.TheVariants as stop
 use Rattle.wave_parts.specs.Seen.{Stepped}
@@ -47,6 +48,15 @@ random_step words a = drawn (record a { queues = record a.queues { random = a.qu
 -- in the place of the production of that name, under the next rule number
 abbrev pub load_step : ProductionOf → Agent → AgentStep
 load_step production a = drawn (record a { program = with_production production a.program }) (counts_to (suc a.program.last_rule) ∷ [])
+
+-- without those of the name
+abbrev pub excised_agent : Sym → Agent → Agent
+excised_agent name a = record a { program = without_name name a.program }
+
+-- ---- starting anew
+
+abbrev pub restart_step : Agent → AgentStep
+restart_step a = drawn (restarted a) []
 
 -- ---- identifiers
 

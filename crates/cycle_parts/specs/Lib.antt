@@ -1,6 +1,4 @@
 pub mod Bonds
 pub mod Calls
-pub mod Deciding
-pub mod Pushing
-pub mod Stepping
+pub mod Settling
 pub mod Waving

@@ -10,7 +10,7 @@ use Rattle.soar_settle.specs.declared.stop.Stop.TheVariants as stop
 use Rattle.trace_lines.specs.declared.halting.Phase.{Phase}
 use Rattle.trace_lines.specs.declared.halting.Phase.TheVariants.{Application, Proposal}
 use Rattle.wave_parts.specs.declared.parts.Parts.{Parts as PartsKept}
-use Rattle.cycle_parts.specs.Stepping.{StopsStep, WentStep}
+use Rattle.decision_parts.specs.Stepping.{StopsStep, WentStep}
 use Rattle.cycle_parts.specs.declared.waving.Waved.{Waved}
 use Rattle.cycle_parts.specs.declared.waving.Waved.TheVariants as waved
 
@@ -35,20 +35,20 @@ pub record Rested (proposing : Bool) (s : Agent) (old new : PartsKept) (mid new_
   pub text : after ≡ before
   pub mid_line : new_mid ≡ mid
 
--- something was, and a firing halted or none
-pub record Worked (proposing : Bool) (s : Agent) (halted : Bool) (new : PartsKept) (mid new_mid : Bool) (before after : List ℕ) : Type 0 where
+-- something was, and a firing halted or none; what the wave told was appended
+pub record Worked (watch : ℕ) (proposing : Bool) (s : Agent) (halted : Bool) (new : PartsKept) (mid new_mid : Bool) (before after : List ℕ) : Type 0 where
   pub some : is_none (pending proposing s) ≡ false
-  pub went : WentStep mid (wave_at proposing s) new new_mid before after
+  pub went : WentStep watch mid (wave_at proposing s) new new_mid before after
   pub halted_is : (wave_at proposing s).halted ≡ halted
 
 -- each answer, exactly where it comes; only want of memory is free
-abbrev pub WavesFrom : Bool → Agent → PartsKept → PartsKept → Bool → Bool → List ℕ → List ℕ → Result Waved Stop → Type 0
-WavesFrom proposing s old new mid new_mid before after (Ok waved.Rest) = Rested proposing s old new mid new_mid before after
-WavesFrom proposing s old new mid new_mid before after (Ok waved.Went) = Worked proposing s false new mid new_mid before after
-WavesFrom proposing s old new mid new_mid before after (Ok waved.Halted) = Worked proposing s true new mid new_mid before after
-WavesFrom proposing s old new mid new_mid before after (Err (stop.Limit limit)) =
+abbrev pub WavesFrom : ℕ → Bool → Agent → PartsKept → PartsKept → Bool → Bool → List ℕ → List ℕ → Result Waved Stop → Type 0
+WavesFrom watch proposing s old new mid new_mid before after (Ok waved.Rest) = Rested proposing s old new mid new_mid before after
+WavesFrom watch proposing s old new mid new_mid before after (Ok waved.Went) = Worked watch proposing s false new mid new_mid before after
+WavesFrom watch proposing s old new mid new_mid before after (Ok waved.Halted) = Worked watch proposing s true new mid new_mid before after
+WavesFrom watch proposing s old new mid new_mid before after (Err (stop.Limit limit)) =
     (is_none (pending proposing s) ≡ false) × StopsStep mid (wave_at proposing s) new_mid before after limit
-WavesFrom proposing s old new mid new_mid before after (Err stop.NoMemory) = Unit {0}
+WavesFrom watch proposing s old new mid new_mid before after (Err stop.NoMemory) = Unit {0}
 
 -- whether something is pending in a state
 abbrev pub TellsWork : Bool → Agent → Result Bool Stop → Type 0

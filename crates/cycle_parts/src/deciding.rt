@@ -3,20 +3,17 @@ ghost use Rattle.std.specs.Prelude.{◌≡◌, IfOk, OnOk};
 ghost use Rattle.defs_soar.specs.Agents.{Agent as AgentOf};
 ghost use Rattle.defs_soar.specs.Decision.{decided_by};
 ghost use Rattle.cycle_parts.specs.Bonds.{Bond};
-ghost use Rattle.cycle_parts.specs.Stepping.{GoesStep};
+ghost use Rattle.decision_parts.specs.Stepping.{GoesStep};
 ghost use Rattle.wave_parts.specs.Seen.{IsSound};
 ghost use Rattle.wave_parts.specs.Stands.{Stands};
 
 use crate::engine::Engine;
-use crate::walking::walk_goals;
-use decision_walk::Decided;
+use crate::telling::tell;
+use decision_parts::decide;
 use defs_match::Matcher;
 use soar_sym::Text;
 use std::alloc::Global;
 use wave_parts::Stop;
-
-/// How many goals there may be.
-const MOST_GOALS: usize = 100;
 
 impl<M: Matcher> Engine<M> {
     /// Decides, from the top goal down: a selected operator that is left stays, else one that is left is selected; an
@@ -30,23 +27,14 @@ impl<M: Matcher> Engine<M> {
     ) -> Result<bool, Stop>
         requires sound { IsSound self.old.parts }
         requires bond { Bond (M.rules self.old.matcher) (M.elements self.old.matcher) (M.failed self.old.matcher) self.old.parts }
-        ensures step { (s : AgentOf) → Stands self.old.parts s → GoesStep mid_line.old (decided_by s) self.new.parts mid_line.new out.old out.new result }
+        ensures step { (s : AgentOf) → Stands self.old.parts s → GoesStep self.old.parts.settings.watch mid_line.old (decided_by s) self.new.parts mid_line.new out.old out.new result }
         ensures limit { (s : AgentOf) → Stands self.old.parts s → IfOk result (λ halted. halted ≡ (decided_by s).halted) }
+        ensures settings { self.new.parts.settings ≡ self.old.parts.settings }
         ensures sound { OnOk result (IsSound self.new.parts) }
         ensures bond { OnOk result (Bond (M.rules self.new.matcher) (M.elements self.new.matcher) (M.failed self.new.matcher) self.new.parts) }
     {
-        match walk_goals(alloc, &mut self.parts)? {
-            Decided::Selects {
-                operator,
-                takes_word,
-            } => self.select(alloc, operator, takes_word, out, mid_line),
-            Decided::Meets { why, items } => {
-                if self.parts.goals.list().len() < MOST_GOALS {
-                    self.make_substate(alloc, why, items, out, mid_line)
-                } else {
-                    self.halt_at_limit(alloc, out, mid_line)
-                }
-            }
-        }
+        let decision = decide(alloc, &mut self.parts, out, mid_line)?;
+        tell(&mut self.matcher, &decision.changes)?;
+        Ok(decision.halted)
     }
 }

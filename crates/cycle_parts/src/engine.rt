@@ -20,16 +20,16 @@ pub struct Engine<M: Matcher> {
 }
 
 impl<M: Matcher + Drop> Engine<M> {
-    /// The top state with its input and output links, and no rule.
-    pub fn new(alloc: Global, mut matcher: M) -> Result<Engine<M>, NoMemory>
+    /// The top state with its input and output links, and no rule, told at a watch level.
+    pub fn new(alloc: Global, mut matcher: M, watch: u8) -> Result<Engine<M>, NoMemory>
         requires works { M.failed matcher ≡ false }
         requires rules { M.rules matcher ≡ [] }
         requires elements { M.elements matcher ≡ [] }
-        ensures stands { IfOk result (λ engine. Stands engine.parts (first_agent 1)) }
+        ensures stands { IfOk result (λ engine. Stands engine.parts (first_agent watch)) }
         ensures sound { IfOk result (λ engine. IsSound engine.parts) }
         ensures bond { IfOk result (λ engine. Bond (M.rules engine.matcher) (M.elements engine.matcher) (M.failed engine.matcher) engine.parts) }
     {
-        let parts = Parts::new(alloc)?;
+        let parts = Parts::new(alloc, watch)?;
         let elements = parts.memory.all(alloc)?;
         take_in(&mut matcher, elements.as_slice())?;
         Ok(Engine { parts, matcher })
@@ -42,6 +42,7 @@ impl<M: Matcher> Engine<M> {
         requires bond { Bond (M.rules self.old.matcher) (M.elements self.old.matcher) (M.failed self.old.matcher) self.old.parts }
         ensures conflict { IfOk result (λ instances. instances ≡ conflict (map rule_seen self.old.parts.rules) self.old.parts.memory.elements) }
         ensures parts { self.new.parts ≡ self.old.parts }
+        ensures settings { self.new.parts.settings ≡ self.old.parts.settings }
         ensures bond { OnOk result (Bond (M.rules self.new.matcher) (M.elements self.new.matcher) (M.failed self.new.matcher) self.new.parts) }
     {
         self.matcher.conflict(alloc)

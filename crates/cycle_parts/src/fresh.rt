@@ -25,6 +25,7 @@ impl<M: Matcher> Engine<M> {
         ensures symbol { IfOk result (λ symbol. symbol ≡ Sym.Ident letter (last_of self.old.parts.letters letter + 1)) }
         ensures known { IfOk result (λ symbol. IsKnown self.new.parts.table symbol) }
         ensures table { self.new.parts.table ≡ self.old.parts.table }
+        ensures settings { self.new.parts.settings ≡ self.old.parts.settings }
         ensures sound { OnOk result (IsSound self.new.parts) }
         ensures bond { OnOk result (Bond (M.rules self.new.matcher) (M.elements self.new.matcher) (M.failed self.new.matcher) self.new.parts) }
     {

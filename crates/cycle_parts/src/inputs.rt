@@ -3,29 +3,46 @@ ghost use Rattle.std.specs.Prelude.{◌≡◌, OnOk};
 ghost use Rattle.defs_soar.specs.Agents.{Agent as AgentOf};
 ghost use Rattle.cycle_parts.specs.Bonds.{Bond};
 ghost use Rattle.cycle_parts.specs.Calls.{IsTripleKnown, input_step};
-ghost use Rattle.cycle_parts.specs.Stepping.{QuietStep};
+ghost use Rattle.decision_parts.specs.Stepping.{GoesStep};
 ghost use Rattle.wave_parts.specs.Seen.{IsSound};
 ghost use Rattle.wave_parts.specs.Stands.{Stands};
 
 use crate::engine::Engine;
 use crate::triples::with_input;
 use defs_match::Matcher;
-use soar_sym::Triple;
+use soar_sym::{Text, Triple};
 use std::alloc::Global;
+use step_report::say_settled;
 use wave_parts::Stop;
 
 impl<M: Matcher> Engine<M> {
-    /// Adds a triple to the inputs, or takes it out, and settles. It writes nothing.
-    pub fn input_now(&mut self, alloc: Global, adds: bool, triple: Triple) -> Result<(), Stop>
+    /// Adds a triple to the inputs, or takes it out, and settles.
+    pub fn input_now(
+        &mut self,
+        alloc: Global,
+        adds: bool,
+        triple: Triple,
+        out: &mut Text,
+        mid_line: &mut bool,
+    ) -> Result<(), Stop>
         requires sound { IsSound self.old.parts }
         requires bond { Bond (M.rules self.old.matcher) (M.elements self.old.matcher) (M.failed self.old.matcher) self.old.parts }
         requires known { IsTripleKnown self.old.parts.table triple }
-        ensures step { (s : AgentOf) → Stands self.old.parts s → QuietStep (input_step adds triple s) self.new.parts result }
+        ensures step { (s : AgentOf) → Stands self.old.parts s → GoesStep self.old.parts.settings.watch mid_line.old (input_step adds triple s) self.new.parts mid_line.new out.old out.new result }
         ensures table { self.new.parts.table ≡ self.old.parts.table }
+        ensures settings { self.new.parts.settings ≡ self.old.parts.settings }
         ensures sound { OnOk result (IsSound self.new.parts) }
         ensures bond { OnOk result (Bond (M.rules self.new.matcher) (M.elements self.new.matcher) (M.failed self.new.matcher) self.new.parts) }
     {
         self.parts.inputs = with_input(alloc, adds, triple, &self.parts.inputs)?;
-        self.resettle(alloc)
+        let settled = self.resettle(alloc)?;
+        say_settled(
+            self.parts.settings.watch,
+            &self.parts.table,
+            &settled,
+            out,
+            mid_line,
+        )?;
+        Ok(())
     }
 }

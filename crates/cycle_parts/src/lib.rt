@@ -5,19 +5,19 @@
 mod deciding;
 mod dropping;
 mod engine;
+mod excising;
 mod fresh;
 mod input_phase;
 mod inputs;
 mod loading;
 mod output_phase;
-mod pushing;
 mod queues;
-mod selecting;
+mod restarting;
+mod settings;
 mod settling;
 mod taking;
 mod telling;
 mod triples;
-mod walking;
 mod waving;
 
 pub use engine::Engine;

@@ -7,7 +7,7 @@ ghost use Rattle.soar_rule.specs.Symbols.{AreKnown, symbols_of};
 ghost use Rattle.defs_soar.specs.Pending.{is_justification};
 ghost use Rattle.cycle_parts.specs.Bonds.{Bond};
 ghost use Rattle.cycle_parts.specs.Calls.{load_step};
-ghost use Rattle.cycle_parts.specs.Stepping.{QuietStep};
+ghost use Rattle.decision_parts.specs.Stepping.{QuietStep};
 ghost use Rattle.wave_parts.specs.Seen.{IsSound};
 ghost use Rattle.wave_parts.specs.Stands.{Stands};
 
@@ -26,6 +26,7 @@ impl<M: Matcher> Engine<M> {
         requires unlearned { is_justification production.kind ≡ false }
         requires matchable { can_be_matched (production_seen production) ≡ true }
         ensures step { (s : AgentOf) → Stands self.old.parts s → QuietStep (load_step (production_seen production) s) self.new.parts result }
+        ensures settings { self.new.parts.settings ≡ self.old.parts.settings }
         ensures sound { OnOk result (IsSound self.new.parts) }
         ensures bond { OnOk result (Bond (M.rules self.new.matcher) (M.elements self.new.matcher) (M.failed self.new.matcher) self.new.parts) }
     {

@@ -3,7 +3,7 @@ ghost use Rattle.std.specs.Prelude.{◌≡◌, OnOk};
 ghost use Rattle.defs_soar.specs.Agents.{Agent as AgentOf};
 ghost use Rattle.cycle_parts.specs.Bonds.{Bond};
 ghost use Rattle.cycle_parts.specs.Calls.{IsTripleKnown, queue_step, random_step};
-ghost use Rattle.cycle_parts.specs.Stepping.{QuietStep};
+ghost use Rattle.decision_parts.specs.Stepping.{QuietStep};
 ghost use Rattle.wave_parts.specs.Seen.{IsSound};
 ghost use Rattle.wave_parts.specs.Stands.{Stands};
 
@@ -20,6 +20,7 @@ impl<M: Matcher> Engine<M> {
         requires bond { Bond (M.rules self.old.matcher) (M.elements self.old.matcher) (M.failed self.old.matcher) self.old.parts }
         requires known { IsTripleKnown self.old.parts.table triple }
         ensures step { (s : AgentOf) → Stands self.old.parts s → QuietStep (queue_step adds triple s) self.new.parts result }
+        ensures settings { self.new.parts.settings ≡ self.old.parts.settings }
         ensures sound { OnOk result (IsSound self.new.parts) }
         ensures bond { OnOk result (Bond (M.rules self.new.matcher) (M.elements self.new.matcher) (M.failed self.new.matcher) self.new.parts) }
     {
@@ -32,6 +33,7 @@ impl<M: Matcher> Engine<M> {
         requires sound { IsSound self.old.parts }
         requires bond { Bond (M.rules self.old.matcher) (M.elements self.old.matcher) (M.failed self.old.matcher) self.old.parts }
         ensures step { (s : AgentOf) → Stands self.old.parts s → QuietStep (random_step words.now s) self.new.parts result }
+        ensures settings { self.new.parts.settings ≡ self.old.parts.settings }
         ensures sound { OnOk result (IsSound self.new.parts) }
         ensures bond { OnOk result (Bond (M.rules self.new.matcher) (M.elements self.new.matcher) (M.failed self.new.matcher) self.new.parts) }
     {

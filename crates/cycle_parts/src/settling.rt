@@ -1,8 +1,10 @@
 // Settling what an agent holds, and telling its matcher.
-ghost use Rattle.std.specs.Prelude.{◌≡◌, OnOk};
+ghost use Rattle.std.specs.Prelude.{◌≡◌, [], IfOk, OnOk};
 ghost use Rattle.defs_soar.specs.Agents.{Agent as AgentOf};
+ghost use Rattle.trace_laws.specs.Events.{AreEventsKnown};
+ghost use Rattle.step_report.specs.Reports.{settled_events};
 ghost use Rattle.cycle_parts.specs.Bonds.{Bond};
-ghost use Rattle.cycle_parts.specs.Stepping.{QuietStep};
+ghost use Rattle.cycle_parts.specs.Settling.{Settles};
 ghost use Rattle.wave_parts.specs.Resettles.{resettled_now};
 ghost use Rattle.wave_parts.specs.Seen.{IsSound};
 ghost use Rattle.wave_parts.specs.Stands.{Stands};
@@ -11,20 +13,23 @@ use crate::engine::Engine;
 use crate::telling::tell;
 use defs_match::Matcher;
 use std::alloc::Global;
+use step_report::Settled;
 use wave_parts::Stop;
 
 impl<M: Matcher> Engine<M> {
     /// Settles what is held, makes working memory of it, and tells the matcher what went and what came.
-    pub(crate) fn resettle(&mut self, alloc: Global) -> Result<(), Stop>
+    pub(crate) fn resettle(&mut self, alloc: Global) -> Result<Settled, Stop>
         requires sound { IsSound self.old.parts }
         requires bond { Bond (M.rules self.old.matcher) (M.elements self.old.matcher) (M.failed self.old.matcher) self.old.parts }
-        ensures settled { (s : AgentOf) → Stands self.old.parts s → QuietStep (resettled_now s) self.new.parts result }
+        ensures settled { (s : AgentOf) → Stands self.old.parts s → Settles [] (resettled_now s) self.new.parts result }
+        ensures known { IfOk result (λ settled. AreEventsKnown self.new.parts.table (settled_events settled)) }
         ensures table { self.new.parts.table ≡ self.old.parts.table }
+        ensures settings { self.new.parts.settings ≡ self.old.parts.settings }
         ensures sound { OnOk result (IsSound self.new.parts) }
         ensures bond { OnOk result (Bond (M.rules self.new.matcher) (M.elements self.new.matcher) (M.failed self.new.matcher) self.new.parts) }
     {
-        let changes = self.parts.resettle(alloc)?;
-        tell(&mut self.matcher, &changes)?;
-        Ok(())
+        let settled = self.parts.resettle(alloc)?;
+        tell(&mut self.matcher, &settled.changes)?;
+        Ok(settled)
     }
 }

@@ -1,5 +1,6 @@
 // What a matcher is told of a step.
 ghost use Rattle.std.specs.Prelude.{◌≡◌, false, OnOk};
+ghost use Rattle.defs_soar.specs.Start.{first_elements};
 ghost use Rattle.matching_laws.specs.Telling.{AreInsertable, AreRemovable, with_each};
 ghost use Rattle.soar_settle.specs.Tagging.{without_each};
 
@@ -20,6 +21,24 @@ pub fn tell<M: Matcher>(matcher: &mut M, changes: &Changes) -> Result<(), NoMemo
 {
     let_go(matcher, changes.gone.as_slice())?;
     take_in(matcher, changes.new.as_slice())
+}
+
+/// Tells a matcher that all starts anew: it lets go of its elements, then takes in those of the start.
+pub fn tell_anew<M: Matcher>(
+    matcher: &mut M,
+    gone: &[Element],
+    first: &[Element],
+) -> Result<(), NoMemory>
+    requires works { M.failed matcher.old ≡ false }
+    requires held { M.elements matcher.old ≡ gone.now }
+    requires first { first.now ≡ first_elements }
+    ensures works { OnOk result (M.failed matcher.new ≡ false) }
+    ensures rules { OnOk result (M.rules matcher.new ≡ M.rules matcher.old) }
+    ensures elements { OnOk result (M.elements matcher.new ≡ first.now) }
+{
+    let_go(matcher, gone)?;
+    take_in(matcher, first)?;
+    Ok(())
 }
 
 /// Lets go of elements, one after the other.

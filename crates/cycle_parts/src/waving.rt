@@ -1,23 +1,26 @@
 // A wave of a phase.
-ghost use Rattle.std.specs.Prelude.{◌≡◌, ◌++◌, map, IfOk, OnOk};
+ghost use Rattle.std.specs.Prelude.{◌≡◌, map, IfOk, OnOk};
 ghost use Rattle.defs_match.specs.Rules.{rule_seen};
 ghost use Rattle.defs_soar.specs.Agents.{Agent as AgentOf};
 ghost use Rattle.defs_soar.specs.Pending.{is_none};
-ghost use Rattle.defs_soar.specs.Trace.{is_mid_after};
 ghost use Rattle.soar_settle.specs.Known.{AreInstancesKnown};
+ghost use Rattle.trace_laws.specs.Events.{AreEventsKnown};
+ghost use Rattle.step_report.specs.Reports.{report_events};
 ghost use Rattle.cycle_parts.specs.Bonds.{Bond};
 ghost use Rattle.cycle_parts.specs.Waving.{TellsWork, WavesFrom, is_proposing, waved_by};
+ghost use Rattle.goal_trimming.specs.Living.{live_seen};
 ghost use Rattle.pending_work.specs.Working.{is_nothing};
 ghost use Rattle.wave_parts.specs.Carrying.{CarriesOut};
 ghost use Rattle.pending_work.specs.Firables.{AreBound, IsPending};
-ghost use Rattle.wave_parts.specs.Seen.{IsSound, pending_of};
+ghost use Rattle.wave_parts.specs.Seen.{AreLiveKnown, IsSound, pending_of};
 ghost use Rattle.wave_parts.specs.Stands.{Stands};
 
 use crate::engine::Engine;
 use crate::telling::tell;
 use defs_match::Matcher;
 use soar_sym::{NoMemory, Text};
-use std::alloc::{AllocError, Global};
+use std::alloc::Global;
+use step_report::say_report;
 use trace_lines::Phase;
 use wave_parts::{Done, Stop, Work};
 
@@ -30,7 +33,7 @@ pub enum Waved {
 }
 
 impl<M: Matcher> Engine<M> {
-    /// Runs a wave of a phase (Soar manual, chapter 2, elaboration cycle), and appends what its firings write.
+    /// Runs a wave of a phase (Soar manual, chapter 2, elaboration cycle), and appends what can be told of it.
     pub fn wave(
         &mut self,
         alloc: Global,
@@ -41,7 +44,8 @@ impl<M: Matcher> Engine<M> {
         requires sound { IsSound self.old.parts }
         requires bond { Bond (M.rules self.old.matcher) (M.elements self.old.matcher) (M.failed self.old.matcher) self.old.parts }
         ensures wave { (s : AgentOf) → Stands self.old.parts s
-            → WavesFrom (is_proposing phase) s self.old.parts self.new.parts mid_line.old mid_line.new out.old out.new result }
+            → WavesFrom self.old.parts.settings.watch (is_proposing phase) s self.old.parts self.new.parts mid_line.old mid_line.new out.old out.new result }
+        ensures settings { self.new.parts.settings ≡ self.old.parts.settings }
         ensures sound { OnOk result (IsSound self.new.parts) }
         ensures bond { OnOk result (Bond (M.rules self.new.matcher) (M.elements self.new.matcher) (M.failed self.new.matcher) self.new.parts) }
     {
@@ -49,9 +53,14 @@ impl<M: Matcher> Engine<M> {
         if work.is_nothing() {
             return Ok(Waved::Rest);
         }
-        let mut said = Text::new(alloc);
-        let done = self.carry_out(alloc, &work, &mut said)?;
-        append(out, mid_line, said.as_str())?;
+        let done = self.carry_out(alloc, work)?;
+        say_report(
+            self.parts.settings.watch,
+            &self.parts.table,
+            &done.report,
+            out,
+            mid_line,
+        )?;
         Ok(outcome_of(done.halted))
     }
 
@@ -61,6 +70,7 @@ impl<M: Matcher> Engine<M> {
         requires bond { Bond (M.rules self.old.matcher) (M.elements self.old.matcher) (M.failed self.old.matcher) self.old.parts }
         ensures work { (s : AgentOf) → Stands self.old.parts s → TellsWork (is_proposing phase) s result }
         ensures parts { self.new.parts ≡ self.old.parts }
+        ensures settings { self.new.parts.settings ≡ self.old.parts.settings }
         ensures bond { OnOk result (Bond (M.rules self.new.matcher) (M.elements self.new.matcher) (M.failed self.new.matcher) self.new.parts) }
     {
         let work = self.pending(alloc, phase)?;
@@ -75,6 +85,7 @@ impl<M: Matcher> Engine<M> {
         ensures none { IfOk result (λ work. is_nothing work ≡ is_none (pending_of (is_proposing phase) self.old.parts)) }
         ensures bound { IfOk result (λ work. AreBound (map rule_seen self.old.parts.rules) work.fired) }
         ensures known { IfOk result (λ work. AreInstancesKnown self.old.parts.table work.fired) }
+        ensures names { IfOk result (λ work. AreLiveKnown self.old.parts.table (map live_seen work.retracted)) }
         ensures parts { self.new.parts ≡ self.old.parts }
         ensures bond { OnOk result (Bond (M.rules self.new.matcher) (M.elements self.new.matcher) (M.failed self.new.matcher) self.new.parts) }
     {
@@ -82,18 +93,21 @@ impl<M: Matcher> Engine<M> {
         self.parts.pending(alloc, is_proposing(phase), instances)
     }
 
-    /// Carries the work of a wave out, and tells the matcher what it changed. What its firings write goes to `said`.
-    fn carry_out(&mut self, alloc: Global, work: &Work, said: &mut Text) -> Result<Done, Stop>
+    /// Carries the work of a wave out, and tells the matcher what it changed.
+    fn carry_out(&mut self, alloc: Global, work: Work) -> Result<Done, Stop>
         requires sound { IsSound self.old.parts }
         requires bond { Bond (M.rules self.old.matcher) (M.elements self.old.matcher) (M.failed self.old.matcher) self.old.parts }
-        requires bound { AreBound (map rule_seen self.old.parts.rules) work.now.fired }
-        requires known { AreInstancesKnown self.old.parts.table work.now.fired }
-        ensures wave { CarriesOut self.old.parts self.new.parts work.now said.old said.new result }
+        requires bound { AreBound (map rule_seen self.old.parts.rules) work.fired }
+        requires known { AreInstancesKnown self.old.parts.table work.fired }
+        requires names { AreLiveKnown self.old.parts.table (map live_seen work.retracted) }
+        ensures wave { CarriesOut self.old.parts self.new.parts work result }
+        ensures known { IfOk result (λ done. AreEventsKnown self.new.parts.table (report_events done.report)) }
+        ensures settings { self.new.parts.settings ≡ self.old.parts.settings }
         ensures sound { OnOk result (IsSound self.new.parts) }
         ensures bond { OnOk result (Bond (M.rules self.new.matcher) (M.elements self.new.matcher) (M.failed self.new.matcher) self.new.parts) }
     {
-        let done = self.parts.carry_out(alloc, work, said)?;
-        tell(&mut self.matcher, &done.changes)?;
+        let done = self.parts.carry_out(alloc, work)?;
+        tell(&mut self.matcher, &done.report.settled.changes)?;
         Ok(done)
     }
 }
@@ -112,24 +126,4 @@ fn outcome_of(halted: bool) -> Waved
     ensures { result ≡ waved_by halted }
 {
     if halted { Waved::Halted } else { Waved::Went }
-}
-
-/// Appends a text.
-fn append(out: &mut Text, mid_line: &mut bool, text: &str) -> Result<(), AllocError>
-    ensures out { OnOk result (out.new ≡ out.old ++ text.now) }
-    ensures mid_line { OnOk result (mid_line.new ≡ is_mid_after mid_line.old text.now) }
-{
-    out.push_str(text)?;
-    *mid_line = is_mid_after(*mid_line, text.as_bytes());
-    Ok(())
-}
-
-/// Whether text ends in the middle of a line behind more bytes.
-fn is_mid_after(mid_line: bool, bytes: &[u8]) -> bool
-    ensures { result ≡ is_mid_after mid_line bytes.now }
-{
-    match bytes.last() {
-        Some(byte) => *byte != b'\n',
-        None => mid_line,
-    }
 }

@@ -1,5 +1,2 @@
-pub mod CourseLemmas
-pub mod CycleLemmas
-pub mod GoingLemmas
-pub mod PhaseLemmas
+pub mod CountLemmas
 pub mod ToldLemmas

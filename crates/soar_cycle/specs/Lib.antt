@@ -1,5 +1,3 @@
 pub mod Agents
-pub mod Courses
-pub mod Cycling
-pub mod Going
+pub mod Counting
 pub mod Telling

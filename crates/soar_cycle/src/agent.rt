@@ -4,18 +4,21 @@ ghost use Rattle.soar_sym.specs.contracts.table.SymTable as table;
 ghost use Rattle.defs_soar.specs.Start.{first_agent};
 ghost use Rattle.defs_soar.specs.Values.{has_triple_among};
 ghost use Rattle.soar_cycle.specs.Agents.{IsSoundAgent, with_table};
+ghost use Rattle.soar_cycle.specs.Counting.{counts_in};
 ghost use Rattle.soar_cycle.specs.contracts.agent.Agent as agent;
 ghost use Rattle.wave_parts.specs.Stands.{Stands};
 
+use crate::counts::{Counts, counts_in};
 use crate::standing::Standing;
 use cycle_parts::Engine;
 use defs_match::{Matcher, Rule};
 use defs_soar::Goal;
+use soar_prefs::Prefs;
 use soar_sym::{Letters, List, NoMemory, SymTable, Triple, is_triple};
 use soar_wm::Memory;
 use std::alloc::Global;
 use std::marker::Model;
-use wave_parts::Stop;
+use wave_parts::{Settings, Stop};
 
 /// An agent over any matcher, which holds its rules and working memory.
 #[derive(Drop)]
@@ -41,17 +44,18 @@ impl<M: Matcher> Model for Agent<M> {
 }
 
 impl<M: Matcher + Drop> Agent<M> {
-    /// The top state with its input and output links, and no rule (Soar manual, chapter 2, the top state).
-    pub fn new(alloc: Global, matcher: M) -> Result<Agent<M>, NoMemory>
+    /// The top state with its input and output links, and no rule (Soar manual, chapter 2, the top state), told at a watch
+    /// level from 0 to 5.
+    pub fn new(alloc: Global, matcher: M, watch: u8) -> Result<Agent<M>, NoMemory>
         requires works { M.failed matcher ≡ false }
         requires rules { M.rules matcher ≡ [] }
         requires elements { M.elements matcher ≡ [] }
-        ensures stands { IfOk result (λ agent. Stands agent.parts (first_agent 1)) }
+        ensures stands { IfOk result (λ agent. Stands agent.parts (first_agent watch)) }
         ensures standing { IfOk result (λ agent. agent.standing ≡ Standing.Stands) }
         ensures mid_line { IfOk result (λ agent. agent.mid_line ≡ false) }
         ensures sound { IfOk result (λ agent. IsSoundAgent agent) }
     {
-        let engine = Engine::new(alloc, matcher)?;
+        let engine = Engine::new(alloc, matcher, watch)?;
         Ok(Agent {
             engine,
             mid_line: false,
@@ -91,6 +95,13 @@ impl<M: Matcher> Agent<M> {
         &self.engine.parts.memory
     }
 
+    /// Preference memory.
+    pub fn prefs(&self) -> &Prefs
+        ensures { result.now ≡ self.now.parts.prefs }
+    {
+        &self.engine.parts.prefs
+    }
+
     /// The rules, in order of number.
     pub fn rules(&self) -> &List<Rule>
         ensures { result.now ≡ self.now.parts.rules }
@@ -115,6 +126,20 @@ impl<M: Matcher> Agent<M> {
             .as_slice()
             .iter()
             .any(|other| is_triple(triple, *other))
+    }
+
+    /// How it is set.
+    pub fn settings(&self) -> Settings
+        ensures { result ≡ self.now.parts.settings }
+    {
+        self.engine.parts.settings
+    }
+
+    /// How much was done since the start or the last start anew, and how much there is now.
+    pub fn counts(&self) -> Counts
+        ensures { result ≡ counts_in self.now.parts }
+    {
+        counts_in(&self.engine.parts)
     }
 
     /// Whether it is halted.

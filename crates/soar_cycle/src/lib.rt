@@ -3,14 +3,16 @@
 
 mod agent;
 mod calls;
-mod cycle;
-mod phase;
+mod counts;
+mod program;
 mod running;
 mod standing;
+mod telling;
 
 pub use agent::Agent;
+pub use counts::Counts;
 pub use cycle_parts::Waved;
-pub use phase::Ended;
+pub use cycle_phases::Ended;
 pub use standing::Standing;
 pub use trace_lines::Phase;
-pub use wave_parts::Stop;
+pub use wave_parts::{Settings, Stop};

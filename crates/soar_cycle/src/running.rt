@@ -6,26 +6,26 @@ ghost use Rattle.wave_parts.specs.Stands.{Stands};
 ghost use Rattle.defs_soar.specs.Cycle.{cycle};
 ghost use Rattle.defs_soar.specs.Decision.{decided_by};
 ghost use Rattle.defs_soar.specs.Learning.{without_learning};
-ghost use Rattle.cycle_parts.specs.Stepping.{GoesStep};
+ghost use Rattle.decision_parts.specs.Stepping.{GoesStep};
 ghost use Rattle.cycle_parts.specs.Waving.{WavesFrom, is_proposing};
-ghost use Rattle.soar_cycle.specs.Courses.{Goes, IsEndOf, phase_course, phased};
-ghost use Rattle.soar_cycle.specs.Telling.{Tells};
+ghost use Rattle.cycle_phases.specs.Courses.{Goes, IsEndOf, phase_course, phased};
 
 use crate::agent::Agent;
-use crate::cycle::run_cycle;
-use crate::phase::{Ended, run_phase};
 use crate::standing::{Standing, standing_after};
+use crate::telling::tell;
 use cycle_parts::Waved;
+use cycle_phases::{Ended, run_cycle, run_phase};
 use defs_match::Matcher;
 use soar_sym::Text;
 use trace_lines::Phase;
 use wave_parts::Stop;
 
 impl<M: Matcher> Agent<M> {
-    /// Runs a wave of a phase, and appends what its firings write. Nothing is appended where memory is wanting.
+    /// Runs a wave of a phase, and appends what is told of it. Nothing is appended where memory is wanting.
     pub fn wave(&mut self, phase: Phase, text: &mut Text) -> Result<Waved, Stop>
         requires sound { IsSoundAgent self.old }
-        ensures step { self.old.standing ≡ Standing.Stands → (s : AgentOf) → Stands self.old.parts s → WavesFrom (is_proposing phase) s self.old.parts self.new.parts self.old.mid_line self.new.mid_line text.old text.new result }
+        ensures step { self.old.standing ≡ Standing.Stands → (s : AgentOf) → Stands self.old.parts s → WavesFrom self.old.parts.settings.watch (is_proposing phase) s self.old.parts self.new.parts self.old.mid_line self.new.mid_line text.old text.new result }
+        ensures settings { self.new.parts.settings ≡ self.old.parts.settings }
         ensures standing { self.new.standing ≡ standing_after self.old.standing result }
         ensures stopped { IsStopped self.old.standing result }
         ensures sound { IsSoundAgent self.new }
@@ -43,11 +43,12 @@ impl<M: Matcher> Agent<M> {
         answer
     }
 
-    /// Runs a phase: waves until nothing is pending, a firing halts, or there were a hundred.
+    /// Runs a phase: waves until nothing is pending, a firing halts, or there were as many as are allowed.
     pub fn phase(&mut self, phase: Phase, text: &mut Text) -> Result<Ended, Stop>
         requires sound { IsSoundAgent self.old }
-        ensures step { self.old.standing ≡ Standing.Stands → (s : AgentOf) → Stands self.old.parts s → Goes self.old.mid_line (phase_course phase s) self.new.parts self.new.mid_line text.old text.new result }
+        ensures step { self.old.standing ≡ Standing.Stands → (s : AgentOf) → Stands self.old.parts s → Goes self.old.parts.settings.watch self.old.mid_line (phase_course phase s) self.new.parts self.new.mid_line text.old text.new result }
         ensures end { self.old.standing ≡ Standing.Stands → (s : AgentOf) → Stands self.old.parts s → IsEndOf (phased phase s) result }
+        ensures settings { self.new.parts.settings ≡ self.old.parts.settings }
         ensures standing { self.new.standing ≡ standing_after self.old.standing result }
         ensures stopped { IsStopped self.old.standing result }
         ensures sound { IsSoundAgent self.new }
@@ -69,11 +70,12 @@ impl<M: Matcher> Agent<M> {
         answer
     }
 
-    /// Decides, and tells a selection or a new substate. True exactly where the limit of goals halted the agent.
+    /// Decides, and tells what came of it. True exactly where the limit of goals halted the agent.
     pub fn decide(&mut self, text: &mut Text) -> Result<bool, Stop>
         requires sound { IsSoundAgent self.old }
-        ensures step { self.old.standing ≡ Standing.Stands → (s : AgentOf) → Stands self.old.parts s → GoesStep self.old.mid_line (decided_by s) self.new.parts self.new.mid_line text.old text.new result }
+        ensures step { self.old.standing ≡ Standing.Stands → (s : AgentOf) → Stands self.old.parts s → GoesStep self.old.parts.settings.watch self.old.mid_line (decided_by s) self.new.parts self.new.mid_line text.old text.new result }
         ensures limit { self.old.standing ≡ Standing.Stands → (s : AgentOf) → Stands self.old.parts s → IfOk result (λ halted. halted ≡ (decided_by s).halted) }
+        ensures settings { self.new.parts.settings ≡ self.old.parts.settings }
         ensures standing { self.new.standing ≡ standing_after self.old.standing result }
         ensures stopped { IsStopped self.old.standing result }
         ensures sound { IsSoundAgent self.new }
@@ -94,8 +96,9 @@ impl<M: Matcher> Agent<M> {
     /// Runs a cycle: input, proposal, decision, application, output. True exactly where the agent is halted in the end.
     pub fn cycle(&mut self, text: &mut Text) -> Result<bool, Stop>
         requires sound { IsSoundAgent self.old }
-        ensures step { self.old.standing ≡ Standing.Stands → (s : AgentOf) → Stands self.old.parts s → Goes self.old.mid_line (cycle decided_by without_learning s) self.new.parts self.new.mid_line text.old text.new result }
+        ensures step { self.old.standing ≡ Standing.Stands → (s : AgentOf) → Stands self.old.parts s → Goes self.old.parts.settings.watch self.old.mid_line (cycle decided_by without_learning s) self.new.parts self.new.mid_line text.old text.new result }
         ensures halted { IfOk result (λ halted. halted ≡ self.new.parts.halted) }
+        ensures settings { self.new.parts.settings ≡ self.old.parts.settings }
         ensures standing { self.new.standing ≡ standing_after self.old.standing result }
         ensures stopped { IsStopped self.old.standing result }
         ensures sound { IsSoundAgent self.new }
@@ -109,18 +112,5 @@ impl<M: Matcher> Agent<M> {
         let answer = tell(answer, &said, text);
         self.standing = standing_after(self.standing, &answer);
         answer
-    }
-}
-
-/// Appends what was said, unless memory is wanting.
-fn tell<T: Copy>(answer: Result<T, Stop>, said: &Text, text: &mut Text) -> Result<T, Stop>
-    ensures { Tells answer said.now text.old text.new result }
-{
-    match answer {
-        Err(Stop::NoMemory) => Err(Stop::NoMemory),
-        told => match text.push_str(said.as_str()) {
-            Ok(()) => told,
-            Err(_) => Err(Stop::NoMemory),
-        },
     }
 }

@@ -1,3 +1,4 @@
+mod anew;
 mod calls;
 mod parts;
 mod steps;

@@ -1,6 +1,7 @@
 // The calls of a session, and waves for a rule.
 ghost use Rattle.soar_cycle.specs.Agents.{IsSoundAgent};
 
+use super::anew::starts_anew;
 use super::parts::{input, production};
 use super::steps::goes_down;
 use match_direct::Direct;
@@ -13,21 +14,24 @@ pub fn takes_calls(alloc: Global, agent: &mut Agent<Direct>) -> Result<bool, Sto
     requires { IsSoundAgent agent.old }
 {
     Ok(
-        takes_inputs(agent)?
+        takes_inputs(alloc, agent)?
             && loads(alloc, agent)?
             && fires_once(alloc, agent)?
-            && goes_down(alloc, agent)?,
+            && goes_down(alloc, agent)?
+            && starts_anew(alloc, agent)?,
     )
 }
 
-/// Whether the first identifier of a letter is given, one input is there at once, and another that is queued is not.
-fn takes_inputs(agent: &mut Agent<Direct>) -> Result<bool, Stop>
+/// Whether the first identifier of a letter is given, one input is there at once, of which level 1 tells nothing, and
+/// another that is queued is not.
+fn takes_inputs(alloc: Global, agent: &mut Agent<Direct>) -> Result<bool, Stop>
     requires { IsSoundAgent agent.old }
     ensures { IsSoundAgent agent.new }
 {
     let given = agent.fresh(b'Q')?;
     agent.queue(true, input(1))?;
-    agent.input_now(true, input(2))?;
+    let mut out = Text::new(alloc);
+    agent.input_now(true, input(2), &mut out)?;
     let first = Sym::Ident {
         letter: b'Q',
         number: 1,
@@ -36,7 +40,8 @@ fn takes_inputs(agent: &mut Agent<Direct>) -> Result<bool, Stop>
     Ok(
         is_symbol(given, first)
             && memory.find(input(1)).is_none()
-            && memory.find(input(2)) == Some(6),
+            && memory.find(input(2)) == Some(6)
+            && out.as_str().is_empty(),
     )
 }
 

@@ -18,7 +18,7 @@ pub fn new_agent(alloc: Global) -> Result<Agent<Direct>, NoMemory>
     ensures { IfOk result (λ agent. IsSoundAgent agent) }
 {
     let matcher = Direct::new(alloc)?;
-    Agent::new(alloc, matcher)
+    Agent::new(alloc, matcher, 1)
 }
 
 /// An element of the input link, with an integer as attribute and value.

@@ -9,12 +9,27 @@ use std::alloc::Global;
 /// Whether a decision makes a substate of the top goal, and the cycle after it one of that.
 pub fn goes_down(alloc: Global, agent: &mut Agent<Direct>) -> Result<bool, Stop>
     requires { IsSoundAgent agent.old }
+    ensures { IsSoundAgent agent.new }
 {
     let mut out = Text::new(alloc);
     let rests = rests(agent, &mut out)?;
-    let halted = agent.decide(&mut out)? || agent.cycle(&mut out)?;
-    let said = "0:   ==>S: S2 (state no-change)\n1:     ==>S: S3 (state no-change)\n";
-    Ok(rests && !halted && agent.goals().len() == 3 && out.as_str() == said)
+    let goes_on = goes_on(agent, &mut out)?;
+    let deep = agent.goals().len() == 3;
+    let said = out.as_str() == SAID;
+    Ok(rests && goes_on && deep && said)
+}
+
+/// The lines of the decision and of the cycle.
+const SAID: &str = "0:   ==>S: S2 (state no-change)\n1:     ==>S: S3 (state no-change)\n";
+
+/// Whether neither a decision nor a cycle halts the agent.
+fn goes_on(agent: &mut Agent<Direct>, out: &mut Text) -> Result<bool, Stop>
+    requires { IsSoundAgent agent.old }
+    ensures { IsSoundAgent agent.new }
+{
+    let decided = agent.decide(out)?;
+    let ran = agent.cycle(out)?;
+    Ok(!decided && !ran)
 }
 
 /// Whether nothing is pending in both phases.

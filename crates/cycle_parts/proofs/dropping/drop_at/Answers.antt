@@ -3,7 +3,7 @@ use Rattle.defs_match.specs.Contents.{HasRule, without_rule}
 use Rattle.defs_match.specs.Rules.{rule_seen}
 use Rattle.pending_work.specs.Firables.{AreNumbered}
 use Rattle.cycle_parts.proofs.NumberLemmas.{has_rule_at, without_rule_at}
-use Rattle.cycle_parts.proofs.LoadedLemmas.{numbered_filter}
+use Rattle.cycle_parts.proofs.RuleLemmas.{numbered_filter}
 use Rattle.cycle_parts.proofs.dropping.drop_at.Goals as goal
 
 pub remove_rule-requires : goal.remove_rule-requires

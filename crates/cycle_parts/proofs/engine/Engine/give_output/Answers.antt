@@ -8,7 +8,7 @@ output_changes-requires-clause-now g c = c.in_ok-now.ensures.known c.args.self.n
 
 pub returns-clause-step : goal.returns-clause-step
 returns-clause-step g c =
-    gives_output c.args.self.now.parts c.in_ok-now.now c.in_ok-changes.changes.gone c.in_ok-changes.changes.new c.args.mid_line.now c.say_output.new.mid_line c.args.out.now c.say_output.new.out
+    gives_output c.args.self.now.parts.settings.watch c.args.self.now.parts c.in_ok-now.now c.in_ok-changes.changes.gone c.in_ok-changes.changes.new c.args.mid_line.now c.say_output.new.mid_line c.args.out.now c.say_output.new.out
     (λ s goals elements. c.in_ok-now.ensures.shown s (goals ∙ sym c.list.ensures.goals) elements) c.in_ok-changes.ensures.gone c.in_ok-changes.ensures.new c.in_ok-say_output.ensures
 
 pub returns-clause-sound : goal.returns-clause-sound

@@ -5,7 +5,7 @@ use Rattle.defs_match.specs.Contents.{is_numbered, with_rule}
 use Rattle.defs_match.specs.Rules.{rule_seen}
 use Rattle.defs_match.specs.declared.rule.Rule.{Rule}
 use Rattle.cycle_parts.proofs.LoadLemmas.{joins_last, loads, more_rules, number_is_new}
-use Rattle.cycle_parts.proofs.LoadedLemmas.{sound_loaded}
+use Rattle.cycle_parts.proofs.SoundLemmas.{sound_loaded}
 use Rattle.cycle_parts.proofs.engine.Engine.load.Goals as goal
 
 pub add_rule-requires : goal.add_rule-requires

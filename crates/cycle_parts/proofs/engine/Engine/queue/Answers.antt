@@ -1,4 +1,4 @@
-use Rattle.cycle_parts.proofs.LoadedLemmas.{sound_queued}
+use Rattle.cycle_parts.proofs.SoundLemmas.{sound_queued}
 use Rattle.cycle_parts.proofs.engine.Engine.queue.Goals as goal
 
 pub returns-clause-sound : goal.returns-clause-sound

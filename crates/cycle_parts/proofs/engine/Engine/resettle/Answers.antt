@@ -1,11 +1,12 @@
+use Rattle.std.proofs.Common.{Err, Ok}
 use Rattle.std.proofs.lemmas.Result.{err_from_is_err_and}
-use Rattle.cycle_parts.proofs.SteppingLemmas.{settled_steps, settling_stops}
+use Rattle.cycle_parts.proofs.SteppingLemmas.{settles_now}
 use Rattle.cycle_parts.proofs.engine.Engine.resettle.Goals as goal
 
-pub returns-in_err-changes-clause-settled : goal.returns-in_err-changes-clause-settled
-returns-in_err-changes-clause-settled g c s stands =
+pub returns-in_err-settled-clause-settled : goal.returns-in_err-settled-clause-settled
+returns-in_err-settled-clause-settled g c s stands =
     let p = err_from_is_err_and c.from_residual.result c.from_residual.ensures.1 in
-    rw (p.1, p.2) (settling_stops c.resettle.new.self s c.in_err-changes.field-0.0 (c.in_err-changes.ensures.resettled s stands))
+    rw (p.1, p.2) (settles_now c.resettle.new.self s (Err c.in_err-settled.field-0.0) (c.in_err-settled.ensures.resettled s stands))
 
 pub returns-clause-settled : goal.returns-clause-settled
-returns-clause-settled g c s stands = settled_steps c.resettle.new.self s (c.in_ok-changes.ensures.resettled s stands)
+returns-clause-settled g c s stands = settles_now c.resettle.new.self s (Ok c.in_ok-settled.settled) (c.in_ok-settled.ensures.resettled s stands)

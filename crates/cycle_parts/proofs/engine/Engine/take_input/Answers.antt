@@ -1,30 +1,24 @@
-use Rattle.std.proofs.Common.{sym, subst}
+use Rattle.std.proofs.Common.{[], ◌∷◌, subst}
 use Rattle.std.proofs.lemmas.Result.{err_from_is_err_and}
-use Rattle.defs_soar.specs.Agents.{Agent}
-use Rattle.wave_parts.specs.Resettles.{resettled_now}
-use Rattle.wave_parts.specs.Seen.{IsSound}
-use Rattle.wave_parts.specs.Stands.{Stands}
-use Rattle.cycle_parts.specs.Stepping.{QuietStep}
-use Rattle.cycle_parts.proofs.InputLemmas.{input_stops, takes_input}
-use Rattle.cycle_parts.proofs.SoundLemmas.{sound_with_inputs}
+use Rattle.defs_soar.specs.Cycle.{after_input}
+use Rattle.defs_soar.specs.Events.{begins, input_phase}
+use Rattle.step_report.specs.Reports.{settled_events}
+use Rattle.step_report.specs.Saying.{SaysEvents}
+use Rattle.cycle_parts.proofs.SteppingLemmas.{goes_not, goes_on}
 use Rattle.cycle_parts.proofs.engine.Engine.take_input.Goals as goal
 
-pub returns-in_err-cycles-clause-step : goal.returns-in_err-cycles-clause-step
-returns-in_err-cycles-clause-step g c =
+pub returns-in_err-settled-clause-step : goal.returns-in_err-settled-clause-step
+returns-in_err-settled-clause-step g c s stands =
     let a = c.args.self.now.parts in
     let p = err_from_is_err_and c.from_residual.result c.from_residual.ensures.1 in
-    rw (p.1, p.2) (input_stops a a c.in_err-cycles.field-0.0 c.in_err-cycles.ensures.count)
-
-pub resettle-requires-clause-sound : goal.resettle-requires-clause-sound
-resettle-requires-clause-sound g c =
-    let a = c.args.self.now.parts in
-    let known = c.in_ok-inputs.ensures.known a.table c.requires.sound.inputs_known c.requires.sound.queue_known in
-    subst (λ queue. IsSound (record a { inputs = c.in_ok-inputs.inputs; queue = queue; cycles = c.in_ok-cycles.cycles })) (sym c.new.ensures)
-    (sound_with_inputs a c.in_ok-inputs.inputs c.in_ok-cycles.cycles c.requires.sound known)
+    rw (p.1, p.2)
+    (goes_not a.settings.watch (begins input_phase ∷ []) (after_input s) c.settle_queued.new.self.parts c.in_err-settled.field-0.0 c.args.mid_line.now c.args.out.now (c.in_err-settled.ensures.step s stands))
 
 pub returns-clause-step : goal.returns-clause-step
-returns-clause-step g c =
+returns-clause-step g c s stands =
     let a = c.args.self.now.parts in
-    takes_input a c.resettle.new.self.parts c.in_ok-inputs.inputs c.in_ok-cycles.cycles c.resettle.result c.in_ok-inputs.ensures.changed c.in_ok-cycles.ensures.count
-    (subst (λ queue. (s : Agent) → Stands (record a { inputs = c.in_ok-inputs.inputs; queue = queue; cycles = c.in_ok-cycles.cycles }) s → QuietStep (resettled_now s) c.resettle.new.self.parts c.resettle.result)
-    c.new.ensures c.resettle.ensures.settled)
+    let new = c.settle_queued.new.self.parts in
+    let settled = c.in_ok-settled.settled in
+    let says = subst (λ settings. SaysEvents settings.watch new.table (begins input_phase ∷ settled_events settled) c.args.mid_line.now c.args.out.now c.say_input.new.mid_line c.say_input.new.out)
+    c.settle_queued.ensures.settings c.in_ok-say_input.ensures in
+    goes_on a.settings.watch (begins input_phase ∷ []) (after_input s) new settled c.args.mid_line.now c.say_input.new.mid_line c.args.out.now c.say_input.new.out (c.in_ok-settled.ensures.step s stands) says

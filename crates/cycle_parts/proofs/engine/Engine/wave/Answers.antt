@@ -1,6 +1,9 @@
-use Rattle.std.proofs.Common.{◌∙◌, [], Err, Ok, sym, subst}
+use Rattle.std.proofs.Common.{◌∙◌, Err, Ok, ap, sym, subst}
 use Rattle.std.proofs.lemmas.Result.{err_from_is_err_and}
 use Rattle.wave_parts.specs.Carrying.{CarriesOut}
+use Rattle.wave_parts.specs.declared.parts.Parts.{Parts as PartsKept}
+use Rattle.step_report.specs.Reports.{report_events}
+use Rattle.step_report.specs.Saying.{SaysEvents}
 use Rattle.cycle_parts.specs.Waving.{is_proposing}
 use Rattle.cycle_parts.proofs.WavingLemmas.{waves, waves_not}
 use Rattle.cycle_parts.proofs.engine.Engine.wave.Goals as goal
@@ -11,10 +14,9 @@ returns-in_err-done-clause-wave g c =
     let new = c.carry_out.new.self.parts in
     let work = c.in_ok-work.work in
     let p = err_from_is_err_and c.from_residual-in_err-done.result c.from_residual-in_err-done.ensures.1 in
-    let same = subst (λ a. CarriesOut a new work c.new-said.result c.carry_out.new.said (Err c.in_err-done.field-0.0)) c.in_ok-work.ensures.parts c.in_err-done.ensures.wave in
-    let carries = subst (λ t. CarriesOut old new work t c.carry_out.new.said (Err c.in_err-done.field-0.0)) c.new-said.ensures same in
+    let carries = subst (λ a. CarriesOut a new work (Err c.in_err-done.field-0.0)) c.in_ok-work.ensures.parts c.in_err-done.ensures.wave in
     rw (p.1, p.2)
-    (waves_not (is_proposing c.args.phase) old new c.args.mid_line.now c.args.out.now c.carry_out.new.said work c.in_err-done.field-0.0
+    (waves_not old.settings.watch (is_proposing c.args.phase) old new c.args.mid_line.now c.args.out.now work c.in_err-done.field-0.0
     (sym c.in_ok-work.ensures.none ∙ sym c.if-is_nothing.ensures) c.in_ok-work.ensures.work carries)
 
 pub returns-clause-wave : goal.returns-clause-wave
@@ -23,9 +25,9 @@ returns-clause-wave g c =
     let new = c.carry_out.new.self.parts in
     let work = c.in_ok-work.work in
     let done = c.in_ok-done.done in
-    let same = subst (λ a. CarriesOut a new work c.new-said.result c.carry_out.new.said (Ok done)) c.in_ok-work.ensures.parts c.in_ok-done.ensures.wave in
-    let from_nothing = subst (λ t. CarriesOut old new work t c.carry_out.new.said (Ok done)) c.new-said.ensures same in
-    let carries = subst (λ t. CarriesOut old new work [] t (Ok done)) (sym c.as_str.ensures) from_nothing in
+    let carries = subst (λ a. CarriesOut a new work (Ok done)) c.in_ok-work.ensures.parts c.in_ok-done.ensures.wave in
+    let settings = c.carry_out.ensures.settings ∙ ap (λ (a : PartsKept). a.settings) c.in_ok-work.ensures.parts in
+    let says = subst (λ kept. SaysEvents kept.watch new.table (report_events done.report) c.args.mid_line.now c.args.out.now c.say_report.new.mid_line c.say_report.new.out) settings c.in_ok-say_report.ensures in
     rw (c.outcome_of.ensures)
-    (waves (is_proposing c.args.phase) old new c.args.mid_line.now c.append.new.mid_line c.args.out.now c.append.new.out c.as_str.result.now work done
-    (sym c.in_ok-work.ensures.none ∙ sym c.if-is_nothing.ensures) c.in_ok-work.ensures.work carries c.in_ok-append.ensures.out c.in_ok-append.ensures.mid_line)
+    (waves old.settings.watch (is_proposing c.args.phase) old new c.args.mid_line.now c.say_report.new.mid_line c.args.out.now c.say_report.new.out work done
+    (sym c.in_ok-work.ensures.none ∙ sym c.if-is_nothing.ensures) c.in_ok-work.ensures.work carries says)

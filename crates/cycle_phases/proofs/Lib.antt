@@ -1,0 +1,4 @@
+pub mod CourseLemmas
+pub mod CycleLemmas
+pub mod GoingLemmas
+pub mod PhaseLemmas
