@@ -1,5 +1,6 @@
 pub mod ArgumentLemmas
 pub mod CheckedLemmas
+pub mod CommandLemmas
 pub mod CutLemmas
 pub mod NameLemmas
 pub mod OrderLemmas

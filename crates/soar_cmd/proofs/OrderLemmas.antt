@@ -9,9 +9,8 @@ use Rattle.defs_text.specs.declared.token.Token.{Token}
 use Rattle.defs_run.specs.Arguments.{Argument, bare, barred, label, argument_of, argument_in}
 use Rattle.defs_run.specs.CommandForms.{input_order, triple_order}
 use Rattle.defs_run.specs.Orders.{Order, queue}
-use Rattle.defs_run.specs.Present.{Form, order_by}
 use Rattle.defs_run.specs.declared.form.Order.{Order as OrderRead}
-use Rattle.soar_cmd.specs.Asked.{adds_by, order_seen}
+use Rattle.soar_cmd.specs.Asked.{FormOf, adds_by, order_by, order_seen}
 use Rattle.soar_cmd.specs.Behind.{kind_argument, argument_at}
 use Rattle.soar_cmd.specs.Known.{IsSayingIn, AreSpelledIn}
 use Rattle.soar_cmd.proofs.WordLemmas.{text_in}
@@ -41,7 +40,7 @@ arguments_behind words text [] has = refl
 arguments_behind words text (t ∷ spelled) has = arguments_are words text spelled has.1
 
 -- the order of arguments that are those behind a command's word
-pub order_behind : {E : Type 0} (f : Form) (words : Texts) (text : List ℕ) (tokens : List Token) (arguments : List Argument) (result : Result (Option OrderRead) E)
+pub order_behind : {E : Type 0} (f : FormOf) (words : Texts) (text : List ℕ) (tokens : List Token) (arguments : List Argument) (result : Result (Option OrderRead) E)
     → arguments ≡ map (argument_at words text) (drop 1 tokens) → IfOk result (λ order. option_map order_seen order ≡ f words arguments)
     → IfOk result (λ order. (spelled : List Spelled) → tokens ≡ map (numbered words) spelled → AreSpelledIn words spelled → option_map order_seen order ≡ order_by f words text spelled)
 order_behind f words text tokens arguments (Err e) are is = tt

@@ -19,11 +19,11 @@ use Rattle.soar_read.specs.declared.fault.ReadFault.TheVariants as read
 use Rattle.soar_read.specs.declared.fault.SyntaxKind.{SyntaxKind}
 use Rattle.soar_read.specs.declared.fault.SyntaxKind.TheVariants as kind
 use Rattle.defs_run.specs.Orders.{Order, load, Refusal}
-use Rattle.defs_run.specs.Present.{Form, read_order}
 use Rattle.defs_run.specs.Stages.{Reading}
 use Rattle.defs_run.specs.WholeReading.{Judge, checked, of_check, of_lexing, of_ordered, of_stop, place_left, read_tokens, read_tree, unless_faulty}
 use Rattle.defs_run.specs.declared.form.Order.{Order as OrderRead}
 use Rattle.soar_cmd.specs.Answers.{GrowsOnly, IsCommandRead, IsJudged, fault_of, refusal_of}
+use Rattle.soar_cmd.specs.Asked.{FormOf, read_order}
 use Rattle.soar_cmd.specs.Known.{AreSpelledIn}
 use Rattle.soar_cmd.specs.declared.fault.CmdFault.{CmdFault}
 use Rattle.soar_cmd.specs.declared.fault.CmdFault.TheVariants as fault
@@ -74,7 +74,7 @@ spent_read old l f grows many = omega (arith, many, faulty_more old l f grows)
 
 -- ---- what is read leaves the table with the words that it had
 
-pub order_grows : (form : Form) (text : List ℕ) → GrowsOnly (read_order form text)
+pub order_grows : (form : FormOf) (text : List ℕ) → GrowsOnly (read_order form text)
 order_grows form text = λ words tokens. omega arith
 
 pub tokens_grow : (judge : Judge) → GrowsOnly (read_tokens judge)

@@ -34,7 +34,7 @@ reason_of number =
     else if number == 23 then codes "too many"
     else if number == 24 then codes "too deep"
     else if number == 25 then codes "preference for an ordinary attribute"
-    else codes "not built"
+    else codes "wrong words"
 
 -- what stands behind it
 abbrev pub shown_text : Texts → Shown → List ℕ

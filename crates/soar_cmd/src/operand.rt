@@ -5,7 +5,7 @@ ghost use Rattle.defs_read.specs.Sayings.{IsWordKnown};
 ghost use Rattle.defs_text.specs.Bytes.{is_capital, is_small};
 ghost use Rattle.defs_text.specs.Numbered.{word_in};
 ghost use Rattle.defs_text.specs.Symbols.{is_identifier_form};
-ghost use Rattle.defs_run.specs.Arguments.{attribute_of, bare_symbol, id_of, identifier_of, is_small_form, operand_of};
+ghost use Rattle.defs_run.specs.Arguments.{attribute_of, bare, bare_symbol, id_of, identifier_of, is_small_form, name_of, operand_of};
 ghost use Rattle.defs_run.specs.Orders.{is_label, is_symbol};
 ghost use Rattle.soar_cmd.specs.Asked.{operand_seen};
 ghost use Rattle.soar_cmd.specs.Behind.{IsArgumentKnown, argument_seen};
@@ -63,6 +63,32 @@ pub fn id_of(
         Argument::Label(name) => Ok(Some(label_of(alloc, table, name)?)),
         Argument::Bare(word) => Ok(as_operand(identifier_of(table.text(word).as_bytes()))),
         _ => Ok(None),
+    }
+}
+
+/// What stands as a name, which is a word and no identifier.
+pub fn name_of(table: &SymTable, argument: Argument) -> Option<Sym>
+    requires { IsArgumentKnown table.now argument }
+    ensures name { result ≡ name_of table.now (argument_seen table.now argument) }
+    ensures known { IfSome result (λ name. IsKnown table.now name) }
+{
+    match argument {
+        Argument::Bare(word) => bare_name(table, word),
+        Argument::Barred(word) => Some(word_symbol(table, word)),
+        _ => None,
+    }
+}
+
+/// The name of a word that stands bare.
+fn bare_name(table: &SymTable, word: u32) -> Option<Sym>
+    requires { IsWordKnown table.now (Sym.Word word) }
+    ensures name { result ≡ name_of table.now (bare (text_of table.now word)) }
+    ensures known { IfSome result (λ name. IsKnown table.now name) }
+{
+    if is_identifier_form(table.text(word).as_bytes()) {
+        None
+    } else {
+        Some(word_symbol(table, word))
     }
 }
 

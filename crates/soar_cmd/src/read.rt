@@ -7,20 +7,21 @@ ghost use Rattle.defs_text.specs.Lexing.{Spelled, lexed};
 ghost use Rattle.defs_text.specs.Numbered.{numbered};
 ghost use Rattle.defs_read.specs.Sayings.{AreTokensKnown};
 ghost use Rattle.defs_soar.specs.Pending.{is_justification};
-ghost use Rattle.defs_run.specs.Present.{or_not_built, order_by, read_order, read_present, read_random};
-ghost use Rattle.defs_run.specs.WholeReading.{checked, read_sp, read_tokens, unless_faulty};
+ghost use Rattle.defs_run.specs.RandomReading.{random_lexed, random_order};
+ghost use Rattle.defs_run.specs.WholeReading.{checked, or_wrong, read_arguments, read_source, read_sp, read_tokens, read_whole};
 ghost use Rattle.soar_cmd.specs.Answers.{IsCommandRead, IsJudged};
-ghost use Rattle.soar_cmd.specs.Asked.{form_seen, numbers_order};
+ghost use Rattle.soar_cmd.specs.Asked.{form_seen, numbers_order, order_by};
 ghost use Rattle.soar_cmd.specs.Known.{AreSpelledIn, IsOrderKnown};
 
 use crate::fault::CmdFault;
-use crate::form::{Form, form_of};
+use crate::form::{Form, form_of, is_word};
 use crate::order::order_by;
 use crate::random::random_order;
 use crate::refused::{of_check, of_lexing, of_reading, refused};
-use crate::word::{first_run, is_word};
+use crate::source::source_order;
 use defs_run::Order;
 use defs_text::Token;
+use file_names::first_run;
 use random_words::lex_random;
 use rule_check::check;
 use rule_laws::checked_is_in_order;
@@ -34,13 +35,16 @@ use std::alloc::Global;
 /// Reads a command, whose words join the table, and gives what it asks for.
 pub fn read_command(alloc: Global, table: &mut SymTable, c: &Command) -> Result<Order, CmdFault>
     requires { length c.now.text ≤ 2 ^ 26 }
-    ensures reading { IsCommandRead table.new (read_present table.old c.now.text) result }
+    ensures reading { IsCommandRead table.new (read_whole table.old c.now.text) result }
     ensures known { IfOk result (λ order. IsOrderKnown table.new order) }
     ensures grown { length table.old ≤ length table.new }
 {
     let word = first_run(c.text.as_slice());
     if is_word(word, b"sp") {
         return read_sp(alloc, table, &c.text);
+    }
+    if is_word(word, b"source") {
+        return read_source(alloc, table, &c.text);
     }
     if is_word(word, b"random") {
         return read_random(alloc, table, &c.text);
@@ -96,6 +100,17 @@ fn judge(alloc: Global, table: &SymTable, production: &Production) -> Result<Ord
     }
 }
 
+// ---- files
+
+/// Reads the command that runs a file, which adds no words.
+fn read_source(alloc: Global, table: &SymTable, text: &List<u8>) -> Result<Order, CmdFault>
+    requires { length text.now ≤ 2 ^ 26 }
+    ensures reading { IsCommandRead table.now (read_source table.now text.now) result }
+    ensures known { IfOk result (λ order. IsOrderKnown table.now order) }
+{
+    source_order(alloc, text.as_slice())
+}
+
 // ---- the other commands
 
 /// Reads a command whose word has a form.
@@ -106,18 +121,18 @@ fn read_form(
     text: &List<u8>,
 ) -> Result<Order, CmdFault>
     requires { length text.now ≤ 2 ^ 26 }
-    ensures reading { IsCommandRead table.new (unless_faulty table.old (lexed text.now) (read_order (form_seen form) text.now)) result }
+    ensures reading { IsCommandRead table.new (read_arguments table.old text.now (lexed text.now) (form_seen form)) result }
     ensures known { IfOk result (λ order. IsOrderKnown table.new order) }
     ensures grown { length table.old ≤ length table.new }
 {
     match lex(alloc, table, text) {
-        Ok(tokens) => built_order(alloc, table, form, text.as_slice(), tokens.as_slice()),
+        Ok(tokens) => order_or_refusal(alloc, table, form, text.as_slice(), tokens.as_slice()),
         Err(fault) => Err(of_lexing(fault)),
     }
 }
 
-/// The order of the tokens of a command, where it is built.
-fn built_order(
+/// The order of the tokens of a command, or that the words are wrong.
+fn order_or_refusal(
     alloc: Global,
     table: &SymTable,
     form: Form,
@@ -126,12 +141,12 @@ fn built_order(
 ) -> Result<Order, CmdFault>
     requires { AreTokensKnown table.now tokens.now }
     ensures judged { (spelled : ListOf Spelled) → tokens.now ≡ map (numbered table.now) spelled → AreSpelledIn table.now spelled
-        → IsJudged table.now (or_not_built (order_by (form_seen form) table.now text.now spelled)) result }
+        → IsJudged table.now (or_wrong (order_by (form_seen form) table.now text.now spelled)) result }
     ensures known { IfOk result (λ order. IsOrderKnown table.now order) }
 {
     match order_by(alloc, table, form, text, tokens)? {
         Some(order) => Ok(order),
-        None => Err(refused(18)),
+        None => Err(refused(30)),
     }
 }
 
@@ -140,23 +155,23 @@ fn built_order(
 /// Reads the command that queues random words.
 fn read_random(alloc: Global, table: &mut SymTable, text: &List<u8>) -> Result<Order, CmdFault>
     requires { length text.now ≤ 2 ^ 26 }
-    ensures reading { IsCommandRead table.new (read_random table.old text.now) result }
+    ensures reading { IsCommandRead table.new (read_arguments table.old text.now (random_lexed 0 0 text.now) (λ words. random_order)) result }
     ensures known { IfOk result (λ order. IsOrderKnown table.new order) }
     ensures grown { length table.old ≤ length table.new }
 {
     match lex_random(alloc, table, text) {
-        Ok(numbers) => built_random(alloc, numbers.as_slice()),
+        Ok(numbers) => random_or_refusal(alloc, numbers.as_slice()),
         Err(fault) => Err(of_lexing(fault)),
     }
 }
 
-/// The order of the numbers of tokens, where it is built.
-fn built_random(alloc: Global, numbers: &[Option<u64>]) -> Result<Order, CmdFault>
-    ensures judged { (words : Texts) → IsJudged words (or_not_built (numbers_order numbers.now)) result }
+/// The order of the numbers of tokens, or that the words are wrong.
+fn random_or_refusal(alloc: Global, numbers: &[Option<u64>]) -> Result<Order, CmdFault>
+    ensures judged { (words : Texts) → IsJudged words (or_wrong (numbers_order numbers.now)) result }
     ensures known { (words : Texts) → IfOk result (λ order. IsOrderKnown words order) }
 {
     match random_order(alloc, numbers)? {
         Some(order) => Ok(order),
-        None => Err(refused(18)),
+        None => Err(refused(30)),
     }
 }

@@ -1,17 +1,17 @@
 use Rattle.std.proofs.Common.{◌∙◌, List, ℕ, sym, subst}
 use Rattle.defs_text.specs.Lexing.{Lexed, lexed}
 use Rattle.defs_read.specs.Sayings.{AreTokensKnown}
-use Rattle.defs_run.specs.Present.{or_not_built, order_by, read_order}
+use Rattle.defs_run.specs.WholeReading.{or_wrong}
 use Rattle.soar_sym.specs.Words.{Texts}
 use Rattle.soar_lex.specs.Answers.{CutWhole}
 use Rattle.soar_cmd.specs.Answers.{IsJudged}
-use Rattle.soar_cmd.specs.Asked.{form_seen}
+use Rattle.soar_cmd.specs.Asked.{form_seen, order_by, read_order}
 use Rattle.soar_cmd.proofs.CutLemmas.{cut_known, cut_spelled, fault_more, gained_more}
 use Rattle.soar_cmd.proofs.ReadingLemmas.{judged_read, order_grows, whole_read}
 use Rattle.soar_cmd.proofs.read.read_form.Goals as goal
 
-pub built_order-requires : goal.built_order-requires
-built_order-requires c =
+pub order_or_refusal-requires : goal.order_or_refusal-requires
+order_or_refusal-requires c =
     subst (AreTokensKnown c.lex.new.table) (sym c.as_slice-in-Ok.ensures) (cut_known c.args.table.now c.lex.new.table (lexed c.args.text.now) c.in-Ok.tokens c.in-Ok.ensures)
 
 pub returns-in-Ok-clause-reading : goal.returns-in-Ok-clause-reading
@@ -20,10 +20,10 @@ returns-in-Ok-clause-reading c =
     let new : Texts = c.lex.new.table in
     let l : Lexed = lexed c.args.text.now in
     let cut : CutWhole old new l c.in-Ok.tokens = c.in-Ok.ensures in
-    whole_read old new new (read_order (form_seen c.args.form) c.args.text.now) l c.built_order.result cut.fault cut.gained
-    (judged_read new (or_not_built (order_by (form_seen c.args.form) new c.args.text.now l.tokens)) c.built_order.result
-    (subst (λ (bytes : List ℕ). IsJudged new (or_not_built (order_by (form_seen c.args.form) new bytes l.tokens)) c.built_order.result) c.as_slice.ensures
-    (c.built_order.ensures.judged l.tokens (c.as_slice-in-Ok.ensures ∙ cut.tokens_are) (cut_spelled old new l c.in-Ok.tokens cut))))
+    whole_read old new new (read_order (form_seen c.args.form) c.args.text.now) l c.order_or_refusal.result cut.fault cut.gained
+    (judged_read new (or_wrong (order_by (form_seen c.args.form) new c.args.text.now l.tokens)) c.order_or_refusal.result
+    (subst (λ (bytes : List ℕ). IsJudged new (or_wrong (order_by (form_seen c.args.form) new bytes l.tokens)) c.order_or_refusal.result) c.as_slice.ensures
+    (c.order_or_refusal.ensures.judged l.tokens (c.as_slice-in-Ok.ensures ∙ cut.tokens_are) (cut_spelled old new l c.in-Ok.tokens cut))))
 
 pub returns-in-Ok-clause-grown : goal.returns-in-Ok-clause-grown
 returns-in-Ok-clause-grown c =

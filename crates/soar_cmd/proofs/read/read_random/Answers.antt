@@ -2,11 +2,11 @@ use Rattle.std.proofs.Common.{◌∙◌, List, ℕ, Option, ap, subst}
 use Rattle.soar_sym.specs.Words.{Texts}
 use Rattle.defs_text.specs.Lexing.{Lexed}
 use Rattle.defs_run.specs.Orders.{Order}
-use Rattle.defs_run.specs.Present.{or_not_built, order_by, read_order}
+use Rattle.defs_run.specs.WholeReading.{or_wrong}
 use Rattle.defs_run.specs.RandomReading.{random_lexed, random_order}
 use Rattle.random_words.specs.Answers.{ReadWhole}
 use Rattle.soar_cmd.specs.Answers.{IsJudged}
-use Rattle.soar_cmd.specs.Asked.{numbers_order}
+use Rattle.soar_cmd.specs.Asked.{numbers_order, order_by, read_order}
 use Rattle.soar_cmd.proofs.CutLemmas.{fault_more, gained_more}
 use Rattle.soar_cmd.proofs.RandomLemmas.{order_is}
 use Rattle.soar_cmd.proofs.ReadingLemmas.{judged_read, order_grows, whole_read}
@@ -18,13 +18,13 @@ returns-in-Ok-clause-reading c =
     let text : List ℕ = c.args.text.now in
     let l : Lexed = random_lexed 0 0 text in
     let read : ReadWhole c.args.table.now new text c.in-Ok.numbers = c.in-Ok.ensures in
-    whole_read c.args.table.now new new (read_order (λ words. random_order) text) l c.built_random.result read.fault read.gained
-    (judged_read new (or_not_built (order_by (λ words. random_order) new text l.tokens)) c.built_random.result
-    (subst (λ (order : Option Order). IsJudged new (or_not_built order) c.built_random.result) (ap numbers_order (c.as_slice.ensures ∙ read.numbers_are) ∙ order_is text l.tokens)
-    (c.built_random.ensures.judged new)))
+    whole_read c.args.table.now new new (read_order (λ words. random_order) text) l c.random_or_refusal.result read.fault read.gained
+    (judged_read new (or_wrong (order_by (λ words. random_order) new text l.tokens)) c.random_or_refusal.result
+    (subst (λ (order : Option Order). IsJudged new (or_wrong order) c.random_or_refusal.result) (ap numbers_order (c.as_slice.ensures ∙ read.numbers_are) ∙ order_is text l.tokens)
+    (c.random_or_refusal.ensures.judged new)))
 
 pub returns-in-Ok-clause-known : goal.returns-in-Ok-clause-known
-returns-in-Ok-clause-known c = c.built_random.ensures.known c.lex_random.new.table
+returns-in-Ok-clause-known c = c.random_or_refusal.ensures.known c.lex_random.new.table
 
 pub returns-in-Ok-clause-grown : goal.returns-in-Ok-clause-grown
 returns-in-Ok-clause-grown c =

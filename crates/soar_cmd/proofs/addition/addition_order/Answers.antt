@@ -2,7 +2,7 @@ use Rattle.std.proofs.Common.{◌∙◌, sym, ap}
 use Rattle.std.specs.Prelude.{option_map}
 use Rattle.defs_run.specs.Orders.{add_wme}
 use Rattle.soar_cmd.specs.Asked.{asked_with}
-use Rattle.soar_cmd.proofs.order.addition_order.Goals as goal
+use Rattle.soar_cmd.proofs.addition.addition_order.Goals as goal
 
 pub returns-in-Some-clause-order : goal.returns-in-Some-clause-order
 returns-in-Some-clause-order c = sym (ap (option_map (asked_with add_wme)) c.in-Some.is) ∙ c.in_ok-addition.ensures.asked add_wme

@@ -6,7 +6,7 @@ use Rattle.defs_run.specs.CommandForms.{input_order, triple_order}
 use Rattle.defs_run.specs.Orders.{queue}
 use Rattle.soar_cmd.specs.Behind.{argument_seen}
 use Rattle.soar_cmd.proofs.OrderLemmas.{input_is, order_same}
-use Rattle.soar_cmd.proofs.order.change_order.Goals as goal
+use Rattle.soar_cmd.proofs.addition.change_order.Goals as goal
 
 pub returns-in-Some-clause-order : goal.returns-in-Some-clause-order
 returns-in-Some-clause-order c =

@@ -2,7 +2,7 @@ use Rattle.std.proofs.Common.{◌∙◌, sym, ap}
 use Rattle.std.specs.Prelude.{option_map}
 use Rattle.defs_run.specs.Orders.{queue}
 use Rattle.soar_cmd.specs.Asked.{asked_with}
-use Rattle.soar_cmd.proofs.order.queue_order.Goals as goal
+use Rattle.soar_cmd.proofs.addition.queue_order.Goals as goal
 
 pub returns-in-Some-clause-order : goal.returns-in-Some-clause-order
 returns-in-Some-clause-order c = sym (ap (option_map (asked_with (queue c.args.adds))) c.in-Some.is) ∙ c.in_ok-addition.ensures.asked (queue c.args.adds)
