@@ -24,19 +24,19 @@ pub struct Stats {
     pub retractions: u64,
 
     /// Productions that are loaded, learned ones among them.
-    pub productions: usize,
+    pub productions: u64,
 
     /// Elements of working memory.
-    pub elements: usize,
+    pub elements: u64,
 
     /// Rows of preference memory.
-    pub preferences: usize,
+    pub preferences: u64,
 
     /// Firings that were not retracted.
-    pub live: usize,
+    pub live: u64,
 
     /// Chunks among the productions.
-    pub chunks: usize,
+    pub chunks: u64,
 }
 
 /// Appends the line of counts and sizes.

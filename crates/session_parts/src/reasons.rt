@@ -24,6 +24,9 @@ pub enum Reason<'a> {
     ReservedAttribute,
     Halted,
     NotOfTheTopState,
+    NoFile(&'a str),
+    SourcesTooDeep,
+    TooManyFiles,
 }
 
 /// The number of a refusal.
@@ -41,6 +44,9 @@ pub fn number_of(reason: &Reason<'_>) -> u32
         Reason::ReservedAttribute => 36,
         Reason::Halted => 37,
         Reason::NotOfTheTopState => 38,
+        Reason::NoFile(_) => 40,
+        Reason::SourcesTooDeep => 41,
+        Reason::TooManyFiles => 42,
     }
 }
 
@@ -60,6 +66,9 @@ pub fn text_of(alloc: Global, table: &SymTable, reason: &Reason<'_>) -> Result<T
         Reason::ReservedAttribute => Ok(Text::from_str(alloc, "reserved attribute")?),
         Reason::Halted => Ok(Text::from_str(alloc, "halted")?),
         Reason::NotOfTheTopState => Ok(Text::from_str(alloc, "not of the top state")?),
+        Reason::NoFile(name) => with_text(alloc, "no file ", name),
+        Reason::SourcesTooDeep => Ok(Text::from_str(alloc, "sources too deep")?),
+        Reason::TooManyFiles => Ok(Text::from_str(alloc, "too many files")?),
     }
 }
 
@@ -128,6 +137,6 @@ fn reason_of(number: u32) -> &'static str
         23 => "too many",
         24 => "too deep",
         25 => "preference for an ordinary attribute",
-        _ => "not built",
+        _ => "wrong words",
     }
 }

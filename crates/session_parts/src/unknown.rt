@@ -4,7 +4,7 @@ ghost use Rattle.soar_sym.specs.Words.{IsKnown};
 ghost use Rattle.soar_wm.specs.WorkingMemory.{tag_of, triple_of};
 ghost use Rattle.defs_text.specs.Symbols.{symbol_text};
 ghost use Rattle.defs_soar.specs.Goals.{plain_triple};
-ghost use Rattle.defs_run.specs.Inputs.{first_unknown, is_top_level, unreached_in, unreached_symbol};
+ghost use Rattle.defs_run.specs.Inputs.{first_unknown, is_top_level, or_else, unreached_in, unreached_symbol};
 ghost use Rattle.defs_run.specs.Sessions.{Session, bracketed, unknown_in};
 ghost use Rattle.soar_levels.specs.Told.{TellsLevels};
 ghost use Rattle.soar_cmd.specs.Asked.{operand_seen};
@@ -59,6 +59,19 @@ impl Lookup<'_> {
             }
             Operand::Label(_) => Ok(None),
         }
+    }
+
+    /// The text of the first identifier of a slot that was never given.
+    pub fn unknown_in_slot(&self, id: &Operand, attr: &Operand) -> Result<Option<Text>, NoMemory>
+        requires id { IsOperandKnown self.now.table.now id.now }
+        requires attr { IsOperandKnown self.now.table.now attr.now }
+        ensures { (s : Session) →
+            IfOk result (λ text. text ≡ or_else (unknown_in (session_with self.now s) (operand_seen id.now)) (unknown_in (session_with self.now s) (operand_seen attr.now))) }
+    {
+        if let Some(text) = self.unknown_in(id)? {
+            return Ok(Some(text));
+        }
+        self.unknown_in(attr)
     }
 
     /// The text of an operand that no goal reaches, where it is asked for.

@@ -10,15 +10,14 @@ use Rattle.defs_run.specs.Carrying.{followed, told_of}
 use Rattle.soar_settle.specs.declared.stop.Stop.{Stop}
 use Rattle.soar_settle.specs.declared.stop.Stop.TheVariants as stop
 use Rattle.wave_parts.proofs.StandsLemmas.{state_is}
-use Rattle.cycle_parts.specs.Stepping.{watch}
-use Rattle.soar_cycle.specs.Courses.{Goes, Went, front_said, limit_in}
+use Rattle.cycle_phases.specs.Courses.{Goes, Went, front_said, limit_in}
 use Rattle.session_parts.specs.Labels.{label_seen}
 use Rattle.session_parts.specs.declared.label.Label.{Label}
 use Rattle.soar_agent.specs.States.{IsReady, session_of}
 use Rattle.soar_agent.specs.Steps.{Obeys}
 use Rattle.soar_agent.specs.Telling.{front_told, limit_told}
 use Rattle.soar_agent.specs.declared.state.Session.{Session as SessionKept}
-use Rattle.soar_agent.proofs.SessionLemmas.{nothing}
+use Rattle.soar_agent.proofs.SessionLemmas.{nothing, watch_of}
 
 -- ---- steps
 
@@ -28,24 +27,24 @@ limit_of_steps [] = refl
 limit_of_steps (s ∷ steps) = ap (or_limit (first_passed s.totals)) (limit_of_steps steps)
 
 -- what is written before it
-pub front_of_steps : (mid : Bool) (steps : List Said) → front_told watch mid (map told_of steps) ≡ front_said mid steps
-front_of_steps mid [] = refl
-front_of_steps mid (s ∷ steps) = by (first_passed s.totals) (λ m. front_of_steps m steps)
+pub front_of_steps : (watch : ℕ) (mid : Bool) (steps : List Said) → front_told watch mid (map told_of steps) ≡ front_said watch mid steps
+front_of_steps watch mid [] = refl
+front_of_steps watch mid (s ∷ steps) = by (first_passed s.totals) (λ m. front_of_steps watch m steps)
   where
-    by : (o : Option Which) → ((m : Bool) → front_told watch m (map told_of steps) ≡ front_said m steps)
+    by : (o : Option Which) → ((m : Bool) → front_told watch m (map told_of steps) ≡ front_said watch m steps)
         → (let w = rendered watch mid (pieces_of s.words s.events) in
         elim o as (λ _. Written) [ Some limit ↦ nothing mid | None ↦ followed_by w (front_told watch w.mid_line (map told_of steps)) ]
-        ≡ elim o as (λ _. Written) [ Some limit ↦ nothing mid | None ↦ followed_by w (front_said w.mid_line steps) ])
+        ≡ elim o as (λ _. Written) [ Some limit ↦ nothing mid | None ↦ followed_by w (front_said watch w.mid_line steps) ])
     by (Some limit) later = refl
     by None later = let w : Written = rendered watch mid (pieces_of s.words s.events) in ap (followed_by w) (later w.mid_line)
 
 -- ---- the session behind a course
 
 pub follows : {M : Type 0} (s new : SessionKept M) (c : Course) (history : List RecordedFiring) (before after : List ℕ)
-    → Went s.agent.mid_line c new.agent.parts new.agent.mid_line before after → new.labels ≡ s.labels → IsReady new.agent
-    → Obeys s.agent.mid_line (followed (session_of s history) c) new before after (Ok false)
+    → Went (watch_of s) s.agent.mid_line c new.agent.parts new.agent.mid_line before after → new.labels ≡ s.labels → IsReady new.agent
+    → Obeys (watch_of s) s.agent.mid_line (followed (session_of s history) c) new before after (Ok false)
 follows s new c history before after went same ready =
-    let front : front_told watch s.agent.mid_line (map told_of c.steps) ≡ front_said s.agent.mid_line c.steps = front_of_steps s.agent.mid_line c.steps in
+    let front : front_told (watch_of s) s.agent.mid_line (map told_of c.steps) ≡ front_said (watch_of s) s.agent.mid_line c.steps = front_of_steps (watch_of s) s.agent.mid_line c.steps in
     record {
       history = c.agent.history;
       remembers = went.stands.remembers;
@@ -60,10 +59,10 @@ follows s new c history before after went same ready =
     }
 
 pub follows_none : {M : Type 0} (s new : SessionKept M) (c : Course) (history : List RecordedFiring) (before after : List ℕ) (why : Stop)
-    → Goes {T = Unit {0}} s.agent.mid_line c new.agent.parts new.agent.mid_line before after (Err why)
-    → Obeys s.agent.mid_line (followed (session_of s history) c) new before after (Err why)
+    → Goes {T = Unit {0}} (watch_of s) s.agent.mid_line c new.agent.parts new.agent.mid_line before after (Err why)
+    → Obeys (watch_of s) s.agent.mid_line (followed (session_of s history) c) new before after (Err why)
 follows_none s new c history before after (stop.Limit limit) passed =
-    let front : front_told watch s.agent.mid_line (map told_of c.steps) ≡ front_said s.agent.mid_line c.steps = front_of_steps s.agent.mid_line c.steps in
+    let front : front_told (watch_of s) s.agent.mid_line (map told_of c.steps) ≡ front_said (watch_of s) s.agent.mid_line c.steps = front_of_steps (watch_of s) s.agent.mid_line c.steps in
     record {
       passed = limit_of_steps c.steps ∙ passed.passed;
       text = passed.text ∙ ap (λ (w : Written). before ++ w.text) (sym front);

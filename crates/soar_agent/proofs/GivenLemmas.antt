@@ -96,10 +96,10 @@ attribute_stands words labels (operand.Label name) known = absurd known
 
 pub given_adds : {M : Type 0} (old same new : SessionKept M) (from : List ℕ) (line : ℕ) (id attr value : Operand) (i a : Sym) (history : List RecordedFiring) (before after : List ℕ) (result : Result Bool Stop)
     → symbol_in (map label_seen old.labels) id ≡ Some i → symbol_in (map label_seen old.labels) attr ≡ Some a → same ≡ old
-    → Obeys same.agent.mid_line (replied_by from line (session_of same history) (adds_at_top i a value (session_of same history))) new before after result
-    → Obeys old.agent.mid_line (replied_by from line (session_of old history) (added (spelled (session_of old history) id attr value))) new before after result
+    → Obeys same.agent.parts.settings.watch same.agent.mid_line (replied_by from line (session_of same history) (adds_at_top i a value (session_of same history))) new before after result
+    → Obeys old.agent.parts.settings.watch old.agent.mid_line (replied_by from line (session_of old history) (added (spelled (session_of old history) id attr value))) new before after result
 given_adds {M = M} old same new from line id attr value i a history before after result id_is attr_is is obeys =
     let s : Session = session_of old history in
-    subst (λ (c : Carried). Obeys old.agent.mid_line (replied_by from line s c) new before after result)
+    subst (λ (c : Carried). Obeys old.agent.parts.settings.watch old.agent.mid_line (replied_by from line s c) new before after result)
     (sym (adds_given s id attr value i a id_is attr_is))
-    (subst (λ (t : SessionKept M). Obeys t.agent.mid_line (replied_by from line (session_of t history) (adds_at_top i a value (session_of t history))) new before after result) is obeys)
+    (subst (λ (t : SessionKept M). Obeys t.agent.parts.settings.watch t.agent.mid_line (replied_by from line (session_of t history) (adds_at_top i a value (session_of t history))) new before after result) is obeys)

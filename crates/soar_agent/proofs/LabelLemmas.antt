@@ -30,7 +30,7 @@ use Rattle.soar_agent.specs.States.{session_of}
 use Rattle.soar_agent.specs.Steps.{Obeys}
 use Rattle.soar_agent.specs.declared.state.Session.{Session as SessionKept}
 use Rattle.soar_agent.proofs.ReplyLemmas.{goes_on}
-use Rattle.soar_agent.proofs.SessionLemmas.{obeys_same, drawn_same, drawn_stops}
+use Rattle.soar_agent.proofs.SessionLemmas.{obeys_same, drawn_same, drawn_stops, watch_of}
 
 -- ---- a new label
 
@@ -84,30 +84,50 @@ resolved_words : (s : Session) (o : Operand) → (resolved s o).session.agent.na
 resolved_words s (is_symbol symbol) = refl
 resolved_words s (is_label name) = labelled_words s name (label_in s.labels name)
 
+labelled_watch : (s : Session) (name : List ℕ) (o : Option Sym) → (labelled s name o).session.agent.settings.watch ≡ s.agent.settings.watch
+labelled_watch s name None = refl
+labelled_watch s name (Some symbol) = refl
+
+pub resolved_watch : (s : Session) (o : Operand) → (resolved s o).session.agent.settings.watch ≡ s.agent.settings.watch
+resolved_watch s (is_symbol symbol) = refl
+resolved_watch s (is_label name) = labelled_watch s name (label_in s.labels name)
+
+-- ---- once labels stand for symbols
+
+-- what is replied where they do
+pub made_replies : {M : Type 0} (old new last : SessionKept M) (r : Resolved) (reply : Sym → Session → Reply) (symbol : Sym) (history : List RecordedFiring) (before after : List ℕ) (result : Result Bool Stop)
+    → new.agent.mid_line ≡ old.agent.mid_line → r.session.agent.settings.watch ≡ watch_of old → Makes new r history (Ok symbol)
+    → Obeys (watch_of new) new.agent.mid_line (reply symbol (session_of new history)) last before after result
+    → Obeys (watch_of old) old.agent.mid_line (reply r.symbol r.session) last before after result
+made_replies old new last r reply symbol history before after result same level makes obeys =
+    let watch_is : watch_of new ≡ watch_of old = ap (λ (s : Session). s.agent.settings.watch) makes.1 ∙ level in
+    subst (λ (s : Session). Obeys (watch_of old) old.agent.mid_line (reply r.symbol s) last before after result) makes.1
+    (subst (λ (s : Sym). Obeys (watch_of old) old.agent.mid_line (reply s (session_of new history)) last before after result) makes.0
+    (subst (λ (watch : ℕ). Obeys watch old.agent.mid_line (reply symbol (session_of new history)) last before after result) watch_is
+    (subst (λ (mid : Bool). Obeys (watch_of new) mid (reply symbol (session_of new history)) last before after result) same obeys)))
+
 -- ---- listing
 
 -- the elements of an identifier, once a label stands for it
 pub lists_made : {M : Type 0} (old new last : SessionKept M) (id : Operand) (symbol : Sym) (history : List RecordedFiring) (before after : List ℕ) (result : Result Bool Stop)
     → new.agent.mid_line ≡ old.agent.mid_line → Makes new (resolved (session_of old history) id) history (Ok symbol)
-    → Obeys new.agent.mid_line (says (session_of new history) (element_lines new.agent.parts.table (elements_of symbol new.agent.parts.memory.elements))) last before after result
-    → Obeys old.agent.mid_line (lists_elements (session_of old history) id) last before after result
+    → Obeys (watch_of new) new.agent.mid_line (says (session_of new history) (element_lines new.agent.parts.table (elements_of symbol new.agent.parts.memory.elements))) last before after result
+    → Obeys (watch_of old) old.agent.mid_line (lists_elements (session_of old history) id) last before after result
 lists_made old new last id symbol history before after result same makes obeys =
     let s : Session = session_of old history in
     let r : Resolved = resolved s id in
     let line : Texts → Holding → Sym → Session → Reply = λ words held symbol session. says session (element_lines words (elements_of symbol held.elements)) in
-    obeys_same old.agent.mid_line (lists_elements s id) (line s.agent.names.words s.agent.holding r.symbol r.session) last before after result
-    (drawn_same r.totals (line s.agent.names.words s.agent.holding r.symbol r.session) makes.2)
-    (subst (λ (words : Texts). Obeys old.agent.mid_line (line words s.agent.holding r.symbol r.session) last before after result) (resolved_words s id)
-    (subst (λ (held : Holding). Obeys old.agent.mid_line (line r.session.agent.names.words held r.symbol r.session) last before after result) (resolved_holding s id)
-    (subst (λ (t : Session). Obeys old.agent.mid_line (line t.agent.names.words t.agent.holding r.symbol t) last before after result) makes.1
-    (subst (λ (found : Sym). Obeys old.agent.mid_line (line new.agent.parts.table (session_of new history).agent.holding found (session_of new history)) last before after result) makes.0
-    (subst (λ (mid : Bool). Obeys mid (line new.agent.parts.table (session_of new history).agent.holding symbol (session_of new history)) last before after result) same obeys)))))
+    obeys_same (watch_of old) old.agent.mid_line (lists_elements s id) (line s.agent.names.words s.agent.holding r.symbol r.session) last before after result
+    (drawn_same (watch_of old) r.totals (line s.agent.names.words s.agent.holding r.symbol r.session) makes.2)
+    (subst (λ (words : Texts). Obeys (watch_of old) old.agent.mid_line (line words s.agent.holding r.symbol r.session) last before after result) (resolved_words s id)
+    (subst (λ (held : Holding). Obeys (watch_of old) old.agent.mid_line (line r.session.agent.names.words held r.symbol r.session) last before after result) (resolved_holding s id)
+    (made_replies old new last r (λ found session. line session.agent.names.words session.agent.holding found session) symbol history before after result same (resolved_watch s id) makes obeys)))
 
 -- what a label draws is beyond the limit
 pub lists_none : {M : Type 0} (old new : SessionKept M) (id : Operand) (history : List RecordedFiring) (said : List ℕ) (why : Stop)
     → new.agent.mid_line ≡ old.agent.mid_line → Makes new (resolved (session_of old history) id) history (Err why)
-    → Obeys old.agent.mid_line (lists_elements (session_of old history) id) new said said (Err why)
+    → Obeys (watch_of old) old.agent.mid_line (lists_elements (session_of old history) id) new said said (Err why)
 lists_none old new id history said (stop.Limit limit) same makes =
     let r : Resolved = resolved (session_of old history) id in
-    drawn_stops old.agent.mid_line r.totals (says r.session (element_lines old.agent.parts.table (elements_of r.symbol old.agent.parts.memory.elements))) new said limit makes same
+    drawn_stops (watch_of old) old.agent.mid_line r.totals (says r.session (element_lines old.agent.parts.table (elements_of r.symbol old.agent.parts.memory.elements))) new said limit makes same
 lists_none old new id history said stop.NoMemory same makes = tt

@@ -1,11 +1,15 @@
 pub mod AddingLemmas
 pub mod CommandLemmas
+pub mod CountLemmas
 pub mod CycleLemmas
 pub mod FollowedLemmas
 pub mod GivenLemmas
 pub mod LabelLemmas
+pub mod NamedLemmas
 pub mod ReplyLemmas
+pub mod SequelLemmas
 pub mod SessionLemmas
-pub mod SettlingLemmas
+pub mod SettingLemmas
+pub mod SlotLemmas
 pub mod SoundLemmas
 pub mod SpellingLemmas

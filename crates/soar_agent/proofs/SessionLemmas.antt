@@ -8,7 +8,6 @@ use Rattle.defs_run.specs.Sessions.{Session, Reply, draws}
 use Rattle.soar_settle.specs.declared.stop.Stop.{Stop}
 use Rattle.soar_settle.specs.declared.stop.Stop.TheVariants as stop
 use Rattle.wave_parts.proofs.LimitLemmas.{passes_not, passes_over}
-use Rattle.cycle_parts.specs.Stepping.{watch}
 use Rattle.soar_cycle.specs.Agents.{AgentSeen, IsSoundAgent}
 use Rattle.soar_agent.specs.Commands.{IsSame}
 use Rattle.soar_agent.specs.States.{IsReady}
@@ -20,15 +19,19 @@ use Rattle.soar_agent.specs.declared.state.Session.{Session as SessionKept}
 abbrev pub nothing : Bool → Written
 nothing mid = record { text = []; mid_line = mid }
 
+-- the watch level that is set
+abbrev pub watch_of : {M : Type 0} → SessionKept M → ℕ
+watch_of s = s.agent.parts.settings.watch
+
 -- an agent stays ready
 pub ready_after : (old new : AgentSeen) → IsReady old → new.standing ≡ old.standing → IsSoundAgent new → IsReady new
 ready_after old new ready same sound = let stands = same ∙ ready.0 in (stands, sound stands)
 
 -- ---- replies that come to the same
 
-pub obeys_same : {M : Type 0} (mid : Bool) (first second : Reply) (new : SessionKept M) (before after : List ℕ) (result : Result Bool Stop) → IsSame first second
-    → Obeys mid second new before after result → Obeys mid first new before after result
-obeys_same mid first second new before after (Ok answer) same r = record {
+pub obeys_same : {M : Type 0} (watch : ℕ) (mid : Bool) (first second : Reply) (new : SessionKept M) (before after : List ℕ) (result : Result Bool Stop) → IsSame watch first second
+    → Obeys watch mid second new before after result → Obeys watch mid first new before after result
+obeys_same watch mid first second new before after (Ok answer) same r = record {
   history = r.history;
   remembers = r.remembers;
   session = r.session
@@ -39,18 +42,19 @@ obeys_same mid first second new before after (Ok answer) same r = record {
   refused = r.refused ∙ sym same.refused;
   kept = r.kept;
 }
-obeys_same mid first second new before after (Err (stop.Limit limit)) same r = record {
+obeys_same watch mid first second new before after (Err (stop.Limit limit)) same r = record {
   passed = same.limit ∙ r.passed;
   text = r.text ∙ ap (λ (w : Written). before ++ w.text) (sym (same.front mid));
   mid_line = r.mid_line ∙ ap (λ (w : Written). w.mid_line) (sym (same.front mid));
 }
-obeys_same mid first second new before after (Err stop.NoMemory) same r = tt
+obeys_same watch mid first second new before after (Err stop.NoMemory) same r = tt
 
 -- totals within their limits tell nothing
-pub drawn_same : (totals : List Total) (reply : Reply) → first_passed totals ≡ None → IsSame (draws totals reply) reply
-drawn_same totals reply none = record {
+pub drawn_same : (watch : ℕ) (totals : List Total) (reply : Reply) → first_passed totals ≡ None → IsSame watch (draws totals reply) reply
+drawn_same watch totals reply none = record {
   session = refl;
   refused = refl;
+  sequel = refl;
   limit = ap (λ o. or_limit o (limit_told reply.told)) none;
   front = λ mid. ap (λ o. elim o as (λ _. Written) [ Some limit ↦ nothing mid | None ↦ followed_by (nothing mid) (front_told watch mid reply.told) ]) none;
 }
@@ -62,9 +66,9 @@ pub words_spent : (count : ℕ) → 2 ^ 32 - 1 < count → first_passed (words_t
 words_spent count many = ap (λ o. or_limit o None) (passes_over count which.Words (omega (arith, many)))
 
 -- nothing is done where the first total passes its limit
-pub drawn_stops : {M : Type 0} (mid : Bool) (totals : List Total) (reply : Reply) (new : SessionKept M) (said : List ℕ) (limit : Which) → first_passed totals ≡ Some limit → new.agent.mid_line ≡ mid
-    → Obeys mid (draws totals reply) new said said (Err (stop.Limit limit))
-drawn_stops mid totals reply new said limit passed same =
+pub drawn_stops : {M : Type 0} (watch : ℕ) (mid : Bool) (totals : List Total) (reply : Reply) (new : SessionKept M) (said : List ℕ) (limit : Which) → first_passed totals ≡ Some limit → new.agent.mid_line ≡ mid
+    → Obeys watch mid (draws totals reply) new said said (Err (stop.Limit limit))
+drawn_stops watch mid totals reply new said limit passed same =
     let front : front_told watch mid (draws totals reply).told ≡ nothing mid =
     ap (λ o. elim o as (λ _. Written) [ Some limit ↦ nothing mid | None ↦ followed_by (nothing mid) (front_told watch mid reply.told) ]) passed in
     record {

@@ -7,13 +7,15 @@ use Rattle.soar_wm.specs.declared.element.Element.{Element}
 use Rattle.soar_wm.specs.WorkingMemory.{element_of, triple_of}
 use Rattle.defs_match.specs.Rules.{RuleOf, rule_seen}
 use Rattle.defs_soar.specs.declared.preference.Preference.{Preference}
+use Rattle.defs_soar.specs.Agents.{LiveFiring}
 use Rattle.defs_soar.specs.Dependencies.{symbols_of_wish}
 use Rattle.defs_soar.specs.History.{RecordedFiring}
 use Rattle.soar_settle.specs.Known.{AreElementsKnown, AreRulesKnown, AreRowsKnown}
 use Rattle.input_queue.specs.Seen.{triple_queued}
 use Rattle.soar_cmd.proofs.WordLemmas.{symbol_stays}
 use Rattle.wave_parts.specs.Remembers.{Remembers}
-use Rattle.wave_parts.specs.Seen.{IsSound}
+use Rattle.goal_trimming.specs.Living.{live_seen}
+use Rattle.wave_parts.specs.Seen.{AreLiveKnown, IsSound}
 use Rattle.wave_parts.proofs.GrownLemmas.{elements_grown, goals_grown, triples_grown}
 use Rattle.cycle_parts.specs.Calls.{IsTripleKnown}
 use Rattle.soar_cycle.specs.Agents.{AgentSeen, with_table}
@@ -32,6 +34,10 @@ rules_stay old new (rule ∷ rules) more known = (symbols_stay old new (symbols_
 rows_stay : (old new : Texts) (rows : List Preference) → length old ≤ length new → AreRowsKnown old rows → AreRowsKnown new rows
 rows_stay old new [] more known = tt
 rows_stay old new (row ∷ rows) more known = (symbols_stay old new (symbols_of_wish row.wish) more known.0, rows_stay old new rows more known.1)
+
+live_stays : (old new : Texts) (live : List LiveFiring) → length old ≤ length new → AreLiveKnown old live → AreLiveKnown new live
+live_stays old new [] more known = tt
+live_stays old new (l ∷ live) more known = (symbol_stays old new l.name more known.0, live_stays old new live more known.1)
 
 pub ready_read : (a : AgentSeen) (table : Texts) → length a.parts.table ≤ length table → IsReady a → IsReady (with_table a table)
 ready_read a table more ready =
@@ -61,6 +67,7 @@ ready_read a table more ready =
         inputs_known = triples_grown a.parts.table table a.parts.inputs more sound.inputs_known;
         queue_known = triples_grown a.parts.table table (map triple_queued a.parts.queue) more sound.queue_known;
         output_known = triples_grown a.parts.table table a.parts.output more sound.output_known;
+        live_known = live_stays a.parts.table table (map live_seen a.parts.live) more sound.live_known;
       },
     )
 

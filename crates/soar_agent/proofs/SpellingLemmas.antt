@@ -1,5 +1,5 @@
 -- The triple of three operands, and queueing with it.
-use Rattle.std.proofs.Common.{◌≡◌, ℕ, Bool, List, ◌++◌, Result, Ok, Err, subst, ◌∙◌}
+use Rattle.std.proofs.Common.{◌≡◌, ℕ, Bool, List, ◌++◌, Result, Ok, Err, ap, subst, ◌∙◌}
 use Rattle.soar_sym.specs.declared.symbol.Sym.{Sym}
 use Rattle.soar_sym.specs.declared.symbol.Triple.{Triple}
 use Rattle.defs_soar.specs.Goals.{plain_triple}
@@ -15,12 +15,13 @@ use Rattle.soar_agent.specs.Queueing.{queues_triple}
 use Rattle.soar_agent.specs.States.{session_of}
 use Rattle.soar_agent.specs.Steps.{Obeys}
 use Rattle.soar_agent.specs.declared.state.Session.{Session as SessionKept}
-use Rattle.soar_agent.proofs.SessionLemmas.{obeys_same, drawn_same, drawn_stops}
+use Rattle.soar_agent.proofs.LabelLemmas.{resolved_watch}
+use Rattle.soar_agent.proofs.SessionLemmas.{obeys_same, drawn_same, drawn_stops, watch_of}
 
 -- ---- three operands, one after the other
 
 -- an operand resolved behind another
-behind : {M : Type 0} (middle new : SessionKept M) (first : Resolved) (o : Operand) (history : List RecordedFiring) (result : Result Sym Stop) → session_of middle history ≡ first.session
+pub behind : {M : Type 0} (middle new : SessionKept M) (first : Resolved) (o : Operand) (history : List RecordedFiring) (result : Result Sym Stop) → session_of middle history ≡ first.session
     → Makes new (resolved (session_of middle history) o) history result → Makes new (resolved first.session o) history result
 behind middle new first o history result is makes = subst (λ (s : Session). Makes new (resolved s o) history result) is makes
 
@@ -67,16 +68,27 @@ value_none old one two new id attr value i a history stop.NoMemory first second 
 
 -- ---- queueing
 
-pub queues_spelled : {M : Type 0} (old middle new : SessionKept M) (adds : Bool) (t : Spelled) (triple : Triple) (history : List RecordedFiring) (before after : List ℕ) (result : Result Bool Stop)
-    → middle.agent.mid_line ≡ old.agent.mid_line → Spells middle t history (Ok triple)
-    → Obeys middle.agent.mid_line (queues_triple adds triple (session_of middle history)) new before after result → Obeys old.agent.mid_line (with_queued adds t) new before after result
-queues_spelled old middle new adds t triple history before after result same spelt obeys =
-    obeys_same old.agent.mid_line (with_queued adds t) (queues_triple adds t.triple t.session) new before after result (drawn_same t.totals (queues_triple adds t.triple t.session) spelt.2)
-    (subst (λ (s : Session). Obeys old.agent.mid_line (queues_triple adds t.triple s) new before after result) spelt.1
-    (subst (λ (u : Triple). Obeys old.agent.mid_line (queues_triple adds u (session_of middle history)) new before after result) spelt.0
-    (subst (λ (mid : Bool). Obeys mid (queues_triple adds triple (session_of middle history)) new before after result) same obeys)))
+spelled_watch : (s : Session) (id attr value : Operand) → (spelled s id attr value).session.agent.settings.watch ≡ s.agent.settings.watch
+spelled_watch s id attr value =
+    let r : Resolved = resolved s id in
+    let q : Resolved = resolved r.session attr in
+    resolved_watch q.session value ∙ (resolved_watch r.session attr ∙ resolved_watch s id)
+
+pub queues_spelled : {M : Type 0} (old middle new : SessionKept M) (adds : Bool) (id attr value : Operand) (triple : Triple) (history : List RecordedFiring) (before after : List ℕ) (result : Result Bool Stop)
+    → middle.agent.mid_line ≡ old.agent.mid_line → Spells middle (spelled (session_of old history) id attr value) history (Ok triple)
+    → Obeys (watch_of middle) middle.agent.mid_line (queues_triple adds triple (session_of middle history)) new before after result
+    → Obeys (watch_of old) old.agent.mid_line (with_queued adds (spelled (session_of old history) id attr value)) new before after result
+queues_spelled old middle new adds id attr value triple history before after result same spelt obeys =
+    let t : Spelled = spelled (session_of old history) id attr value in
+    let watch_is : watch_of middle ≡ watch_of old = ap (λ (s : Session). s.agent.settings.watch) spelt.1 ∙ spelled_watch (session_of old history) id attr value in
+    obeys_same (watch_of old) old.agent.mid_line (with_queued adds t) (queues_triple adds t.triple t.session) new before after result
+    (drawn_same (watch_of old) t.totals (queues_triple adds t.triple t.session) spelt.2)
+    (subst (λ (s : Session). Obeys (watch_of old) old.agent.mid_line (queues_triple adds t.triple s) new before after result) spelt.1
+    (subst (λ (u : Triple). Obeys (watch_of old) old.agent.mid_line (queues_triple adds u (session_of middle history)) new before after result) spelt.0
+    (subst (λ (watch : ℕ). Obeys watch old.agent.mid_line (queues_triple adds triple (session_of middle history)) new before after result) watch_is
+    (subst (λ (mid : Bool). Obeys (watch_of middle) mid (queues_triple adds triple (session_of middle history)) new before after result) same obeys))))
 
 pub queues_none : {M : Type 0} (old new : SessionKept M) (adds : Bool) (t : Spelled) (history : List RecordedFiring) (said : List ℕ) (why : Stop)
-    → new.agent.mid_line ≡ old.agent.mid_line → Spells new t history (Err why) → Obeys old.agent.mid_line (with_queued adds t) new said said (Err why)
-queues_none old new adds t history said (stop.Limit limit) same spelt = drawn_stops old.agent.mid_line t.totals (queues_triple adds t.triple t.session) new said limit spelt same
+    → new.agent.mid_line ≡ old.agent.mid_line → Spells new t history (Err why) → Obeys (watch_of old) old.agent.mid_line (with_queued adds t) new said said (Err why)
+queues_none old new adds t history said (stop.Limit limit) same spelt = drawn_stops (watch_of old) old.agent.mid_line t.totals (queues_triple adds t.triple t.session) new said limit spelt same
 queues_none old new adds t history said stop.NoMemory same spelt = tt

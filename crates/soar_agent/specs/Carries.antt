@@ -12,10 +12,10 @@ use Rattle.soar_agent.specs.States.{session_of}
 use Rattle.soar_agent.specs.Steps.{Obeys}
 use Rattle.soar_agent.specs.declared.state.Session.{Session as SessionKept}
 
--- what a command does in the session, as the reply to it says, with each history of firings that its parts remember
+-- what a command does in the session, as the reply to it says, with each history of firings that its parts remember; lines keep the watch level that was set before
 abbrev pub Replies : {M : Type 0} → SessionKept M → SessionKept M → (Session → Reply) → List ℕ → List ℕ → Result Bool Stop → Type 0
 Replies old new reply before after result =
-    (history : List RecordedFiring) → Remembers old.agent.parts history → Obeys old.agent.mid_line (reply (session_of old history)) new before after result
+    (history : List RecordedFiring) → Remembers old.agent.parts history → Obeys old.agent.parts.settings.watch old.agent.mid_line (reply (session_of old history)) new before after result
 
 -- the same where nothing is said
 abbrev pub RepliesNothing : {M : Type 0} → SessionKept M → SessionKept M → (Session → Reply) → Result Bool Stop → Type 0

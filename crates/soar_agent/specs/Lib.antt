@@ -1,8 +1,11 @@
 pub mod Adding
+pub mod Built
 pub mod Carries
 pub mod Commands
+pub mod Counting
 pub mod Labels
 pub mod Queueing
+pub mod Restarting
 pub mod States
 pub mod Steps
 pub mod Telling

@@ -7,33 +7,32 @@ use Rattle.defs_run.specs.Sessions.{Reply}
 use Rattle.soar_settle.specs.declared.stop.Stop.{Stop}
 use Rattle.soar_settle.specs.declared.stop.Stop.TheVariants as stop
 use Rattle.wave_parts.specs.Remembers.{Remembers}
-use Rattle.cycle_parts.specs.Stepping.{watch}
 use Rattle.soar_agent.specs.States.{IsReady, session_of}
 use Rattle.soar_agent.specs.Telling.{limit_told, front_told}
 use Rattle.soar_agent.specs.declared.state.Session.{Session as SessionKept}
 
--- what a reply writes behind text that ended in the middle of a line or not
-abbrev pub written_of : Bool → Reply → Written
-written_of mid reply = front_told watch mid reply.told
+-- what a reply writes at a watch level, behind text that ended in the middle of a line or not
+abbrev pub written_of : ℕ → Bool → Reply → Written
+written_of watch mid reply = front_told watch mid reply.told
 
 -- the step passed no limit, its lines were appended, and it was refused or not
-pub record Replied {M : Type 0} (mid : Bool) (reply : Reply) (new : SessionKept M) (before after : List ℕ) (answer : Bool) : Type 0 where
+pub record Replied {M : Type 0} (watch : ℕ) (mid : Bool) (reply : Reply) (new : SessionKept M) (before after : List ℕ) (answer : Bool) : Type 0 where
   pub history : List RecordedFiring
   pub remembers : Remembers new.agent.parts history
-  pub session : session_of new history ≡ record reply.session { mid_line = (written_of mid reply).mid_line }
+  pub session : session_of new history ≡ record reply.session { mid_line = (written_of watch mid reply).mid_line }
   pub within : limit_told reply.told ≡ None
-  pub text : after ≡ before ++ (written_of mid reply).text
+  pub text : after ≡ before ++ (written_of watch mid reply).text
   pub refused : answer ≡ reply.refused
   pub kept : IsReady new.agent
 
 -- the limit is the first that the step passes, and what it did before was appended
-pub record Stops {M : Type 0} (mid : Bool) (reply : Reply) (new : SessionKept M) (before after : List ℕ) (limit : Which) : Type 0 where
+pub record Stops {M : Type 0} (watch : ℕ) (mid : Bool) (reply : Reply) (new : SessionKept M) (before after : List ℕ) (limit : Which) : Type 0 where
   pub passed : limit_told reply.told ≡ Some limit
-  pub text : after ≡ before ++ (written_of mid reply).text
-  pub mid_line : new.agent.mid_line ≡ (written_of mid reply).mid_line
+  pub text : after ≡ before ++ (written_of watch mid reply).text
+  pub mid_line : new.agent.mid_line ≡ (written_of watch mid reply).mid_line
 
 -- each answer, exactly where it comes; only want of memory is free
-abbrev pub Obeys : {M : Type 0} → Bool → Reply → SessionKept M → List ℕ → List ℕ → Result Bool Stop → Type 0
-Obeys mid reply new before after (Ok answer) = Replied mid reply new before after answer
-Obeys mid reply new before after (Err (stop.Limit limit)) = Stops mid reply new before after limit
-Obeys mid reply new before after (Err stop.NoMemory) = Unit {0}
+abbrev pub Obeys : {M : Type 0} → ℕ → Bool → Reply → SessionKept M → List ℕ → List ℕ → Result Bool Stop → Type 0
+Obeys watch mid reply new before after (Ok answer) = Replied watch mid reply new before after answer
+Obeys watch mid reply new before after (Err (stop.Limit limit)) = Stops watch mid reply new before after limit
+Obeys watch mid reply new before after (Err stop.NoMemory) = Unit {0}

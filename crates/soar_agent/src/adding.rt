@@ -10,7 +10,7 @@ ghost use Rattle.soar_cmd.specs.Asked.{operand_seen};
 ghost use Rattle.soar_cmd.specs.Known.{IsAdditionKnown, IsOperandKnown};
 ghost use Rattle.cycle_parts.specs.Calls.{IsTripleKnown};
 ghost use Rattle.soar_agent.specs.Adding.{adds_at_top, adds_by, adds_labelled, adds_to, adds_triple, makes_labelled};
-ghost use Rattle.soar_agent.specs.Carries.{Carries, RepliesNothing};
+ghost use Rattle.soar_agent.specs.Carries.{Carries, Replies};
 ghost use Rattle.soar_agent.specs.States.{IsReady, session_of};
 
 use crate::state::Session;
@@ -36,7 +36,7 @@ impl<M: Matcher> Session<M> {
         ensures ready { IfOk result (λ _. IsReady self.new.agent) }
     {
         match self.lookup(out.allocator()).first_unknown(true, &addition)? {
-            Some(text) => self.refuse(origin, &Reason::UnknownIdentifier(text.as_str()), out),
+            Some(text) => self.refuse_with(origin, &Reason::UnknownIdentifier(text.as_str()), out),
             None => self.add_given(origin, addition, out),
         }
     }
@@ -80,7 +80,7 @@ impl<M: Matcher> Session<M> {
         if at_top {
             self.add_unless_reserved(origin, slot, value, out)
         } else {
-            self.refuse(origin, &Reason::NotOfTheTopState, out)
+            self.refuse_with(origin, &Reason::NotOfTheTopState, out)
         }
     }
 
@@ -100,7 +100,7 @@ impl<M: Matcher> Session<M> {
         ensures ready { IfOk result (λ _. IsReady self.new.agent) }
     {
         if is_operator_slot(self.agent.goals().as_slice(), slot.id, slot.attr) {
-            self.refuse(origin, &Reason::ReservedAttribute, out)
+            self.refuse_with(origin, &Reason::ReservedAttribute, out)
         } else {
             self.add_value(origin, slot, value, out)
         }
@@ -143,8 +143,8 @@ impl<M: Matcher> Session<M> {
         ensures ready { IfOk result (λ _. IsReady self.new.agent) }
     {
         match self.agent.memory().find(triple) {
-            Some(tag) => self.refuse(origin, &Reason::AlreadyThere(tag), out),
-            None => self.change_inputs(true, triple),
+            Some(tag) => self.refuse_with(origin, &Reason::AlreadyThere(tag), out),
+            None => self.change_inputs(true, triple, out),
         }
     }
 
@@ -166,21 +166,21 @@ impl<M: Matcher> Session<M> {
             .lookup(out.allocator())
             .tag_of_next(slot, name.as_str())?
         {
-            Some(tag) => self.refuse(origin, &Reason::AlreadyThere(tag), out),
-            None => self.put_labelled(slot, name),
+            Some(tag) => self.refuse_with(origin, &Reason::AlreadyThere(tag), out),
+            None => self.put_labelled(slot, name, out),
         }
     }
 
     /// Makes a label, and puts the triple with it behind the inputs.
-    fn put_labelled(&mut self, slot: Slot, name: Text) -> Result<bool, Stop>
+    fn put_labelled(&mut self, slot: Slot, name: Text, out: &mut Text) -> Result<bool, Stop>
         requires ready { IsReady self.old.agent }
         requires id { IsKnown self.old.agent.parts.table slot.id }
         requires attr { IsKnown self.old.agent.parts.table slot.attr }
-        ensures reply { RepliesNothing self.old self.new (makes_labelled slot.id slot.attr name) result }
+        ensures reply { Replies self.old self.new (makes_labelled slot.id slot.attr name) out.old out.new result }
         ensures ready { IfOk result (λ _. IsReady self.new.agent) }
     {
         match self.make_label(name) {
-            Ok(value) => self.change_inputs(true, slot.with(value)),
+            Ok(value) => self.change_inputs(true, slot.with(value), out),
             Err(stop) => Err(stop),
         }
     }

@@ -2,23 +2,28 @@
 ghost use Rattle.std.specs.Prelude.{IfOk};
 ghost use Rattle.defs_run.specs.Inputs.{with_inputs};
 ghost use Rattle.cycle_parts.specs.Calls.{IsTripleKnown, with_input};
-ghost use Rattle.soar_agent.specs.Carries.{RepliesNothing};
+ghost use Rattle.soar_agent.specs.Carries.{Replies};
 ghost use Rattle.soar_agent.specs.States.{IsReady};
 
 use crate::state::Session;
 use defs_match::Matcher;
 use soar_cycle::Stop;
-use soar_sym::Triple;
+use soar_sym::{Text, Triple};
 
 impl<M: Matcher> Session<M> {
-    /// Puts a triple behind the inputs, or takes it out. Nothing is said of it.
-    pub fn change_inputs(&mut self, adds: bool, triple: Triple) -> Result<bool, Stop>
+    /// Puts a triple behind the inputs, or takes it out, and says what settling does then.
+    pub fn change_inputs(
+        &mut self,
+        adds: bool,
+        triple: Triple,
+        out: &mut Text,
+    ) -> Result<bool, Stop>
         requires ready { IsReady self.old.agent }
         requires known { IsTripleKnown self.old.agent.parts.table triple }
-        ensures reply { RepliesNothing self.old self.new (with_inputs (with_input adds triple self.old.agent.parts.inputs)) result }
+        ensures reply { Replies self.old self.new (with_inputs (with_input adds triple self.old.agent.parts.inputs)) out.old out.new result }
         ensures ready { IfOk result (λ _. IsReady self.new.agent) }
     {
-        match self.agent.input_now(adds, triple) {
+        match self.agent.input_now(adds, triple, out) {
             Ok(()) => Ok(false),
             Err(stop) => Err(stop),
         }

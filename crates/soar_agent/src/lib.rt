@@ -2,21 +2,27 @@
 #![tactic(auto)]
 
 mod adding;
+mod excising;
 mod inputs;
 mod labels;
 mod listing;
 mod loading;
 mod lookup;
+mod orders;
 mod outcome;
 mod queueing;
 mod refusing;
 mod removing;
+mod restarting;
 mod running;
 mod session;
+mod settings;
+mod slots;
 mod standing;
 mod state;
+mod tables;
 
 pub use outcome::Outcome;
 pub use session_parts::Label;
-pub use soar_cycle::{Standing, Stop};
+pub use soar_cycle::{Settings, Standing, Stop};
 pub use state::Session;

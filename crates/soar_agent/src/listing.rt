@@ -4,7 +4,7 @@ ghost use Rattle.soar_sym.specs.Words.{IsKnown};
 ghost use Rattle.soar_wm.specs.WorkingMemory.{elements_of};
 ghost use Rattle.defs_run.specs.Carrying.{carried_out, lists_elements};
 ghost use Rattle.defs_run.specs.Listing.{conflict_lines, element_lines};
-ghost use Rattle.defs_run.specs.Orders.{print_id, print_name};
+ghost use Rattle.defs_run.specs.Orders.{matches_of, print_id, print_name};
 ghost use Rattle.defs_run.specs.Present.{run_present};
 ghost use Rattle.defs_run.specs.Sessions.{says};
 ghost use Rattle.soar_cmd.specs.Asked.{operand_seen};
@@ -15,6 +15,7 @@ ghost use Rattle.soar_agent.specs.States.{IsReady};
 use crate::state::Session;
 use defs_match::Matcher;
 use defs_run::Operand;
+use list_parts::list_matches_of;
 use session_parts::{Origin, Reason, rule_named, say_elements_of, say_matches, say_production};
 use soar_cycle::Stop;
 use soar_sym::{Sym, Text};
@@ -42,6 +43,39 @@ impl<M: Matcher> Session<M> {
         Ok(false)
     }
 
+    /// Says the matches of the production of a name.
+    pub fn list_matches_named(
+        &mut self,
+        origin: &Origin<'_>,
+        name: Sym,
+        out: &mut Text,
+    ) -> Result<bool, Stop>
+        requires ready { IsReady self.old.agent }
+        requires known { IsKnown self.old.agent.parts.table name }
+        ensures reply { Carries self.old self.new origin.now.source.now origin.now.line (carried_out run_present (matches_of name)) out.old out.new result }
+        ensures ready { IfOk result (λ _. IsReady self.new.agent) }
+    {
+        // an agent that stands for a state meets no limit here
+        let Ok(instances) = self.agent.conflict() else {
+            return Err(Stop::NoMemory);
+        };
+        match rule_named(self.agent.rules().as_slice(), name) {
+            Some(rule) => {
+                let mut mid_line = self.agent.mid_line();
+                list_matches_of(
+                    self.agent.symbols(),
+                    rule,
+                    instances.as_slice(),
+                    out,
+                    &mut mid_line,
+                )?;
+                self.agent.set_mid_line(mid_line);
+                Ok(false)
+            }
+            None => self.refuse_with(origin, &Reason::NoProduction(name), out),
+        }
+    }
+
     /// Says the elements of an identifier. A label that is used for the first time becomes a new one.
     pub fn list_elements(
         &mut self,
@@ -55,7 +89,7 @@ impl<M: Matcher> Session<M> {
         ensures ready { IfOk result (λ _. IsReady self.new.agent) }
     {
         match self.lookup(out.allocator()).unknown_in(&id)? {
-            Some(text) => self.refuse(origin, &Reason::UnknownIdentifier(text.as_str()), out),
+            Some(text) => self.refuse_with(origin, &Reason::UnknownIdentifier(text.as_str()), out),
             None => self.list_given(id, out),
         }
     }
@@ -103,7 +137,7 @@ impl<M: Matcher> Session<M> {
                 self.agent.set_mid_line(mid_line);
                 Ok(false)
             }
-            None => self.refuse(origin, &Reason::NoProduction(name), out),
+            None => self.refuse_with(origin, &Reason::NoProduction(name), out),
         }
     }
 }

@@ -2,13 +2,17 @@ ghost use Rattle.std.specs.Prelude.{◌≡◌};
 ghost use Rattle.soar_agent.specs.Commands.{outcome_by};
 
 use soar_cycle::Stop;
+use soar_sym::Text;
 
-/// How a command went: it was carried out, or refused, or asks for so many cycles, which the caller runs.
-#[derive(Clone, Copy, PartialEq, Eq)]
+/// How a command went: it was carried out, or refused, or asks for what the caller does: to run so many cycles, to run the
+/// commands of a file of this name, or to end.
+#[derive(Drop)]
 pub enum Outcome {
     Done,
     Refused,
     Run(u32),
+    Source(Text),
+    Quit,
 }
 
 /// The outcome of a command that asks for no cycles, which was refused or not.

@@ -40,7 +40,7 @@ impl<M: Matcher> Session<M> {
             .lookup(out.allocator())
             .first_unknown(false, &addition)?
         {
-            Some(text) => self.refuse(origin, &Reason::UnknownIdentifier(text.as_str()), out),
+            Some(text) => self.refuse_with(origin, &Reason::UnknownIdentifier(text.as_str()), out),
             None => self.queue_given(origin, adds, addition, out),
         }
     }
@@ -60,7 +60,7 @@ impl<M: Matcher> Session<M> {
         ensures ready { IfOk result (λ _. IsReady self.new.agent) }
     {
         if self.lookup(out.allocator()).is_reserved(&addition) {
-            self.refuse(origin, &Reason::ReservedAttribute, out)
+            self.refuse_with(origin, &Reason::ReservedAttribute, out)
         } else {
             self.queue_spelled(adds, addition)
         }

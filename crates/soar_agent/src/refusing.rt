@@ -1,16 +1,15 @@
 // Refusals of commands.
 ghost use Rattle.std.specs.Prelude.{◌≡◌, List as ListOf, IfOk};
-ghost use Rattle.defs_run.specs.Orders.{unfinished_command};
+ghost use Rattle.soar_sym.specs.Words.{Texts};
 ghost use Rattle.defs_run.specs.Sessions.{refused_by};
 ghost use Rattle.defs_soar.specs.History.{RecordedFiring};
 ghost use Rattle.wave_parts.specs.Remembers.{Remembers};
 ghost use Rattle.soar_cycle.specs.Agents.{standing_after};
 ghost use Rattle.session_parts.specs.Reasons.{IsReasonKnown, refusal_by};
 ghost use Rattle.soar_agent.specs.Carries.{Replies};
-ghost use Rattle.soar_agent.specs.Commands.{Commands};
+ghost use Rattle.soar_agent.specs.Commands.{IsToldByCaller, RefusesTold, refusal_told};
 ghost use Rattle.soar_agent.specs.States.{IsReady, IsSoundSession, StaysStopped, session_of};
 
-use crate::outcome::Outcome;
 use crate::standing::standing_after;
 use crate::state::Session;
 use defs_match::Matcher;
@@ -20,7 +19,7 @@ use soar_sym::Text;
 
 impl<M: Matcher> Session<M> {
     /// Refuses a command, which leaves the agent as it was.
-    pub fn refuse(
+    pub fn refuse_with(
         &mut self,
         origin: &Origin<'_>,
         reason: &Reason<'_>,
@@ -28,6 +27,7 @@ impl<M: Matcher> Session<M> {
     ) -> Result<bool, Stop>
         requires ready { IsReady self.old.agent }
         requires known { IsReasonKnown self.old.agent.parts.table reason.now }
+        ensures settings { self.new.agent.parts.settings ≡ self.old.agent.parts.settings }
         ensures reply { Replies self.old self.new (refused_by (refusal_by self.old.agent.parts.table reason.now) origin.now.source.now origin.now.line) out.old out.new result }
         ensures ready { IfOk result (λ _. IsReady self.new.agent) }
     {
@@ -37,16 +37,22 @@ impl<M: Matcher> Session<M> {
         Ok(true)
     }
 
-    /// Refuses a command of a line that has no end, and appends that; nothing where there is no memory.
-    pub fn refuse_unfinished(
+    /// Refuses what the caller alone can judge, and appends that; nothing where there is no memory. The numbers are 11 for a
+    /// command without an end, 40 for a file that is not there, 41 for a file inside too many others and 42 for a file too
+    /// many. The name is that of the file, which 40 alone tells.
+    pub fn refuse(
         &mut self,
+        number: u32,
         source: &str,
         line: u64,
+        name: &str,
         text: &mut Text,
-    ) -> Result<Outcome, Stop>
-        requires { IsSoundSession self.old }
+    ) -> Result<(), Stop>
+        requires number { IsToldByCaller number }
+        requires sound { IsSoundSession self.old }
         ensures refused { self.old.standing ≡ Standing.Stands → (history : ListOf RecordedFiring) → Remembers self.old.agent.parts history → let s = session_of self.old history in
-            Commands s (refused_by unfinished_command source.now line s) self.new text.old text.new result }
+            RefusesTold s (refused_by (refusal_told number name.now) source.now line s) self.new text.old text.new result }
+        ensures settings { self.new.agent.parts.settings ≡ self.old.agent.parts.settings }
         ensures standing { self.new.standing ≡ standing_after self.old.standing result }
         ensures stopped { StaysStopped self.old.standing text.old text.new result }
         ensures sound { IsSoundSession self.new }
@@ -55,25 +61,50 @@ impl<M: Matcher> Session<M> {
         if let Some(stop) = standing.stop() {
             return Err(stop);
         }
-        let answer = self.say_unfinished(source, line, text);
+        let answer = self.say_refused(number, source, line, name, text);
         self.standing = standing_after(standing, &answer);
         answer
     }
 
-    fn say_unfinished(&mut self, source: &str, line: u64, text: &mut Text) -> Result<Outcome, Stop>
-        requires { IsReady self.old.agent }
+    fn say_refused(
+        &mut self,
+        number: u32,
+        source: &str,
+        line: u64,
+        name: &str,
+        text: &mut Text,
+    ) -> Result<(), Stop>
+        requires number { IsToldByCaller number }
+        requires ready { IsReady self.old.agent }
         ensures refused { (history : ListOf RecordedFiring) → Remembers self.old.agent.parts history → let s = session_of self.old history in
-            Commands s (refused_by unfinished_command source.now line s) self.new text.old text.new result }
+            RefusesTold s (refused_by (refusal_told number name.now) source.now line s) self.new text.old text.new result }
+        ensures settings { self.new.agent.parts.settings ≡ self.old.agent.parts.settings }
         ensures ready { IfOk result (λ _. IsReady self.new.agent) }
     {
         let mut said = Text::new(text.allocator());
         let origin = &Origin { source, line };
-        match self.refuse(origin, &Reason::Unfinished, &mut said) {
+        let reason = reason_told(number, name);
+        match self.refuse_with(origin, &reason, &mut said) {
             Ok(_) => {
                 text.push_str(said.as_str())?;
-                Ok(Outcome::Refused)
+                Ok(())
             }
-            Err(stop) => Err(say_stop(stop, self.agent.mid_line(), &mut said, text)),
+            // a refusal passes no limit
+            Err(_) => Err(Stop::NoMemory),
         }
+    }
+}
+
+/// The reason of a number that the caller tells.
+fn reason_told(number: u32, name: &str) -> Reason<'_>
+    requires { IsToldByCaller number }
+    ensures reason { (words : Texts) → refusal_by words result ≡ refusal_told number name.now }
+    ensures known { (words : Texts) → IsReasonKnown words result }
+{
+    match number {
+        11 => Reason::Unfinished,
+        40 => Reason::NoFile(name),
+        41 => Reason::SourcesTooDeep,
+        _ => Reason::TooManyFiles,
     }
 }

@@ -25,7 +25,7 @@ impl<M: Matcher> Session<M> {
     {
         match element_of(self.agent.memory(), tag) {
             Some(element) => self.remove_element(origin, element, out),
-            None => self.refuse(origin, &Reason::NoElement(tag), out),
+            None => self.refuse_with(origin, &Reason::NoElement(tag), out),
         }
     }
 
@@ -42,9 +42,9 @@ impl<M: Matcher> Session<M> {
     {
         let triple = triple_of(element);
         if self.agent.is_input(triple) {
-            self.change_inputs(false, triple)
+            self.change_inputs(false, triple, out)
         } else {
-            self.refuse(origin, &Reason::NotAnInput(element.tag), out)
+            self.refuse_with(origin, &Reason::NotAnInput(element.tag), out)
         }
     }
 }

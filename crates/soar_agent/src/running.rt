@@ -34,7 +34,7 @@ impl<M: Matcher> Session<M> {
         ensures ready { IfOk result (λ _. IsReady self.new.agent) }
     {
         if self.agent.halted() {
-            return outcome_of(self.refuse(origin, &Reason::Halted, out));
+            return outcome_of(self.refuse_with(origin, &Reason::Halted, out));
         }
         Ok(Outcome::Run(count))
     }
@@ -44,9 +44,10 @@ impl<M: Matcher> Session<M> {
     pub fn cycle(&mut self, text: &mut Text) -> Result<bool, Stop>
         requires { IsSoundSession self.old }
         ensures course { self.old.standing ≡ Standing.Stands → (history : ListOf RecordedFiring) → Remembers self.old.agent.parts history →
-            Cycled self.old.agent.mid_line (cycle decided_by without_learning (agent_of self.old.agent.parts history)) self.new.agent text.old text.new result }
+            Cycled self.old.agent.parts.settings.watch self.old.agent.mid_line (cycle decided_by without_learning (agent_of self.old.agent.parts history)) self.new.agent text.old text.new result }
         ensures halted { IfOk result (λ halted. halted ≡ self.new.agent.parts.halted) }
         ensures labels { self.new.labels ≡ self.old.labels }
+        ensures settings { self.new.agent.parts.settings ≡ self.old.agent.parts.settings }
         ensures standing { self.new.standing ≡ standing_after self.old.standing result }
         ensures stopped { StaysStopped self.old.standing text.old text.new result }
         ensures sound { IsSoundSession self.new }
@@ -63,9 +64,10 @@ impl<M: Matcher> Session<M> {
     fn run_cycle(&mut self, text: &mut Text) -> Result<bool, Stop>
         requires { IsReady self.old.agent }
         ensures course { (history : ListOf RecordedFiring) → Remembers self.old.agent.parts history →
-            Cycled self.old.agent.mid_line (cycle decided_by without_learning (agent_of self.old.agent.parts history)) self.new.agent text.old text.new result }
+            Cycled self.old.agent.parts.settings.watch self.old.agent.mid_line (cycle decided_by without_learning (agent_of self.old.agent.parts history)) self.new.agent text.old text.new result }
         ensures halted { IfOk result (λ halted. halted ≡ self.new.agent.parts.halted) }
         ensures labels { self.new.labels ≡ self.old.labels }
+        ensures settings { self.new.agent.parts.settings ≡ self.old.agent.parts.settings }
         ensures ready { IfOk result (λ _. IsReady self.new.agent) }
     {
         let mut said = Text::new(text.allocator());

@@ -1,13 +1,13 @@
 ghost use Rattle.std.specs.Prelude.{◌≡◌, ◌≤◌, ◌^◌, [], false, List as ListOf, IfOk, length};
 ghost use Rattle.defs_soar.specs.History.{RecordedFiring};
-ghost use Rattle.defs_run.specs.Carrying.{carried_out};
-ghost use Rattle.defs_run.specs.Present.{present_stage, run_present};
+ghost use Rattle.defs_run.specs.Present.{present_stage};
 ghost use Rattle.defs_run.specs.Runs.{obeyed};
 ghost use Rattle.defs_run.specs.Sessions.{first_session};
 ghost use Rattle.soar_cmd.specs.Asked.{order_seen};
 ghost use Rattle.soar_cmd.specs.Known.{IsOrderKnown};
 ghost use Rattle.wave_parts.specs.Remembers.{Remembers};
 ghost use Rattle.soar_cycle.specs.Agents.{standing_after};
+ghost use Rattle.soar_agent.specs.Built.{carried_built};
 ghost use Rattle.soar_agent.specs.Commands.{CarriesOut, Commands, Outcomes};
 ghost use Rattle.soar_agent.specs.States.{IsReady, IsSoundSession, StaysStopped, session_of};
 
@@ -25,18 +25,18 @@ use soar_sym::{List, NoMemory, Text};
 use std::alloc::Global;
 
 impl<M: Matcher + Drop> Session<M> {
-    /// The top state with its input and output links, and no rule.
-    pub fn new(alloc: Global, matcher: M) -> Result<Session<M>, NoMemory>
+    /// The top state with its input and output links, and no rule, at a watch level from 0 to 5.
+    pub fn new(alloc: Global, matcher: M, watch: u8) -> Result<Session<M>, NoMemory>
         requires works { M.failed matcher ≡ false }
         requires rules { M.rules matcher ≡ [] }
         requires elements { M.elements matcher ≡ [] }
-        ensures stands { IfOk result (λ s. session_of s [] ≡ first_session 1) }
+        ensures stands { IfOk result (λ s. session_of s [] ≡ first_session watch) }
         ensures remembers { IfOk result (λ s. Remembers s.agent.parts []) }
         ensures standing { IfOk result (λ s. s.standing ≡ Standing.Stands) }
         ensures sound { IfOk result (λ s. IsSoundSession s) }
     {
         Ok(Session {
-            agent: Agent::new(alloc, matcher)?,
+            agent: Agent::new(alloc, matcher, watch)?,
             labels: List::new(alloc),
             standing: Standing::Stands,
         })
@@ -86,7 +86,7 @@ impl<M: Matcher> Session<M> {
         requires short { length c.now.text ≤ 2 ^ 26 }
         requires ready { IsReady self.old.agent }
         ensures command { (history : ListOf RecordedFiring) → Remembers self.old.agent.parts history → let s = session_of self.old history in
-            Outcomes self.old.agent.mid_line (obeyed present_stage source.now c.now.line c.now.text s) self.new out.old out.new result }
+            Outcomes self.old.agent.parts.settings.watch self.old.agent.mid_line (obeyed present_stage source.now c.now.line c.now.text s) self.new out.old out.new result }
         ensures ready { IfOk result (λ _. IsReady self.new.agent) }
     {
         let origin = &Origin {
@@ -100,14 +100,14 @@ impl<M: Matcher> Session<M> {
             }
             Err(CmdFault::Refused { number, shown }) => {
                 let _within = self.agent.symbols().word_count();
-                outcome_of(self.refuse(origin, &Reason::Read(number, shown), out))
+                outcome_of(self.refuse_with(origin, &Reason::Read(number, shown), out))
             }
             Err(CmdFault::WordsSpent) => Err(Stop::Limit(Which::Words)),
             Err(CmdFault::NoMemory) => Err(Stop::NoMemory),
         }
     }
 
-    /// Carries an order out.
+    /// Carries an order out, all but what the caller does.
     fn carry_out(
         &mut self,
         origin: &Origin<'_>,
@@ -116,19 +116,14 @@ impl<M: Matcher> Session<M> {
     ) -> Result<Outcome, Stop>
         requires ready { IsReady self.old.agent }
         requires known { IsOrderKnown self.old.agent.parts.table order }
-        ensures command { CarriesOut self.old self.new origin.now.source.now origin.now.line (carried_out run_present (order_seen order)) out.old out.new result }
+        ensures command { CarriesOut self.old self.new origin.now.source.now origin.now.line (carried_built (order_seen order)) out.old out.new result }
         ensures ready { IfOk result (λ _. IsReady self.new.agent) }
     {
         match order {
-            Order::Load(production) => outcome_of(self.load(production)),
-            Order::Add(addition) => outcome_of(self.add(origin, addition, out)),
-            Order::Remove(tag) => outcome_of(self.remove(origin, tag, out)),
-            Order::Queue(adds, addition) => outcome_of(self.queue(origin, adds, addition, out)),
-            Order::Random(words) => outcome_of(self.put_random(&words)),
             Order::Run(count) => self.ask_to_run(origin, count, out),
-            Order::Matches => outcome_of(self.list_matches(out)),
-            Order::Print(id) => outcome_of(self.list_elements(origin, id, out)),
-            Order::Show(name) => outcome_of(self.show_rule(origin, name, out)),
+            Order::Source(name) => Ok(Outcome::Source(name)),
+            Order::Quit => Ok(Outcome::Quit),
+            order => outcome_of(self.carry_out_alone(origin, order, out)),
         }
     }
 }

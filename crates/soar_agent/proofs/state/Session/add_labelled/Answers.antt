@@ -20,8 +20,8 @@ returns-in-Some-clause-reply g c = λ history remembers.
     ∙ (ap (λ letters. next letters c.args.name c.lookup.result.memory.now.elements) (sym c.lookup.ensures.letters)
     ∙ (ap (λ name. next c.lookup.result.letters.now name c.lookup.result.memory.now.elements) (sym c.as_str.ensures)
     ∙ (sym c.in_ok-tag.ensures ∙ c.in-Some.is))) in
-    there_refused c.args.self.now c.refuse.new.self c.args.origin.now.source.now c.args.origin.now.line t s (tag_of t.triple c.args.self.now.agent.parts.memory.elements) c.in-Some.tag
-    c.args.out.now c.refuse.new.out c.refuse.result there (c.refuse.ensures.reply history remembers)
+    there_refused c.args.self.now c.refuse_with.new.self c.args.origin.now.source.now c.args.origin.now.line t s (tag_of t.triple c.args.self.now.agent.parts.memory.elements) c.in-Some.tag
+    c.args.out.now c.refuse_with.new.out c.refuse_with.result there (c.refuse_with.ensures.reply history remembers)
 
 pub returns-in-None-clause-reply : goal.returns-in-None-clause-reply
 returns-in-None-clause-reply g c = λ history remembers.
@@ -34,4 +34,4 @@ returns-in-None-clause-reply g c = λ history remembers.
     ∙ (ap (λ name. next c.lookup.result.letters.now name c.lookup.result.memory.now.elements) (sym c.as_str.ensures)
     ∙ (sym c.in_ok-tag.ensures ∙ c.in-None.is))) in
     missing_put c.args.self.now c.put_labelled.new.self c.args.origin.now.source.now c.args.origin.now.line t s (tag_of t.triple c.args.self.now.agent.parts.memory.elements)
-    c.args.out.now c.args.out.now c.put_labelled.result missing (c.put_labelled.ensures.reply c.args.out.now history remembers)
+    c.args.out.now c.put_labelled.new.out c.put_labelled.result missing (c.put_labelled.ensures.reply history remembers)

@@ -15,14 +15,14 @@ pub returns-then-is_operator_slot-clause-reply : goal.returns-then-is_operator_s
 returns-then-is_operator_slot-clause-reply g c = λ history remembers.
     let s : Session = session_of c.args.self.now history in
     let reserved : is_operator_slot c.args.self.now.agent.parts.goals c.args.slot.id c.args.slot.attr ≡ true = cc (c.is_operator_slot.ensures, c.as_slice.ensures, c.if-is_operator_slot.true) in
-    subst (λ (b : Bool). Obeys c.args.self.now.agent.mid_line (replied_by c.args.origin.now.source.now c.args.origin.now.line s (if b then refuses reserved_attribute else adds_by c.args.slot.id c.args.slot.attr (operand_seen c.args.value) s))
-    c.refuse.new.self c.args.out.now c.refuse.new.out c.refuse.result)
-    (sym reserved) (c.refuse.ensures.reply history remembers)
+    subst (λ (b : Bool). Obeys c.args.self.now.agent.parts.settings.watch c.args.self.now.agent.mid_line (replied_by c.args.origin.now.source.now c.args.origin.now.line s (if b then refuses reserved_attribute else adds_by c.args.slot.id c.args.slot.attr (operand_seen c.args.value) s))
+    c.refuse_with.new.self c.args.out.now c.refuse_with.new.out c.refuse_with.result)
+    (sym reserved) (c.refuse_with.ensures.reply history remembers)
 
 pub returns-else-is_operator_slot-clause-reply : goal.returns-else-is_operator_slot-clause-reply
 returns-else-is_operator_slot-clause-reply g c = λ history remembers.
     let s : Session = session_of c.args.self.now history in
     let reserved : is_operator_slot c.args.self.now.agent.parts.goals c.args.slot.id c.args.slot.attr ≡ false = cc (c.is_operator_slot.ensures, c.as_slice.ensures, c.if-is_operator_slot.false) in
-    subst (λ (b : Bool). Obeys c.args.self.now.agent.mid_line (replied_by c.args.origin.now.source.now c.args.origin.now.line s (if b then refuses reserved_attribute else adds_by c.args.slot.id c.args.slot.attr (operand_seen c.args.value) s))
+    subst (λ (b : Bool). Obeys c.args.self.now.agent.parts.settings.watch c.args.self.now.agent.mid_line (replied_by c.args.origin.now.source.now c.args.origin.now.line s (if b then refuses reserved_attribute else adds_by c.args.slot.id c.args.slot.attr (operand_seen c.args.value) s))
     c.add_value.new.self c.args.out.now c.add_value.new.out c.add_value.result)
     (sym reserved) (c.add_value.ensures.reply history remembers)

@@ -28,22 +28,22 @@ pub returns-in-Some-clause-reply : goal.returns-in-Some-clause-reply
 returns-in-Some-clause-reply g c = λ history remembers.
     let s : Session = session_of c.args.self.now history in
     let some : Some c.in-Some.value ≡ label_in (map label_seen c.args.self.now.labels) c.in-Label.name = cc (c.in-Some.ensures.symbol, c.as_slice.ensures, c.as_str.ensures) in
-    subst (λ (o : Operand). Obeys c.args.self.now.agent.mid_line (replied_by c.args.origin.now.source.now c.args.origin.now.line s (adds_by c.args.slot.id c.args.slot.attr (operand_seen o) s))
+    subst (λ (o : Operand). Obeys c.args.self.now.agent.parts.settings.watch c.args.self.now.agent.mid_line (replied_by c.args.origin.now.source.now c.args.origin.now.line s (adds_by c.args.slot.id c.args.slot.attr (operand_seen o) s))
     c.add_triple-in-Some.new.self c.args.out.now c.add_triple-in-Some.new.out c.add_triple-in-Some.result)
     (sym c.in-Label.is)
-    (subst (λ (o : Option Sym). Obeys c.args.self.now.agent.mid_line (replied_by c.args.origin.now.source.now c.args.origin.now.line s (unless_twice (spelled_by c.args.slot.id c.args.slot.attr (labelled s c.in-Label.name o))))
+    (subst (λ (o : Option Sym). Obeys c.args.self.now.agent.parts.settings.watch c.args.self.now.agent.mid_line (replied_by c.args.origin.now.source.now c.args.origin.now.line s (unless_twice (spelled_by c.args.slot.id c.args.slot.attr (labelled s c.in-Label.name o))))
     c.add_triple-in-Some.new.self c.args.out.now c.add_triple-in-Some.new.out c.add_triple-in-Some.result)
     some
-    (subst (λ (t : Triple). Obeys c.args.self.now.agent.mid_line (replied_by c.args.origin.now.source.now c.args.origin.now.line s (adds_triple t s)) c.add_triple-in-Some.new.self c.args.out.now c.add_triple-in-Some.new.out c.add_triple-in-Some.result)
+    (subst (λ (t : Triple). Obeys c.args.self.now.agent.parts.settings.watch c.args.self.now.agent.mid_line (replied_by c.args.origin.now.source.now c.args.origin.now.line s (adds_triple t s)) c.add_triple-in-Some.new.self c.args.out.now c.add_triple-in-Some.new.out c.add_triple-in-Some.result)
     c.with-in-Some.ensures (c.add_triple-in-Some.ensures.reply history remembers)))
 
 pub returns-in-None-clause-reply : goal.returns-in-None-clause-reply
 returns-in-None-clause-reply g c = λ history remembers.
     let s : Session = session_of c.args.self.now history in
     let none : None ≡ label_in (map label_seen c.args.self.now.labels) c.in-Label.name = cc (c.in-None.ensures.symbol, c.as_slice.ensures, c.as_str.ensures) in
-    subst (λ (o : Operand). Obeys c.args.self.now.agent.mid_line (replied_by c.args.origin.now.source.now c.args.origin.now.line s (adds_by c.args.slot.id c.args.slot.attr (operand_seen o) s))
+    subst (λ (o : Operand). Obeys c.args.self.now.agent.parts.settings.watch c.args.self.now.agent.mid_line (replied_by c.args.origin.now.source.now c.args.origin.now.line s (adds_by c.args.slot.id c.args.slot.attr (operand_seen o) s))
     c.add_labelled.new.self c.args.out.now c.add_labelled.new.out c.add_labelled.result)
     (sym c.in-Label.is)
-    (subst (λ (o : Option Sym). Obeys c.args.self.now.agent.mid_line (replied_by c.args.origin.now.source.now c.args.origin.now.line s (unless_twice (spelled_by c.args.slot.id c.args.slot.attr (labelled s c.in-Label.name o))))
+    (subst (λ (o : Option Sym). Obeys c.args.self.now.agent.parts.settings.watch c.args.self.now.agent.mid_line (replied_by c.args.origin.now.source.now c.args.origin.now.line s (unless_twice (spelled_by c.args.slot.id c.args.slot.attr (labelled s c.in-Label.name o))))
     c.add_labelled.new.self c.args.out.now c.add_labelled.new.out c.add_labelled.result)
     none (c.add_labelled.ensures.reply history remembers))

@@ -7,7 +7,7 @@ use Rattle.soar_agent.proofs.state.Session.answer.Goals as goal
 
 pub returns-in-Ok-clause-command : goal.returns-in-Ok-clause-command
 returns-in-Ok-clause-command g c = λ history remembers.
-    said_outcome c.args.self.now.agent.mid_line (obeyed present_stage c.args.source.now c.args.c.now.line c.args.c.now.text (session_of c.args.self.now history)) c.obey.new.self _ c.obey.new.out
+    said_outcome c.args.self.now.agent.parts.settings.watch c.args.self.now.agent.mid_line (obeyed present_stage c.args.source.now c.args.c.now.line c.args.c.now.text (session_of c.args.self.now history)) c.obey.new.self _ c.obey.new.out
     c.args.text.now c.push_str.new.self c.in-Ok.outcome c.new-said.ensures (c.in-Ok.ensures.command history remembers) (c.in_ok-push_str-in-Ok.ensures.ok ∙ ap (λ t. c.args.text.now ++ t) c.as_str.ensures)
 
 pub returns-clause-command : goal.returns-clause-command

@@ -15,19 +15,29 @@ use Rattle.soar_agent.proofs.state.Session.ask_to_run.Goals as goal
 pub returns-then-halted-clause-command : goal.returns-then-halted-clause-command
 returns-then-halted-clause-command g c = λ history remembers.
     let s : Session = session_of c.args.self.now history in
-    subst (λ (b : Bool). Outcomes c.args.self.now.agent.mid_line (replied_by c.args.origin.now.source.now c.args.origin.now.line s (if b then refuses halted else does (followed s (run_present c.args.count s.agent))))
-    c.refuse.new.self c.args.out.now c.refuse.new.out c.outcome_of.result)
+    subst (λ (b : Bool). Outcomes c.args.self.now.agent.parts.settings.watch c.args.self.now.agent.mid_line (replied_by c.args.origin.now.source.now c.args.origin.now.line s (if b then refuses halted else does (followed s (run_present c.args.count s.agent))))
+    c.refuse_with.new.self c.args.out.now c.refuse_with.new.out c.outcome_of.result)
     (sym c.if-halted.true ∙ c.halted.ensures)
-    (comes_as c.args.self.now.agent.mid_line (refused_by halted c.args.origin.now.source.now c.args.origin.now.line s) c.refuse.new.self c.args.out.now c.refuse.new.out c.refuse.result c.outcome_of.result
-    c.outcome_of.ensures (c.refuse.ensures.reply history remembers))
+    (comes_as c.args.self.now.agent.parts.settings.watch c.args.self.now.agent.mid_line (refused_by halted c.args.origin.now.source.now c.args.origin.now.line s) c.refuse_with.new.self c.args.out.now c.refuse_with.new.out c.refuse_with.result c.outcome_of.result
+    c.outcome_of.ensures refl (c.refuse_with.ensures.reply history remembers))
 
 pub returns-then-halted-clause-ready : goal.returns-then-halted-clause-ready
-returns-then-halted-clause-ready g c = outcome_ready c.refuse.new.self c.refuse.result c.outcome_of.result c.outcome_of.ensures c.refuse.ensures.ready
+returns-then-halted-clause-ready g c = outcome_ready c.refuse_with.new.self c.refuse_with.result c.outcome_of.result c.outcome_of.ensures c.refuse_with.ensures.ready
 
 pub returns-clause-command : goal.returns-clause-command
 returns-clause-command g c = λ history remembers.
     let s : Session = session_of c.args.self.now history in
-    subst (λ (b : Bool). Outcomes c.args.self.now.agent.mid_line (replied_by c.args.origin.now.source.now c.args.origin.now.line s (if b then refuses halted else does (followed s (run_present c.args.count s.agent))))
+    subst (λ (b : Bool). Outcomes c.args.self.now.agent.parts.settings.watch c.args.self.now.agent.mid_line (replied_by c.args.origin.now.source.now c.args.origin.now.line s (if b then refuses halted else does (followed s (run_present c.args.count s.agent))))
     c.args.self.now c.args.out.now c.args.out.now (Ok (Run c.args.count)))
-    (sym c.if-halted.false ∙ c.halted.ensures)
-    (record { history = history; remembers = remembers; comes = record { session = refl; refused = refl; limit = refl; front = λ mid. refl }; text = refl; mid_line = refl; kept = c.requires })
+    (sym c.if-halted.false ∙ c.halted.ensures) (
+      record {
+        history = history;
+        remembers = remembers;
+        comes = record { session = refl; refused = refl; sequel = refl; limit = refl; front = λ mid. refl };
+        text = refl;
+        mid_line = refl;
+        settings = refl;
+        kept = c.requires;
+      },
+      refl,
+    )

@@ -13,15 +13,15 @@ returns-in-Some-clause-reply g c = λ history remembers.
     let s : Session = session_of c.args.self.now history in
     let unknown : Some c.as_str.result.now ≡ unknown_in s (operand_seen c.args.id) =
     ap Some c.as_str.ensures ∙ (sym c.in-Some.is ∙ (c.in_ok-text.ensures s ∙ ap (λ (t : Session). unknown_in t (operand_seen c.args.id)) (c.lookup.ensures.session history))) in
-    subst (λ (o : Option (List ℕ)). Obeys c.args.self.now.agent.mid_line (replied_by c.args.origin.now.source.now c.args.origin.now.line s (unless_unknown o (does (lists_elements s (operand_seen c.args.id)))))
-    c.refuse.new.self c.args.out.now c.refuse.new.out c.refuse.result)
-    unknown (c.refuse.ensures.reply history remembers)
+    subst (λ (o : Option (List ℕ)). Obeys c.args.self.now.agent.parts.settings.watch c.args.self.now.agent.mid_line (replied_by c.args.origin.now.source.now c.args.origin.now.line s (unless_unknown o (does (lists_elements s (operand_seen c.args.id)))))
+    c.refuse_with.new.self c.args.out.now c.refuse_with.new.out c.refuse_with.result)
+    unknown (c.refuse_with.ensures.reply history remembers)
 
 pub returns-in-None-clause-reply : goal.returns-in-None-clause-reply
 returns-in-None-clause-reply g c = λ history remembers.
     let s : Session = session_of c.args.self.now history in
     let given : None ≡ unknown_in s (operand_seen c.args.id) =
     sym c.in-None.is ∙ (c.in_ok-text.ensures s ∙ ap (λ (t : Session). unknown_in t (operand_seen c.args.id)) (c.lookup.ensures.session history)) in
-    subst (λ (o : Option (List ℕ)). Obeys c.args.self.now.agent.mid_line (replied_by c.args.origin.now.source.now c.args.origin.now.line s (unless_unknown o (does (lists_elements s (operand_seen c.args.id)))))
+    subst (λ (o : Option (List ℕ)). Obeys c.args.self.now.agent.parts.settings.watch c.args.self.now.agent.mid_line (replied_by c.args.origin.now.source.now c.args.origin.now.line s (unless_unknown o (does (lists_elements s (operand_seen c.args.id)))))
     c.list_given.new.self c.args.out.now c.list_given.new.out c.list_given.result)
     given (c.list_given.ensures.reply history remembers)

@@ -1,8 +1,8 @@
-use Rattle.std.proofs.Common.{◌^◌, ◌<◌, ◌≤◌, Ok, Err, length, refl, subst, arith}
+use Rattle.std.proofs.Common.{◌^◌, ◌<◌, ◌≤◌, Ok, Err, ap, length, refl, subst, sym, arith}
 use Rattle.soar_sym.specs.Words.{Texts}
-use Rattle.defs_run.specs.Present.{present_stage, read_present}
+use Rattle.defs_run.specs.Present.{built_order, present_stage, read_present}
 use Rattle.defs_run.specs.Runs.{after_reading, obeyed}
-use Rattle.defs_run.specs.Sessions.{Session, refused_by}
+use Rattle.defs_run.specs.Sessions.{Reply, Session, refused_by}
 use Rattle.soar_cmd.specs.Answers.{refusal_of}
 use Rattle.soar_cmd.specs.Asked.{order_seen}
 use Rattle.soar_settle.specs.declared.stop.Stop.TheVariants as stop
@@ -10,7 +10,7 @@ use Rattle.defs_soar.specs.declared.limit.Which.TheVariants as which
 use Rattle.soar_agent.specs.Carries.{with_table}
 use Rattle.soar_agent.specs.Commands.{Outcomes}
 use Rattle.soar_agent.specs.States.{session_of}
-use Rattle.soar_agent.proofs.CommandLemmas.{comes_as, outcome_ready, reads_as, reads_spent}
+use Rattle.soar_agent.proofs.CommandLemmas.{comes_as, ordered_built, outcome_ready, reads_as, reads_spent}
 use Rattle.soar_agent.proofs.SoundLemmas.{ready_read, remembers_read}
 use Rattle.soar_agent.proofs.state.Session.obey.Goals as goal
 
@@ -24,18 +24,21 @@ returns-in-Ok-clause-command g c = λ history remembers.
     let s : Session = session_of c.args.self.now history in
     let words : Texts = c.read_command.new.table in
     let small : length words < 2 ^ 32 = subst (λ (w : Texts). length w < 2 ^ 32) c.symbols.ensures (omega (arith, c.word_count-within.ensures)) in
-    subst (λ (w : Texts). Outcomes c.args.self.now.agent.mid_line (after_reading present_stage c.args.source.now c.args.c.now.line s (read_present w c.args.c.now.text))
+    subst (λ (w : Texts). Outcomes c.args.self.now.agent.parts.settings.watch c.args.self.now.agent.mid_line (after_reading present_stage c.args.source.now c.args.c.now.line s (read_present w c.args.c.now.text))
     c.carry_out.new.self c.args.out.now c.carry_out.new.out c.carry_out.result)
     c.table.ensures.value
-    (reads_as c.args.self.now c.carry_out.new.self c.args.source.now c.args.c.now.line (read_present c.table.result.now c.args.c.now.text) words (Ok (order_seen c.in-Ok.order)) history
-    c.args.out.now c.carry_out.new.out c.carry_out.result c.in-Ok.ensures.reading.0 c.in-Ok.ensures.reading.1 small (c.carry_out.ensures.command history (remembers_read c.args.self.now.agent words history remembers)))
+    (reads_as c.args.self.now c.carry_out.new.self c.args.source.now c.args.c.now.line (read_present c.table.result.now c.args.c.now.text) words (built_order (Ok (order_seen c.in-Ok.order))) history
+    c.args.out.now c.carry_out.new.out c.carry_out.result c.in-Ok.ensures.reading.0 (ap built_order c.in-Ok.ensures.reading.1) small
+    (subst (λ (reply : Reply). Outcomes c.args.self.now.agent.parts.settings.watch c.args.self.now.agent.mid_line reply c.carry_out.new.self c.args.out.now c.carry_out.new.out c.carry_out.result)
+    (sym (ordered_built c.args.source.now c.args.c.now.line (session_of (with_table words c.args.self.now) history) (order_seen c.in-Ok.order)))
+    (c.carry_out.ensures.command history (remembers_read c.args.self.now.agent words history remembers))))
 
-pub refuse-requires-clause-ready : goal.refuse-requires-clause-ready
-refuse-requires-clause-ready g c =
+pub refuse_with-requires-clause-ready : goal.refuse_with-requires-clause-ready
+refuse_with-requires-clause-ready g c =
     ready_read c.args.self.now.agent c.read_command.new.table (subst (λ (w : Texts). length w ≤ length c.read_command.new.table) c.table.ensures.value c.in-Err-Refused.ensures.grown) c.requires.ready
 
-pub refuse-requires-clause-known : goal.refuse-requires-clause-known
-refuse-requires-clause-known g c = let read = rw c.in-Err-Refused.field-0-is at c.in-Err-Refused.ensures.reading in read.2
+pub refuse_with-requires-clause-known : goal.refuse_with-requires-clause-known
+refuse_with-requires-clause-known g c = let read = rw c.in-Err-Refused.field-0-is at c.in-Err-Refused.ensures.reading in read.2
 
 pub returns-in-Err-Refused-clause-command : goal.returns-in-Err-Refused-clause-command
 unfolding obeyed
@@ -44,24 +47,24 @@ returns-in-Err-Refused-clause-command g c = λ history remembers.
     let words : Texts = c.read_command.new.table in
     let small : length words < 2 ^ 32 = subst (λ (w : Texts). length w < 2 ^ 32) c.symbols-in-Err-Refused.ensures (omega (arith, c.word_count-within-in-Err-Refused.ensures)) in
     let read = rw c.in-Err-Refused.field-0-is at c.in-Err-Refused.ensures.reading in
-    subst (λ (w : Texts). Outcomes c.args.self.now.agent.mid_line (after_reading present_stage c.args.source.now c.args.c.now.line s (read_present w c.args.c.now.text))
-    c.refuse.new.self c.args.out.now c.refuse.new.out c.outcome_of.result)
+    subst (λ (w : Texts). Outcomes c.args.self.now.agent.parts.settings.watch c.args.self.now.agent.mid_line (after_reading present_stage c.args.source.now c.args.c.now.line s (read_present w c.args.c.now.text))
+    c.refuse_with.new.self c.args.out.now c.refuse_with.new.out c.outcome_of.result)
     c.table.ensures.value
-    (reads_as c.args.self.now c.refuse.new.self c.args.source.now c.args.c.now.line (read_present c.table.result.now c.args.c.now.text) words
-    (Err (refusal_of words c.in-Err-Refused.number c.in-Err-Refused.shown)) history c.args.out.now c.refuse.new.out c.outcome_of.result read.0 read.1 small
-    (comes_as c.args.self.now.agent.mid_line
+    (reads_as c.args.self.now c.refuse_with.new.self c.args.source.now c.args.c.now.line (read_present c.table.result.now c.args.c.now.text) words
+    (Err (refusal_of words c.in-Err-Refused.number c.in-Err-Refused.shown)) history c.args.out.now c.refuse_with.new.out c.outcome_of.result read.0 (ap built_order read.1) small
+    (comes_as c.args.self.now.agent.parts.settings.watch c.args.self.now.agent.mid_line
     (refused_by (refusal_of words c.in-Err-Refused.number c.in-Err-Refused.shown) c.args.source.now c.args.c.now.line (session_of (with_table words c.args.self.now) history))
-    c.refuse.new.self c.args.out.now c.refuse.new.out c.refuse.result c.outcome_of.result c.outcome_of.ensures (c.refuse.ensures.reply history (remembers_read c.args.self.now.agent words history remembers))))
+    c.refuse_with.new.self c.args.out.now c.refuse_with.new.out c.refuse_with.result c.outcome_of.result c.outcome_of.ensures refl (c.refuse_with.ensures.reply history (remembers_read c.args.self.now.agent words history remembers))))
 
 pub returns-in-Err-Refused-clause-ready : goal.returns-in-Err-Refused-clause-ready
-returns-in-Err-Refused-clause-ready g c = outcome_ready c.refuse.new.self c.refuse.result c.outcome_of.result c.outcome_of.ensures c.refuse.ensures.ready
+returns-in-Err-Refused-clause-ready g c = outcome_ready c.refuse_with.new.self c.refuse_with.result c.outcome_of.result c.outcome_of.ensures c.refuse_with.ensures.ready
 
 pub returns-in-Err-WordsSpent-clause-command : goal.returns-in-Err-WordsSpent-clause-command
 unfolding obeyed
 returns-in-Err-WordsSpent-clause-command g c = λ history remembers.
     let s : Session = session_of c.args.self.now history in
     let spent = rw c.in-Err-WordsSpent.field-0-is at c.in-Err-WordsSpent.ensures.reading in
-    subst (λ (w : Texts). Outcomes c.args.self.now.agent.mid_line (after_reading present_stage c.args.source.now c.args.c.now.line s (read_present w c.args.c.now.text))
+    subst (λ (w : Texts). Outcomes c.args.self.now.agent.parts.settings.watch c.args.self.now.agent.mid_line (after_reading present_stage c.args.source.now c.args.c.now.line s (read_present w c.args.c.now.text))
     (with_table c.read_command.new.table c.args.self.now) c.args.out.now c.args.out.now (Err (stop.Limit which.Words)))
     c.table.ensures.value
     (reads_spent c.args.self.now (with_table c.read_command.new.table c.args.self.now) c.args.source.now c.args.c.now.line (read_present c.table.result.now c.args.c.now.text) history

@@ -7,13 +7,13 @@ use Rattle.soar_agent.proofs.AddingLemmas.{puts_labelled, puts_none}
 use Rattle.soar_agent.proofs.state.Session.put_labelled.Goals as goal
 
 pub returns-in-Ok-clause-reply : goal.returns-in-Ok-clause-reply
-returns-in-Ok-clause-reply g c = λ said history remembers.
-    puts_labelled c.args.self.now c.make_label.new.self c.change_inputs.new.self c.args.slot.id c.args.slot.attr c.in-Ok.value c.args.name history said said c.change_inputs.result
+returns-in-Ok-clause-reply g c = λ history remembers.
+    puts_labelled c.args.self.now c.make_label.new.self c.change_inputs.new.self c.args.slot.id c.args.slot.attr c.in-Ok.value c.args.name history c.args.out.now c.change_inputs.new.out c.change_inputs.result
     c.in-Ok.ensures.mid_line (c.in-Ok.ensures.symbol history remembers)
-    (subst (λ (t : Triple). Obeys c.make_label.new.self.agent.mid_line (with_inputs (c.make_label.new.self.agent.parts.inputs ++ t ∷ []) (session_of c.make_label.new.self history))
-    c.change_inputs.new.self said said c.change_inputs.result)
-    c.with.ensures (c.change_inputs.ensures.reply said history (c.in-Ok.ensures.symbol history remembers).3))
+    (subst (λ (t : Triple). Obeys c.make_label.new.self.agent.parts.settings.watch c.make_label.new.self.agent.mid_line
+    (with_inputs (c.make_label.new.self.agent.parts.inputs ++ t ∷ []) (session_of c.make_label.new.self history)) c.change_inputs.new.self c.args.out.now c.change_inputs.new.out c.change_inputs.result)
+    c.with.ensures (c.change_inputs.ensures.reply history (c.in-Ok.ensures.symbol history remembers).3))
 
 pub returns-in-Err-clause-reply : goal.returns-in-Err-clause-reply
-returns-in-Err-clause-reply g c = λ said history remembers.
-    puts_none c.args.self.now c.make_label.new.self c.args.slot.id c.args.slot.attr c.args.name history said c.in-Err.stop c.in-Err.ensures.mid_line (c.in-Err.ensures.symbol history remembers)
+returns-in-Err-clause-reply g c = λ history remembers.
+    puts_none c.args.self.now c.make_label.new.self c.args.slot.id c.args.slot.attr c.args.name history c.args.out.now c.in-Err.stop c.in-Err.ensures.mid_line (c.in-Err.ensures.symbol history remembers)

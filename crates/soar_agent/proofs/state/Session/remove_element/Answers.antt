@@ -15,18 +15,18 @@ pub returns-then-is_input-clause-reply : goal.returns-then-is_input-clause-reply
 returns-then-is_input-clause-reply g c = λ history remembers.
     let s : Session = session_of c.args.self.now history in
     let among : has_triple_among c.args.self.now.agent.parts.inputs (triple_of c.args.element) ≡ true = cc (c.is_input.ensures, c.triple_of-triple.ensures, c.if-is_input.true) in
-    subst (λ (b : Bool). Obeys c.args.self.now.agent.mid_line
+    subst (λ (b : Bool). Obeys c.args.self.now.agent.parts.settings.watch c.args.self.now.agent.mid_line
     (replied_by c.args.origin.now.source.now c.args.origin.now.line s (if b then does (with_inputs (filter (λ t. not (triple_eq t (triple_of c.args.element))) s.agent.holding.inputs) s) else refuses (not_an_input c.args.element.tag)))
-    c.change_inputs.new.self c.args.out.now c.args.out.now c.change_inputs.result)
+    c.change_inputs.new.self c.args.out.now c.change_inputs.new.out c.change_inputs.result)
     (sym among)
-    (subst (λ (u : Triple). Obeys c.args.self.now.agent.mid_line (with_inputs (filter (λ t. not (triple_eq t u)) c.args.self.now.agent.parts.inputs) s) c.change_inputs.new.self c.args.out.now c.args.out.now c.change_inputs.result)
-    c.triple_of-triple.ensures (c.change_inputs.ensures.reply c.args.out.now history remembers))
+    (subst (λ (u : Triple). Obeys c.args.self.now.agent.parts.settings.watch c.args.self.now.agent.mid_line (with_inputs (filter (λ t. not (triple_eq t u)) c.args.self.now.agent.parts.inputs) s) c.change_inputs.new.self c.args.out.now c.change_inputs.new.out c.change_inputs.result)
+    c.triple_of-triple.ensures (c.change_inputs.ensures.reply history remembers))
 
 pub returns-else-is_input-clause-reply : goal.returns-else-is_input-clause-reply
 returns-else-is_input-clause-reply g c = λ history remembers.
     let s : Session = session_of c.args.self.now history in
     let among : has_triple_among c.args.self.now.agent.parts.inputs (triple_of c.args.element) ≡ false = cc (c.is_input.ensures, c.triple_of-triple.ensures, c.if-is_input.false) in
-    subst (λ (b : Bool). Obeys c.args.self.now.agent.mid_line
+    subst (λ (b : Bool). Obeys c.args.self.now.agent.parts.settings.watch c.args.self.now.agent.mid_line
     (replied_by c.args.origin.now.source.now c.args.origin.now.line s (if b then does (with_inputs (filter (λ t. not (triple_eq t (triple_of c.args.element))) s.agent.holding.inputs) s) else refuses (not_an_input c.args.element.tag)))
-    c.refuse.new.self c.args.out.now c.refuse.new.out c.refuse.result)
-    (sym among) (c.refuse.ensures.reply history remembers)
+    c.refuse_with.new.self c.args.out.now c.refuse_with.new.out c.refuse_with.result)
+    (sym among) (c.refuse_with.ensures.reply history remembers)

@@ -31,7 +31,7 @@ returns-in_ok-say_production-in-Some-clause-reply g c = λ history remembers.
     let rule : RuleOf = rule_seen c.in-Some.rule.now in
     let found : Some rule ≡ rule_named (map rule_seen c.args.self.now.agent.parts.rules) c.args.name =
     c.in-Some.ensures ∙ ap (λ (rs : List Rule). rule_named (map rule_seen rs) c.args.name) (c.as_slice.ensures ∙ c.rules.ensures) in
-    subst (λ (o : Option RuleOf). Obeys c.args.self.now.agent.mid_line
+    subst (λ (o : Option RuleOf). Obeys c.args.self.now.agent.parts.settings.watch c.args.self.now.agent.mid_line
     (replied_by c.args.origin.now.source.now c.args.origin.now.line s (elim o as (λ _. Carried) [ None ↦ refuses (no_production s.agent.names.words c.args.name) | Some r ↦ does (says s (production_lines s.agent r)) ]))
     (with_kept c.set_mid_line.new.self c.args.self.now) c.args.out.now c.say_production.new.out (Ok false))
     found
@@ -44,7 +44,7 @@ returns-in-None-clause-reply g c = λ history remembers.
     let s : Session = session_of c.args.self.now history in
     let missing : None ≡ rule_named (map rule_seen c.args.self.now.agent.parts.rules) c.args.name =
     c.in-None.ensures ∙ ap (λ (rs : List Rule). rule_named (map rule_seen rs) c.args.name) (c.as_slice.ensures ∙ c.rules.ensures) in
-    subst (λ (o : Option RuleOf). Obeys c.args.self.now.agent.mid_line
+    subst (λ (o : Option RuleOf). Obeys c.args.self.now.agent.parts.settings.watch c.args.self.now.agent.mid_line
     (replied_by c.args.origin.now.source.now c.args.origin.now.line s (elim o as (λ _. Carried) [ None ↦ refuses (no_production s.agent.names.words c.args.name) | Some r ↦ does (says s (production_lines s.agent r)) ]))
-    c.refuse.new.self c.args.out.now c.refuse.new.out c.refuse.result)
-    missing (c.refuse.ensures.reply history remembers)
+    c.refuse_with.new.self c.args.out.now c.refuse_with.new.out c.refuse_with.result)
+    missing (c.refuse_with.ensures.reply history remembers)

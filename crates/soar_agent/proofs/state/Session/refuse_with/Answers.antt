@@ -5,7 +5,7 @@ use Rattle.defs_soar.specs.Trace.{line_text}
 use Rattle.session_parts.specs.Reasons.{refusal_by}
 use Rattle.soar_cycle.specs.Agents.{AgentSeen}
 use Rattle.soar_agent.proofs.ReplyLemmas.{refuses}
-use Rattle.soar_agent.proofs.state.Session.refuse.Goals as goal
+use Rattle.soar_agent.proofs.state.Session.refuse_with.Goals as goal
 
 pub returns-clause-reply : goal.returns-clause-reply
 returns-clause-reply g c = λ history remembers.

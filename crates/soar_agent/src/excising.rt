@@ -1,0 +1,41 @@
+// Taking a production away.
+ghost use Rattle.std.specs.Prelude.{IfOk};
+ghost use Rattle.soar_sym.specs.Words.{IsKnown};
+ghost use Rattle.defs_run.specs.Carrying.{carried_out, excised};
+ghost use Rattle.defs_run.specs.Orders.{excise};
+ghost use Rattle.defs_run.specs.Present.{run_present};
+ghost use Rattle.soar_agent.specs.Carries.{Carries, RepliesNothing};
+ghost use Rattle.soar_agent.specs.States.{IsReady};
+
+use crate::state::Session;
+use defs_match::Matcher;
+use session_parts::{Origin, Reason, rule_named};
+use soar_cycle::Stop;
+use soar_sym::{Sym, Text};
+
+impl<M: Matcher> Session<M> {
+    /// Takes the production of a name away, where one is loaded.
+    pub fn excise(&mut self, origin: &Origin<'_>, name: Sym, out: &mut Text) -> Result<bool, Stop>
+        requires ready { IsReady self.old.agent }
+        requires known { IsKnown self.old.agent.parts.table name }
+        ensures reply { Carries self.old self.new origin.now.source.now origin.now.line (carried_out run_present (excise name)) out.old out.new result }
+        ensures ready { IfOk result (λ _. IsReady self.new.agent) }
+    {
+        let loaded = rule_named(self.agent.rules().as_slice(), name).is_some();
+        if loaded {
+            self.take_away(name)
+        } else {
+            self.refuse_with(origin, &Reason::NoProduction(name), out)
+        }
+    }
+
+    /// Takes the productions of a name away.
+    fn take_away(&mut self, name: Sym) -> Result<bool, Stop>
+        requires { IsReady self.old.agent }
+        ensures reply { RepliesNothing self.old self.new (excised name) result }
+        ensures ready { IfOk result (λ _. IsReady self.new.agent) }
+    {
+        self.agent.excise(name);
+        Ok(false)
+    }
+}

@@ -1,0 +1,28 @@
+// Starting anew.
+ghost use Rattle.std.specs.Prelude.{IfOk};
+ghost use Rattle.soar_agent.specs.Carries.{RepliesNothing};
+ghost use Rattle.soar_agent.specs.Restarting.{restarts};
+ghost use Rattle.soar_agent.specs.States.{IsReady};
+
+use crate::state::Session;
+use defs_match::Matcher;
+use soar_cycle::Stop;
+use soar_sym::List;
+use std::alloc::Global;
+
+impl<M: Matcher> Session<M> {
+    /// Starts anew, with the productions and the settings (Soar manual, chapter 9, init-soar). The labels go.
+    pub fn restart(&mut self, alloc: Global) -> Result<bool, Stop>
+        requires { IsReady self.old.agent }
+        ensures reply { RepliesNothing self.old self.new restarts result }
+        ensures ready { IfOk result (λ _. IsReady self.new.agent) }
+    {
+        match self.agent.restart() {
+            Ok(()) => {
+                self.labels = List::new(alloc);
+                Ok(false)
+            }
+            Err(stop) => Err(stop),
+        }
+    }
+}
