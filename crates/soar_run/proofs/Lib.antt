@@ -1,10 +1,4 @@
-pub mod CutterLemmas
-pub mod LengthLemmas
-pub mod PresentLemmas
 pub mod RanLemmas
-pub mod RunLemmas
-pub mod ScriptLemmas
-pub mod SequelLemmas
 pub mod StepLemmas
 pub mod TellingLemmas
 pub mod TopLemmas

@@ -1,108 +1,135 @@
--- What a command writes, as a text of its own.
-use Rattle.std.proofs.Common.{◌≡◌, ℕ, Bool, true, false, List, [], ◌++◌, Some, Result, Ok, Err, IfOk, sym, ap, subst, ◌∙◌}
-use Rattle.std.proofs.lemmas.List.{append-nil}
+-- What a command writes, as the definitions write it.
+use Rattle.std.proofs.Common.{◌≡◌, ℕ, Bool, false, List, [], ◌++◌, Option, Result, Ok, Err, IfOk, OnOk, refl, sym, ap, subst, ◌∙◌}
+use Rattle.soar_edge.specs.Outside.{Appends, AppendsSome}
 use Rattle.soar_edge.specs.declared.fault.PutFault.{PutFault}
 use Rattle.defs_soar.specs.declared.limit.Which.{Which}
 use Rattle.defs_soar.specs.History.{RecordedFiring}
 use Rattle.defs_soar.specs.Phases.{Course}
 use Rattle.defs_soar.specs.Trace.{Written}
 use Rattle.defs_run.specs.Carrying.{followed}
-use Rattle.defs_run.specs.Orders.{Refusal}
 use Rattle.defs_run.specs.Present.{run_present}
-use Rattle.defs_run.specs.Sessions.{Session, Reply, refused_by}
+use Rattle.defs_run.specs.Runs.{Rendered}
+use Rattle.defs_run.specs.Sessions.{Session, Reply, Sequel, goes_on}
+use Rattle.command_runs.specs.Carrying.{IsAnswered, Passed, Speaks, sequel_of, written_by}
+use Rattle.command_runs.specs.declared.carrier.Answered.{Answered}
+use Rattle.command_runs.specs.declared.carrier.Answered.TheVariants as answered
+use Rattle.command_runs.specs.declared.carrier.Next.{Next}
 use Rattle.soar_settle.specs.declared.stop.Stop.{Stop}
 use Rattle.soar_settle.specs.declared.stop.Stop.TheVariants as stop
+use Rattle.wave_parts.specs.Remembers.{Remembers}
 use Rattle.wave_parts.specs.Seen.{agent_of}
-use Rattle.cycle_parts.specs.Stepping.{watch}
-use Rattle.soar_cycle.specs.Courses.{front_said, limit_in}
+use Rattle.cycle_phases.specs.Courses.{front_said, limit_in}
 use Rattle.soar_agent.specs.Commands.{AsksToRun, Commands}
 use Rattle.soar_agent.specs.States.{session_of}
-use Rattle.soar_agent.specs.Steps.{Obeys, Replied, written_of}
+use Rattle.soar_agent.specs.Steps.{Obeys, Replied}
 use Rattle.soar_agent.specs.Telling.{front_told, limit_told}
 use Rattle.soar_agent.specs.Writing.{limit_line, step_text}
 use Rattle.soar_agent.specs.declared.outcome.Outcome.{Outcome}
-use Rattle.soar_agent.specs.declared.outcome.Outcome.TheVariants as outcome
 use Rattle.soar_agent.specs.declared.state.Session.{Session as SessionKept}
 use Rattle.soar_agent.proofs.FollowedLemmas.{follows, front_of_steps, limit_of_steps}
 use Rattle.soar_agent.proofs.SessionLemmas.{obeys_same}
 use Rattle.soar_run.specs.Cycles.{IsRan, IsRanOk, course_text}
-use Rattle.soar_run.specs.Ready.{IsReadySession}
-use Rattle.soar_run.specs.Spoken.{IsAnswered, IsAnsweredOk, Passed}
-use Rattle.soar_run.specs.declared.step.Answered.{Answered}
-use Rattle.soar_run.specs.declared.step.Answered.TheVariants as answered
+use Rattle.soar_run.specs.Spoken.{StandsFor}
+use Rattle.soar_run.proofs.TellingLemmas.{told_limit, told_text, told_whole}
+
+-- what a command does with each history that is remembered it does in the session that the code's stands for
+pub commands_at : {M : Type 0} (kept : SessionKept M) (s : Session) (new : SessionKept M) (reply : Session → Reply) (first text : List ℕ) (result : Result Outcome Stop) → StandsFor kept s
+    → ((history : List RecordedFiring) → Remembers kept.agent.parts history → Commands (session_of kept history) (reply (session_of kept history)) new first text result) → Commands s (reply s) new first text result
+commands_at kept s new reply first text result stands holds = subst (λ t. Commands t (reply t) new first text result) stands.session (holds stands.history stands.remembers)
 
 -- ---- a command that asks for no cycles
 
 -- what it said is what it writes
-pub said_whole : {M : Type 0} (old new : SessionKept M) (history : List RecordedFiring) (reply : Reply) (first text : List ℕ) (answer : Bool)
-    → first ≡ [] → Replied old.agent.mid_line reply new first text answer → text ≡ step_text (session_of old history) reply
-said_whole old new history reply first text answer none replied =
-    let front : Written = written_of old.agent.mid_line reply in
+pub said_whole : {M : Type 0} (s : Session) (reply : Reply) (new : SessionKept M) (first text : List ℕ) (answer : Bool) → first ≡ []
+    → Replied s.agent.settings.watch s.mid_line reply new first text answer → text ≡ (written_by s reply).written.text
+said_whole s reply new first text answer none replied =
+    let front : Written = front_told s.agent.settings.watch s.mid_line reply.told in
     replied.text
     ∙ ap (λ t. t ++ front.text) none
-    ∙ sym (append-nil front.text)
-    ∙ ap (λ o. front.text ++ limit_line front.mid_line o) (sym replied.within)
+    ∙ sym (ap (λ (r : Rendered). r.written.text) (told_whole s.agent.settings.watch s.mid_line reply.told replied.within))
 
-pub passed_whole : {M : Type 0} (old new : SessionKept M) (history : List RecordedFiring) (reply : Reply) (first text : List ℕ) (answer : Bool)
-    → IsReadySession new → Replied old.agent.mid_line reply new first text answer → Passed (session_of old history) reply new answer
-passed_whole old new history reply first text answer ready r =
-    record { history = r.history; remembers = r.remembers; session = r.session; within = r.within; refused = r.refused; kept = ready }
+-- the session behind it
+pub passed_whole : {M : Type 0} (s : Session) (reply : Reply) (new : SessionKept M) (first text : List ℕ) (answer : Bool) (sequel : Sequel)
+    → Replied s.agent.settings.watch s.mid_line reply new first text answer → reply.sequel ≡ sequel → Passed (StandsFor new) s reply answer sequel
+passed_whole s reply new first text answer sequel r next =
+    let whole = told_whole s.agent.settings.watch s.mid_line reply.told r.within in
+    record {
+      session = record {
+        history = r.history;
+        remembers = r.remembers;
+        session = r.session ∙ sym (ap (λ (w : Rendered). record reply.session { mid_line = w.written.mid_line }) whole);
+      };
+      within = ap (λ (w : Rendered). w.limit) whole;
+      told = r.refused;
+      follows = next;
+    }
 
--- a refusal that is told so
-pub refused_whole : {M : Type 0} (old new : SessionKept M) (history : List RecordedFiring) (why : Refusal) (from : List ℕ) (line : ℕ) (first text : List ℕ) (answer : Outcome)
-    → first ≡ [] → Commands (session_of old history) (refused_by why from line (session_of old history)) new first text (Ok answer)
-    → text ≡ step_text (session_of old history) (refused_by why from line (session_of old history))
-refused_whole old new history why from line first text outcome.Done none c = said_whole old new history (refused_by why from line (session_of old history)) first text false none c
-refused_whole old new history why from line first text outcome.Refused none c = said_whole old new history (refused_by why from line (session_of old history)) first text true none c
-refused_whole old new history why from line first text (outcome.Run count) none c = absurd (let e : true ≡ false = c.comes.refused in cc)
+-- what was put is what it writes, and how it went
+pub speaks_put : (stands : Session → Type 0) (s : Session) (reply : Reply) (answer : Answered) (text : List ℕ) (old now : Option (List ℕ)) (result : Result Answered PutFault)
+    → IfOk result (λ given. given ≡ answer) → OnOk result (Appends old now text) → AppendsSome old now text
+    → text ≡ (written_by s reply).written.text → IsAnswered stands s reply answer → Speaks stands s reply old now result
+speaks_put stands s reply answer text old now (Ok given) is all some same answered = (subst (IsAnswered stands s reply) (sym is) answered, subst (Appends old now) same all)
+speaks_put stands s reply answer text old now (Err e) is all some same answered = subst (AppendsSome old now) same some
+
+-- of a command that was carried out, or refused
+pub speaks_went : {M : Type 0} (s : Session) (reply : Reply) (new : SessionKept M) (text : List ℕ) (refused : Bool) (following : Next) (old now : Option (List ℕ)) (result : Result Answered PutFault)
+    → IfOk result (λ given. given ≡ answered.Went refused following) → OnOk result (Appends old now text) → AppendsSome old now text
+    → Replied s.agent.settings.watch s.mid_line reply new [] text refused → reply.sequel ≡ sequel_of following → Speaks (StandsFor new) s reply old now result
+speaks_went s reply new text refused following old now result is all some replied next =
+    speaks_put (StandsFor new) s reply (answered.Went refused following) text old now result is all some
+    (said_whole s reply new [] text refused refl replied) (passed_whole s reply new [] text refused (sequel_of following) replied next)
+
+-- of one that passes a limit
+pub speaks_stopped : {M : Type 0} (stands : Session → Type 0) (s : Session) (reply : Reply) (new : SessionKept M) (first text : List ℕ) (why : Stop) (limit : Which) (old now : Option (List ℕ)) (result : Result Answered PutFault)
+    → IfOk result (λ given. given ≡ answered.Stopped) → OnOk result (Appends old now text) → AppendsSome old now text
+    → first ≡ [] → why ≡ stop.Limit limit → Commands s reply new first text (Err why) → Speaks stands s reply old now result
+speaks_stopped stands s reply new first text why limit old now result is all some none stopped commands =
+    let it = subst (λ (e : Stop). Commands s reply new first text (Err e)) stopped commands in
+    speaks_put stands s reply answered.Stopped text old now result is all some
+    (it.1 ∙ (ap (λ t. t ++ step_text s reply) none ∙ sym (told_text s.agent.settings.watch s.mid_line reply.told)))
+    (limit, told_limit s.agent.settings.watch s.mid_line reply.told ∙ it.0)
 
 -- ---- a command that asks for cycles
 
 -- its text is that of the cycles
-pub asked_text : {M : Type 0} (old new : SessionKept M) (history : List RecordedFiring) (reply : Reply) (first text : List ℕ) (count : ℕ)
-    → (a : AsksToRun old.agent.mid_line reply new first text count)
-    → step_text (session_of old history) reply ≡ course_text new.agent.mid_line (run_present count (agent_of new.agent.parts a.history))
-asked_text old new history reply first text count a =
-    let mid : Bool = old.agent.mid_line in
+asked_text : {M : Type 0} (s : Session) (reply : Reply) (new : SessionKept M) (first text : List ℕ) (count : ℕ)
+    → (a : AsksToRun s.agent.settings.watch s.mid_line reply new first text count)
+    → course_text new.agent.parts.settings.watch new.agent.mid_line (run_present count (agent_of new.agent.parts a.history)) ≡ (written_by s reply).written.text
+asked_text s reply new first text count a =
+    let watch : ℕ = s.agent.settings.watch in
+    let mid : Bool = s.mid_line in
     let c : Course = run_present count (agent_of new.agent.parts a.history) in
-    let front : front_told watch mid reply.told ≡ front_said mid c.steps = a.comes.front mid ∙ front_of_steps mid c.steps in
+    let front : front_told watch mid reply.told ≡ front_said watch mid c.steps = a.comes.front mid ∙ front_of_steps watch mid c.steps in
     let limit : limit_told reply.told ≡ limit_in c.steps = a.comes.limit ∙ limit_of_steps c.steps in
-    ap (λ (v : Written). v.text ++ limit_line v.mid_line (limit_told reply.told)) front
-    ∙ (ap (λ o. (front_said mid c.steps).text ++ limit_line (front_said mid c.steps).mid_line o) limit
-    ∙ ap (λ m. course_text m c) (sym a.mid_line))
+    ap (λ w. course_text w new.agent.mid_line c) a.settings
+    ∙ ap (λ m. course_text watch m c) a.mid_line
+    ∙ sym (told_text watch mid reply.told
+    ∙ ap (λ (v : Written). v.text ++ limit_line v.mid_line (limit_told reply.told)) front
+    ∙ ap (λ o. (front_said watch mid c.steps).text ++ limit_line (front_said watch mid c.steps).mid_line o) limit)
 
 -- and it went as they did
-pub asked_answer : {M : Type 0} (old new last : SessionKept M) (history : List RecordedFiring) (reply : Reply) (first text : List ℕ) (count : ℕ) (answer : Answered)
-    → (a : AsksToRun old.agent.mid_line reply new first text count)
-    → IsRan new.agent.mid_line (run_present count (agent_of new.agent.parts a.history)) new last answer → IsAnswered (session_of old history) reply last answer
-asked_answer old new last history reply first text count (answered.Went refused) a ran =
+asked_answer : {M : Type 0} (s : Session) (reply : Reply) (new last : SessionKept M) (first text : List ℕ) (count : ℕ) (answer : Answered)
+    → (a : AsksToRun s.agent.settings.watch s.mid_line reply new first text count) → reply.sequel ≡ goes_on
+    → IsRan new.agent.parts.settings.watch new.agent.mid_line (run_present count (agent_of new.agent.parts a.history)) new last answer → IsAnswered (StandsFor last) s reply answer
+asked_answer s reply new last first text count (answered.Went refused following) a next ran =
+    let watch : ℕ = s.agent.settings.watch in
+    let mid : Bool = s.mid_line in
     let c : Course = run_present count (agent_of new.agent.parts a.history) in
     let behind : Reply = followed (session_of new a.history) c in
-    let obeys : Obeys new.agent.mid_line behind last [] ran.1.0 (Ok false) = follows new last c a.history [] ran.1.0 ran.1.1 ran.2 ran.3.1 in
-    let same : Obeys old.agent.mid_line reply last [] ran.1.0 (Ok false) =
-    obeys_same old.agent.mid_line reply behind last [] ran.1.0 (Ok false) a.comes (subst (λ m. Obeys m behind last [] ran.1.0 (Ok false)) a.mid_line obeys) in
-    subst (Passed (session_of old history) reply last) (sym ran.0) (passed_whole old last history reply [] ran.1.0 false ran.3 same)
-asked_answer old new last history reply first text count answered.Stopped a ran =
-    let c : Course = run_present count (agent_of new.agent.parts a.history) in
-    (ran.0, a.comes.limit ∙ (limit_of_steps c.steps ∙ ran.1))
+    let went = ran.2 in
+    let obeys : Obeys new.agent.parts.settings.watch new.agent.mid_line behind last [] went.0 (Ok false) = follows new last c a.history [] went.0 went.1 ran.3 ran.5.1 in
+    let level : Obeys watch new.agent.mid_line behind last [] went.0 (Ok false) = subst (λ w. Obeys w new.agent.mid_line behind last [] went.0 (Ok false)) a.settings obeys in
+    let same : Obeys watch mid reply last [] went.0 (Ok false) =
+    obeys_same watch mid reply behind last [] went.0 (Ok false) a.comes (subst (λ m. Obeys watch m behind last [] went.0 (Ok false)) a.mid_line level) in
+    subst (λ r. Passed (StandsFor last) s reply r (sequel_of following)) (sym ran.0) (passed_whole s reply last [] went.0 false (sequel_of following) same (next ∙ sym ran.1))
+asked_answer s reply new last first text count answered.Stopped a next ran =
+    (ran.0, told_limit s.agent.settings.watch s.mid_line reply.told ∙ (a.comes.limit ∙ (limit_of_steps (run_present count (agent_of new.agent.parts a.history)).steps ∙ ran.1)))
 
--- ---- outcomes
-
--- what was put is how it went
-pub put_went : {M : Type 0} (s : Session) (reply : Reply) (new : SessionKept M) (answer : Answered) (result : Result Answered PutFault) → IfOk result (λ given. given ≡ answer)
-    → IsAnswered s reply new answer → IsAnsweredOk s reply new result
-put_went s reply new answer (Ok given) is answered = subst (IsAnswered s reply new) (sym is) answered
-put_went s reply new answer (Err e) is answered = tt
-
-pub put_ran : {M : Type 0} (old new last : SessionKept M) (history : List RecordedFiring) (reply : Reply) (first text : List ℕ) (count : ℕ) (result : Result Answered PutFault)
-    → (a : AsksToRun old.agent.mid_line reply new first text count)
-    → IsRanOk new.agent.mid_line (run_present count (agent_of new.agent.parts a.history)) new last result → IsAnsweredOk (session_of old history) reply last result
-put_ran old new last history reply first text count (Ok answer) a ran = asked_answer old new last history reply first text count answer a ran
-put_ran old new last history reply first text count (Err e) a ran = tt
-
--- a command that passes a limit
-pub stop_whole : {M : Type 0} (s : Session) (reply : Reply) (new : SessionKept M) (first text : List ℕ) (why : Stop) (limit : Which) → first ≡ [] → why ≡ stop.Limit limit
-    → Commands s reply new first text (Err why) → (limit_told reply.told ≡ Some limit) × (text ≡ step_text s reply)
-stop_whole s reply new first text why limit none is c =
-    let it = subst (λ (e : Stop). Commands s reply new first text (Err e)) is c in
-    (it.0, it.1 ∙ ap (λ t. t ++ step_text s reply) none)
+pub speaks_ran : {M : Type 0} (s : Session) (reply : Reply) (new last : SessionKept M) (first text : List ℕ) (count : ℕ) (old now : Option (List ℕ)) (result : Result Answered PutFault)
+    → (a : AsksToRun s.agent.settings.watch s.mid_line reply new first text count) → reply.sequel ≡ goes_on → (let c = run_present count (agent_of new.agent.parts a.history) in
+    IsRanOk new.agent.parts.settings.watch new.agent.mid_line c new last result
+    → OnOk result (Appends old now (course_text new.agent.parts.settings.watch new.agent.mid_line c))
+    → AppendsSome old now (course_text new.agent.parts.settings.watch new.agent.mid_line c) → Speaks (StandsFor last) s reply old now result)
+speaks_ran s reply new last first text count old now (Ok answer) a next ran all some =
+    (asked_answer s reply new last first text count answer a next ran, subst (Appends old now) (asked_text s reply new first text count a) all)
+speaks_ran s reply new last first text count old now (Err e) a next ran all some = subst (AppendsSome old now) (asked_text s reply new first text count a) some

@@ -8,6 +8,7 @@ use Rattle.defs_soar.specs.Trace.{line, Written, line_text, rendered, followed_b
 use Rattle.defs_run.specs.Runs.{Rendered, behind_written, at_limit, told_written}
 use Rattle.defs_run.specs.Sessions.{Told}
 use Rattle.soar_agent.specs.Telling.{front_told, limit_told}
+use Rattle.soar_agent.specs.Writing.{limit_line}
 
 -- the steps pass no limit
 pub told_whole : (watch : ℕ) (mid : Bool) (told : List Told) → limit_told told ≡ None → told_written watch mid told ≡ record { written = front_told watch mid told; limit = None }
@@ -60,3 +61,23 @@ told_limited watch mid (t ∷ told) limit passed = by (first_passed t.totals) pa
         let it = later passed in
         (it.0, ap (λ text. first.text ++ text) it.1 ∙ sym (append_assoc first.text front.text _))
     by (Some l) passed later = (passed, low_line watch mid (limit_text l) ∙ ap (λ o. line_text mid (limit_text o)) (let e : l ≡ limit = cc in e))
+
+-- the limit is that of the steps
+pub told_limit : (watch : ℕ) (mid : Bool) (told : List Told) → (told_written watch mid told).limit ≡ limit_told told
+told_limit watch mid told = by (limit_told told) refl
+  where
+    by : (o : Option Which) → limit_told told ≡ o → (told_written watch mid told).limit ≡ limit_told told
+    by None within = ap (λ (r : Rendered). r.limit) (told_whole watch mid told within) ∙ sym within
+    by (Some limit) passed = (told_limited watch mid told limit passed).0 ∙ sym passed
+
+-- all that is written: the steps up to a limit, and the line of that
+pub told_text : (watch : ℕ) (mid : Bool) (told : List Told)
+    → (told_written watch mid told).written.text ≡ (front_told watch mid told).text ++ limit_line (front_told watch mid told).mid_line (limit_told told)
+told_text watch mid told = by (limit_told told) refl
+  where
+    front : Written
+    front = front_told watch mid told
+
+    by : (o : Option Which) → limit_told told ≡ o → (told_written watch mid told).written.text ≡ front.text ++ limit_line front.mid_line (limit_told told)
+    by None within = ap (λ (r : Rendered). r.written.text) (told_whole watch mid told within) ∙ sym (ap (λ o. front.text ++ limit_line front.mid_line o) within ∙ append-nil front.text)
+    by (Some limit) passed = (told_limited watch mid told limit passed).1 ∙ sym (ap (λ o. front.text ++ limit_line front.mid_line o) passed)

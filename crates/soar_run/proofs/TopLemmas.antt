@@ -1,136 +1,91 @@
--- What the top call owes for words that are there.
-use Rattle.std.proofs.Common.{◌≡◌, ℕ, ◌^◌, ◌≤◌, ◌||◌, ◌∙◌, not, Bool, true, false, nat_lt, List, [], ◌∷◌, length, take, Option, Some, None, map, String, Global, string_bytes, refl, sym, ap, subst, arith}
-use Rattle.std.specs.Prelude.{IfSome, if◌then◌else◌}
-use Rattle.std.proofs.lemmas.Grind.{common_steps}
-use Rattle.soar_edge.specs.Cutting.{Cut, too_long, cuts_of}
-use Rattle.soar_edge.specs.Outside.{Appends, AppendsSome}
+-- The clauses of a run whose words are of the form: those of what the words ask for.
+use Rattle.std.proofs.Common.{◌≡◌, ℕ, ◌<◌, suc, ◌^◌, List, Option, Some, None, sym, ap, subst, ◌∙◌}
+use Rattle.std.specs.Prelude.{IfSome, option_map}
+use Rattle.soar_edge.specs.Outside.{AppendsSome}
 use Rattle.soar_edge.specs.declared.filed.Filed.{Filed}
 use Rattle.soar_edge.specs.declared.status.Status.{Status}
 use Rattle.soar_edge.specs.declared.status.Status.TheVariants as status
-use Rattle.defs_run.specs.Present.{present_transcript}
+use Rattle.defs_run.specs.CommandLine.{Options}
+use Rattle.defs_run.specs.Present.{present_stage}
 use Rattle.defs_run.specs.Sessions.{Session, first_session}
-use Rattle.defs_run.specs.Transcripts.{Transcript, usage_text}
-use Rattle.defs_soar.specs.declared.limit.Which.{Which}
-use Rattle.soar_run.specs.Answers.{Answers, Faults, IsComplete, IsTranscript}
-use Rattle.soar_run.specs.Runs.{reply_to, session_after, run_from, end_status, whole_run}
-use Rattle.soar_agent.specs.Telling.{limit_told}
-use Rattle.soar_run.specs.declared.run.End.{End}
-use Rattle.soar_run.specs.declared.run.End.TheVariants as ends
-use Rattle.soar_run.proofs.PresentLemmas.{present_run}
-use Rattle.soar_run.proofs.RunLemmas.{one_command, last_command}
+use Rattle.defs_run.specs.Transcripts.{Transcript, by_options}
+use Rattle.command_runs.specs.Answers.{Answers, EndsAtFetch, IsComplete, IsTranscript}
+use Rattle.command_runs.specs.Causes.{Faults}
+use Rattle.command_runs.specs.Lengths.{IsTooLong}
+use Rattle.command_runs.specs.Whole.{IsAsked, comes_to_input, level_of, whole_transcript}
+use Rattle.command_words.specs.Seen.{options_seen}
+use Rattle.soar_run.specs.Asked.{IsLongBy, comes_by}
+use Rattle.soar_run.specs.Spoken.{StandsFor}
+use Rattle.soar_run.specs.declared.top.Start.{Start}
 
--- what stands for words that are there
-pub prefix_usage : (left old new : Option (List ℕ)) (P : List Filed → Type 0) (words : List (String Global)) → (words ≡ [] → ⊥) → AppendsSome old new usage_text
-    → IfSome left (λ bytes. (stock : List Filed) → P stock → AppendsSome old new (present_transcript (map string_bytes words) stock bytes).text)
-prefix_usage None old new P words there h = tt
-prefix_usage (Some bytes) old new P [] there h = absurd (there refl)
-prefix_usage (Some bytes) old new P (word ∷ words) there h = λ stock told. h
+-- the transcript is that of what they ask for
+transcript_by : (fails : Option ℕ) (stock : List Filed) (bytes : List ℕ) (o : Options) (words : Option Options) → Some o ≡ words → whole_transcript fails stock bytes o ≡ by_options present_stage fails stock bytes words
+unfolding whole_transcript
+transcript_by fails stock bytes o words is = ap (by_options present_stage fails stock bytes) is
 
--- what holds of the run of an input holds of the transcript without words
-pub told_run : (left : Option (List ℕ)) (P : List Filed → Type 0) (Q : List ℕ → Transcript → Type 0) (words : List (String Global)) (run : Transcript)
-    → words ≡ [] → IfSome left (λ bytes. run ≡ whole_run bytes) → IfSome left (λ bytes. Q bytes run)
-    → IfSome left (λ bytes. (stock : List Filed) → P stock → Q bytes (present_transcript (map string_bytes words) stock bytes))
-told_run None P Q words run none is holds = tt
-told_run (Some bytes) P Q [] run none is holds = λ stock told. subst (Q bytes) (is ∙ sym (present_run stock bytes)) holds
-told_run (Some bytes) P Q (word ∷ words) run none is holds = λ stock told. absurd (cc)
+-- what a run says of each input and stock, where it stands for what is asked for
+abbrev Tells : Option (List ℕ) → Option (List Filed) → (Options → Type 0) → (List ℕ → List Filed → Options → Type 0) → Type 0
+Tells left files asked P = IfSome left (λ bytes. (stock : List Filed) → files ≡ Some stock → (o : Options) → asked o → P bytes stock o)
 
--- ---- the clauses for a run of the commands
+pub headline_by : (left : Option (List ℕ)) (files : Option (List Filed)) (asked : Options → Type 0) (o : Options) (words : Option Options) (old now : Option (List ℕ)) (answer : Status) (before after : Faults) → Some o ≡ words → asked o
+    → Tells left files asked (λ bytes stock p. after.source ≡ before.source → after.shelf ≡ before.shelf → after.sink ≡ before.sink → (answer ≡ status.NoMemory → ⊥) → IsTranscript old now answer (whole_transcript None stock bytes p))
+    → IfSome left (λ bytes. (stock : List Filed) → files ≡ Some stock → after.source ≡ before.source → after.shelf ≡ before.shelf → after.sink ≡ before.sink → (answer ≡ status.NoMemory → ⊥)
+    → IsTranscript old now answer (by_options present_stage None stock bytes words))
+headline_by None files asked o words old now answer before after is asks tells = tt
+headline_by (Some bytes) files asked o words old now answer before after is asks tells = λ stock told source shelf sink some.
+    subst (IsTranscript old now answer) (transcript_by None stock bytes o words is) (tells stock told o asks source shelf sink some)
 
-always_told : (left : Option (List ℕ)) (P : Type 0) → P → IfSome left (λ bytes. P)
-always_told None P h = tt
-always_told (Some bytes) P h = h
+pub answers_by : (left rest : Option (List ℕ)) (files : Option (List Filed)) (asked : Options → Type 0) (o : Options) (words : Option Options) (old now : Option (List ℕ)) (answer : Status) (before after : Faults) → Some o ≡ words → asked o
+    → Tells left files asked (λ bytes stock p. Answers before after bytes rest (comes_to_input stock p) old now (whole_transcript None stock bytes p) answer)
+    → IfSome left (λ bytes. (stock : List Filed) → files ≡ Some stock → Answers before after bytes rest (comes_by stock words) old now (by_options present_stage None stock bytes words) answer)
+answers_by None rest files asked o words old now answer before after is asks tells = tt
+answers_by (Some bytes) rest files asked o words old now answer before after is asks tells = λ stock told.
+    subst (λ t. Answers before after bytes rest (comes_by stock words) old now t answer) (transcript_by None stock bytes o words is)
+    (subst (λ w. Answers before after bytes rest (comes_by stock w) old now (whole_transcript None stock bytes o) answer) is (tells stock told o asks))
 
--- the run of the bytes that are run, of which the input has more or not
-abbrev pub run_of : Bool → List ℕ → Transcript
-run_of goes_on bytes = run_from goes_on (first_session 1) false (cuts_of (not goes_on) bytes)
+pub prefix_by : (left : Option (List ℕ)) (files : Option (List Filed)) (asked : Options → Type 0) (o : Options) (words : Option Options) (old now : Option (List ℕ)) → Some o ≡ words → asked o
+    → Tells left files asked (λ bytes stock p. AppendsSome old now (whole_transcript None stock bytes p).text)
+    → IfSome left (λ bytes. (stock : List Filed) → files ≡ Some stock → AppendsSome old now (by_options present_stage None stock bytes words).text)
+prefix_by None files asked o words old now is asks tells = tt
+prefix_by (Some bytes) files asked o words old now is asks tells = λ stock told.
+    subst (λ (t : Transcript). AppendsSome old now t.text) (transcript_by None stock bytes o words is) (tells stock told o asks)
 
--- the commands of a slice that is this text
-pub transcript_of : (old new : Option (List ℕ)) (answer : Status) (goes_on : Bool) (end : End) (slice text : List ℕ) → Appends old new (run_of goes_on slice).text
-    → end_status goes_on end ≡ (run_of goes_on slice).status → answer ≡ end_status goes_on end → slice ≡ text → IsTranscript old new answer (run_of goes_on text)
-transcript_of old new answer goes_on end slice text written ends it is = record {
-  text = subst (λ t. Appends old new (run_of goes_on t).text) is written;
-  status = it ∙ ends ∙ ap (λ t. (run_of goes_on t).status) is;
-}
+fetch_at : (old now : Option (List ℕ)) (n : ℕ) (fetched : Option ℕ) (first second : ℕ → Transcript) → ((number : ℕ) → first number ≡ second number) → EndsAtFetch old now n fetched first → EndsAtFetch old now n fetched second
+fetch_at old now n fetched first second same e = record { count = e.count; counted = e.counted; written = subst (IsTranscript old now status.FileFault) (same (suc e.count)) e.written }
 
-pub prefix_of : (old new : Option (List ℕ)) (goes_on : Bool) (slice text : List ℕ) → AppendsSome old new (run_of goes_on slice).text
-    → slice ≡ text → AppendsSome old new (run_of goes_on text).text
-prefix_of old new goes_on slice text some is = subst (λ t. AppendsSome old new (run_of goes_on t).text) is some
+pub fetch_by : (left : Option (List ℕ)) (files : Option (List Filed)) (asked : Options → Type 0) (o : Options) (words : Option Options) (old now : Option (List ℕ)) (answer : Status) (first last : Option ℕ) → Some o ≡ words → asked o
+    → Tells left files asked (λ bytes stock p. (n : ℕ) → n < 2 ^ 63 → first ≡ Some n → answer ≡ status.FileFault → EndsAtFetch old now n last (λ number. whole_transcript (Some number) stock bytes p))
+    → IfSome left (λ bytes. (stock : List Filed) → files ≡ Some stock → (n : ℕ) → n < 2 ^ 63 → first ≡ Some n → answer ≡ status.FileFault
+    → EndsAtFetch old now n last (λ number. by_options present_stage (Some number) stock bytes words))
+fetch_by None files asked o words old now answer first last is asks tells = tt
+fetch_by (Some bytes) files asked o words old now answer first last is asks tells = λ stock told n small counts fault.
+    fetch_at old now n last (λ number. whole_transcript (Some number) stock bytes o) (λ number. by_options present_stage (Some number) stock bytes words) (λ number. transcript_by (Some number) stock bytes o words is)
+    (tells stock told o asks n small counts fault)
 
-pub headline_run : (left : Option (List ℕ)) (P : List Filed → Type 0) (A B C D : Type 0) (old new : Option (List ℕ)) (answer : Status) (words : List (String Global)) (run : Transcript)
-    → words ≡ [] → IfSome left (λ bytes. run ≡ whole_run bytes) → IsTranscript old new answer run
-    → IfSome left (λ bytes. (stock : List Filed) → P stock → A → B → C → D → IsTranscript old new answer (present_transcript (map string_bytes words) stock bytes))
-headline_run left P A B C D old new answer words run none is it =
-    told_run left P (λ bytes t. A → B → C → D → IsTranscript old new answer t) words run none is (always_told left _ (λ a b c d. it))
+pub complete_by : (left : Option (List ℕ)) (files : Option (List Filed)) (asked : Options → Type 0) (o : Options) (words : Option Options) (answer : Status) (before after : Faults) → Some o ≡ words → asked o
+    → Tells left files asked (λ bytes stock p. ((whole_transcript None stock bytes p).status ≡ status.Limit → ⊥) → ((whole_transcript None stock bytes p).status ≡ status.TooLong → ⊥)
+    → after.source ≡ before.source → after.shelf ≡ before.shelf → after.sink ≡ before.sink → IsComplete answer)
+    → IfSome left (λ bytes. (stock : List Filed) → files ≡ Some stock → (words ≡ None → ⊥) → ((by_options present_stage None stock bytes words).status ≡ status.Limit → ⊥) → ((by_options present_stage None stock bytes words).status ≡ status.TooLong → ⊥)
+    → after.source ≡ before.source → after.shelf ≡ before.shelf → after.sink ≡ before.sink → IsComplete answer)
+complete_by None files asked o words answer before after is asks tells = tt
+complete_by (Some bytes) files asked o words answer before after is asks tells = λ stock told form free short.
+    let same = transcript_by None stock bytes o words is in
+    tells stock told o asks (λ e. free (ap (λ (t : Transcript). t.status) (sym same) ∙ e)) (λ e. short (ap (λ (t : Transcript). t.status) (sym same) ∙ e))
 
-pub prefix_run : (left : Option (List ℕ)) (P : List Filed → Type 0) (old new : Option (List ℕ)) (words : List (String Global)) (run : Transcript)
-    → words ≡ [] → IfSome left (λ bytes. run ≡ whole_run bytes) → AppendsSome old new run.text
-    → IfSome left (λ bytes. (stock : List Filed) → P stock → AppendsSome old new (present_transcript (map string_bytes words) stock bytes).text)
-prefix_run left P old new words run none is some = told_run left P (λ bytes t. AppendsSome old new t.text) words run none is (always_told left _ some)
+pub long_by : (left : Option (List ℕ)) (files : Option (List Filed)) (asked : Options → Type 0) (o : Options) (words : Option Options) (answer : Status) → Some o ≡ words → asked o
+    → Tells left files asked (λ bytes stock p. answer ≡ status.TooLong → IsTooLong p.generate stock bytes)
+    → IfSome left (λ bytes. (stock : List Filed) → files ≡ Some stock → answer ≡ status.TooLong → IsLongBy stock bytes words)
+long_by None files asked o words answer is asks tells = tt
+long_by (Some bytes) files asked o words answer is asks tells = λ stock told long. subst (IsLongBy stock bytes) is (tells stock told o asks long)
 
--- the answer of a run whose commands ended so
-answers_end : (before now : Faults) (bytes : List ℕ) (left old new : Option (List ℕ)) (run : Transcript) (goes_on : Bool) (end : End)
-    → now ≡ before → (goes_on ≡ false → left ≡ Some []) → IsTranscript old new (end_status goes_on end) run → Answers before now bytes left old new run (end_status goes_on end)
-answers_end before now bytes left old new run true (ends.All refused) calm rest it = (calm, it)
-answers_end before now bytes left old new run false (ends.All true) calm rest it = ((calm, it), rest refl)
-answers_end before now bytes left old new run false (ends.All false) calm rest it = ((calm, it), rest refl)
-answers_end before now bytes left old new run goes_on ends.Limit calm rest it = (calm, it)
-answers_end before now bytes left old new run goes_on ends.TooLong calm rest it = (calm, it)
+-- what the words ask for, as it is handed on
+pub asked_so : (stands : Session → Type 0) (o : Options) (generate : Option ℕ) (names : List (List ℕ)) → generate ≡ o.generate → names ≡ o.files → stands (first_session (level_of o.watch)) → IsAsked stands o generate names
+asked_so stands o generate names script files session = record { script = script; files = files; session = session }
 
-pub answers_run : (left : Option (List ℕ)) (P : List Filed → Type 0) (before now : Faults) (rest old new : Option (List ℕ)) (answer : Status) (words : List (String Global)) (run : Transcript)
-    → (goes_on : Bool) (end : End) → words ≡ [] → IfSome left (λ bytes. run ≡ whole_run bytes)
-    → IsTranscript old new answer run → answer ≡ end_status goes_on end → now ≡ before → IfSome left (λ bytes. goes_on ≡ false → rest ≡ Some [])
-    → IfSome left (λ bytes. (stock : List Filed) → P stock → Answers before now bytes rest old new (present_transcript (map string_bytes words) stock bytes) answer)
-answers_run left P before now rest old new answer words run goes_on end none is it ended calm read =
-    told_run left P (λ bytes t. Answers before now bytes rest old new t answer) words run none is (by left read)
-  where
-    by : (l : Option (List ℕ)) → IfSome l (λ bytes. goes_on ≡ false → rest ≡ Some []) → IfSome l (λ bytes. Answers before now bytes rest old new run answer)
-    by None read = tt
-    by (Some bytes) read =
-        subst (Answers before now bytes rest old new run) (sym ended)
-        (answers_end before now bytes rest old new run goes_on end calm read (subst (λ a. IsTranscript old new a run) ended it))
+-- the options that were read, and the session that was made
+pub options_told : (read : Option Start) (start : Start) (words : Option Options) → read ≡ Some start → option_map (λ (s : Start). options_seen s.options) read ≡ words → Some (options_seen start.options) ≡ words
+options_told read start words is told = ap (option_map (λ (s : Start). options_seen s.options)) (sym is) ∙ told
 
-pub same_faults : (source source_now shelf sink sink_now : ℕ) → source_now ≡ source → sink_now ≡ sink
-    → (let f : Faults = record { source = source_now; shelf = shelf; sink = sink_now } in f) ≡ record { source = source; shelf = shelf; sink = sink }
-same_faults source source_now shelf sink sink_now same same_sink = cc
-
--- ---- completeness
-
--- a run that ends so is not cut short
-abbrev IsFree : Status → Type 0
-IsFree s = (s ≡ status.Limit → ⊥) × (s ≡ status.TooLong → ⊥)
-
--- commands that reach no limit, none of them too long, are all carried out
-ends_well : (s : Session) (refused : Bool) (cuts : List Cut) → IsFree (run_from false s refused cuts).status → IsComplete (run_from false s refused cuts).status
-ends_well s true [] free = tt
-ends_well s false [] free = tt
-ends_well s refused (too_long ∷ cuts) free = absurd (free.1 refl)
-ends_well s refused (c ∷ cuts) free = by (limit_told (reply_to c s).told) refl (λ next again. ends_well next (refused || again) cuts)
-  where
-    by : (o : Option Which) → limit_told (reply_to c s).told ≡ o
-        → ((next : Session) (again : Bool) → IsFree (run_from false next (refused || again) cuts).status → IsComplete (run_from false next (refused || again) cuts).status)
-        → IsComplete (run_from false s refused (c ∷ cuts)).status
-    by None within later =
-        let step = ap (λ t. t.status) (one_command false refused s c cuts tt within) in
-        subst IsComplete (sym step) (later (session_after s (reply_to c s)) (reply_to c s).refused (subst IsFree step free))
-    by (Some limit) passed later = absurd (free.0 (ap (λ t. t.status) (last_command false refused s c cuts limit tt passed)))
-
-test_false : (n m : ℕ) → m ≤ n → nat_lt n m ≡ false
-test_false n m h = grind (arith, common_steps)
-
-input_ends_well : (bytes : List ℕ) → length bytes ≤ 2 ^ 26 → IsFree (whole_run bytes).status → IsComplete (whole_run bytes).status
-input_ends_well bytes short free =
-    let is : (whole_run bytes).status ≡ (run_of false bytes).status =
-    ap (λ b. (if b then run_of true (take (2 ^ 26) bytes) else run_of false bytes).status) (test_false (2 ^ 26) (length bytes) short) in
-    subst IsComplete (sym is) (ends_well (first_session 1) false (cuts_of true bytes) (subst IsFree is free))
-
--- the status of a run of an input that is whole
-pub complete_run : (left : Option (List ℕ)) (P : List Filed → Type 0) (A B C : Type 0) (words : List (String Global)) (goes_on : Bool) (text : List ℕ) (answer : Status)
-    → IfSome left (λ bytes. run_of goes_on text ≡ whole_run bytes)
-    → answer ≡ (run_of goes_on text).status
-    → IfSome left (λ bytes. (stock : List Filed) → P stock → words ≡ [] → length bytes ≤ 2 ^ 26
-    → ((present_transcript (map string_bytes words) stock bytes).status ≡ status.Limit → ⊥)
-    → ((present_transcript (map string_bytes words) stock bytes).status ≡ status.TooLong → ⊥) → A → B → C → IsComplete answer)
-complete_run None P A B C words goes_on text answer runs is = tt
-complete_run (Some bytes) P A B C [] goes_on text answer runs is = λ stock told none short unlimited fits a b c.
-    subst IsComplete (sym (is ∙ ap (λ t. t.status) runs)) (input_ends_well bytes short (subst IsFree (ap (λ t. t.status) (present_run stock bytes)) (unlimited, fits)))
-complete_run (Some bytes) P A B C (word ∷ words) goes_on text answer runs is = λ stock told none short unlimited fits a b c. absurd (cc)
+pub session_told : (read : Option Start) (start : Start) → read ≡ Some start → IfSome read (λ (s : Start). StandsFor s.speaker.session (first_session (level_of s.options.watch)))
+    → StandsFor start.speaker.session (first_session (level_of start.options.watch))
+session_told read start is told = subst (λ r. IfSome r (λ (s : Start). StandsFor s.speaker.session (first_session (level_of s.options.watch)))) is told

@@ -1,7 +1,4 @@
-pub mod Answers
+pub mod Asked
 pub mod Cycles
-pub mod Lengths
-pub mod Reading
 pub mod Ready
-pub mod Runs
 pub mod Spoken

@@ -3,12 +3,13 @@ ghost use Rattle.std.specs.Prelude.{◌≡◌, ◌-◌, ◌<◌, ◌^◌, true, 
 ghost use Rattle.soar_edge.specs.Outside.{Appends, AppendsSome, HasPutCause};
 ghost use Rattle.defs_soar.specs.History.{RecordedFiring};
 ghost use Rattle.defs_run.specs.Present.{run_present};
+ghost use Rattle.command_runs.specs.Carrying.{IsReadyAfter};
 ghost use Rattle.wave_parts.specs.Remembers.{Remembers};
 ghost use Rattle.wave_parts.specs.Seen.{agent_of};
 ghost use Rattle.soar_run.specs.Cycles.{IsRanOk, WritesCycle, course_text, cycle_of};
-ghost use Rattle.soar_run.specs.Ready.{IsReadyAfter, IsReadySession};
+ghost use Rattle.soar_run.specs.Ready.{IsReadySession};
 
-use crate::step::Answered;
+use command_runs::{Answered, Next};
 use defs_match::Matcher;
 use soar_agent::{Session, Stop};
 use soar_edge::{PutFault, Sink, put_all};
@@ -24,17 +25,17 @@ pub fn run_cycles<M: Matcher, O: Sink>(
 ) -> Result<Answered, PutFault>
     requires ready { IsReadySession session.old }
     requires sink { O.faults out.old < 2 ^ 64 - 1 }
-    ensures course { (history : ListOf RecordedFiring) → Remembers session.old.agent.parts history → IsRanOk session.old.agent.mid_line (run_present count (agent_of session.old.agent.parts history)) session.old session.new result }
+    ensures course { (history : ListOf RecordedFiring) → Remembers session.old.agent.parts history → IsRanOk session.old.agent.parts.settings.watch session.old.agent.mid_line (run_present count (agent_of session.old.agent.parts history)) session.old session.new result }
     ensures written { (history : ListOf RecordedFiring) → Remembers session.old.agent.parts history →
-        OnOk result (Appends (O.written out.old) (O.written out.new) (course_text session.old.agent.mid_line (run_present count (agent_of session.old.agent.parts history)))) }
+        OnOk result (Appends (O.written out.old) (O.written out.new) (course_text session.old.agent.parts.settings.watch session.old.agent.mid_line (run_present count (agent_of session.old.agent.parts history)))) }
     ensures prefix { (history : ListOf RecordedFiring) → Remembers session.old.agent.parts history →
-        AppendsSome (O.written out.old) (O.written out.new) (course_text session.old.agent.mid_line (run_present count (agent_of session.old.agent.parts history))) }
-    ensures ready { IsReadyAfter session.new result }
+        AppendsSome (O.written out.old) (O.written out.new) (course_text session.old.agent.parts.settings.watch session.old.agent.mid_line (run_present count (agent_of session.old.agent.parts history))) }
+    ensures ready { IsReadyAfter (IsReadySession session.new) result }
     ensures cause { HasPutCause (O.faults out.old) (O.faults out.new) result }
 {
     'cycles: for number in 0..count {
         if session.agent.halted() {
-            return Ok(Answered::Went(false));
+            return Ok(Answered::Went(false, Next::Command));
         }
         match write_cycle(alloc, session, out) {
             Ok(true) => {}
@@ -42,7 +43,7 @@ pub fn run_cycles<M: Matcher, O: Sink>(
             Err(fault) => return Err(fault),
         }
     }
-    Ok(Answered::Went(false))
+    Ok(Answered::Went(false, Next::Command))
 }
 
 /// Runs a cycle, and writes what it says. False where it passes a limit.
@@ -54,10 +55,11 @@ fn write_cycle<M: Matcher, O: Sink>(
     requires ready { IsReadySession session.old }
     requires sink { O.faults out.old < 2 ^ 64 - 1 }
     ensures course { (history : ListOf RecordedFiring) → Remembers session.old.agent.parts history →
-        WritesCycle session.old.agent.mid_line (cycle_of (agent_of session.old.agent.parts history)) session.new.agent (O.written out.old) (O.written out.new) result }
+        WritesCycle session.old.agent.parts.settings.watch session.old.agent.mid_line (cycle_of (agent_of session.old.agent.parts history)) session.new.agent (O.written out.old) (O.written out.new) result }
     ensures prefix { (history : ListOf RecordedFiring) → Remembers session.old.agent.parts history →
-        AppendsSome (O.written out.old) (O.written out.new) (course_text session.old.agent.mid_line (cycle_of (agent_of session.old.agent.parts history))) }
+        AppendsSome (O.written out.old) (O.written out.new) (course_text session.old.agent.parts.settings.watch session.old.agent.mid_line (cycle_of (agent_of session.old.agent.parts history))) }
     ensures labels { session.new.labels ≡ session.old.labels }
+    ensures settings { session.new.agent.parts.settings ≡ session.old.agent.parts.settings }
     ensures ready { result ≡ Ok true → IsReadySession session.new }
     ensures cause { HasPutCause (O.faults out.old) (O.faults out.new) result }
 {

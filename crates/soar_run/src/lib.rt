@@ -2,9 +2,7 @@
 #![tactic(auto)]
 
 mod cycles;
-mod read;
-mod run;
-mod script;
+mod speaker;
 mod step;
 mod top;
 

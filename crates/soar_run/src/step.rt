@@ -1,56 +1,40 @@
 // One command after another.
-ghost use Rattle.std.specs.Prelude.{◌≡◌, ◌-◌, ◌<◌, ◌≤◌, ◌^◌, [], Ok, List as ListOf, length, IfOk, OnOk};
+ghost use Rattle.std.specs.Prelude.{◌≡◌, ◌-◌, ◌<◌, ◌≤◌, ◌^◌, ℕ, [], Ok, List as ListOf, length, IfOk, OnOk};
 ghost use Rattle.soar_edge.specs.Outside.{Appends, AppendsSome, HasPutCause};
-ghost use Rattle.soar_edge.specs.Cutting.{unfinished, whole};
-ghost use Rattle.defs_soar.specs.History.{RecordedFiring};
-ghost use Rattle.defs_run.specs.Sessions.{Reply};
-ghost use Rattle.wave_parts.specs.Remembers.{Remembers};
-ghost use Rattle.soar_agent.specs.Commands.{Outcomes};
-ghost use Rattle.soar_agent.specs.States.{session_of};
-ghost use Rattle.soar_agent.specs.Writing.{step_text};
-ghost use Rattle.soar_agent.specs.declared.state.Session.{Session as SessionKept};
-ghost use Rattle.soar_run.specs.Ready.{IsReadyAfter, IsReadySession};
-ghost use Rattle.soar_run.specs.Runs.{reply_to};
-ghost use Rattle.soar_run.specs.Spoken.{IsAnsweredOk};
+ghost use Rattle.defs_run.specs.Present.{present_stage};
+ghost use Rattle.defs_run.specs.Runs.{obeyed};
+ghost use Rattle.defs_run.specs.Sessions.{Reply, Session as SessionOf, refused_by};
+ghost use Rattle.command_runs.specs.Carrying.{IsReadyAfter, Refuses, Speaks, refusal_of};
+ghost use Rattle.soar_agent.specs.Commands.{IsToldByCaller, Outcomes, refusal_told};
+ghost use Rattle.soar_run.specs.Ready.{IsReadySession};
+ghost use Rattle.soar_run.specs.Spoken.{StandsFor};
 
 use crate::cycles::run_cycles;
+use command_runs::{Answered, Next, Unread};
 use defs_match::Matcher;
 use soar_agent::{Outcome, Session, Stop};
 use soar_edge::{Command, PutFault, Sink, put_all};
-use soar_sym::{NoMemory, Text};
+use soar_sym::Text;
 use std::alloc::Global;
 
-/// The source that refusals name.
-const STANDARD_INPUT: &str = "-";
-
-/// How a command went: it was carried out, and refused or not, or it would have passed a limit.
-#[derive(Clone, Copy, PartialEq, Eq)]
-pub enum Answered {
-    Went(bool),
-    Stopped,
-}
-
-/// Carries a command out, and writes what it says; what each of its cycles says before the next begins.
-pub fn answer<M: Matcher, O: Sink>(
+/// Carries a command of a source out, and writes what it says; what each of its cycles says before the next begins.
+pub fn answer_command<M: Matcher, O: Sink>(
     alloc: Global,
     session: &mut Session<M>,
     command: &Command,
+    source: &str,
     out: &mut O,
 ) -> Result<Answered, PutFault>
     requires short { length command.now.text ≤ 2 ^ 26 }
     requires ready { IsReadySession session.old }
     requires sink { O.faults out.old < 2 ^ 64 - 1 }
-    ensures answer { (history : ListOf RecordedFiring) → Remembers session.old.agent.parts history → let s = session_of session.old history in
-        IsAnsweredOk s (reply_to (whole command.now.line command.now.text) s) session.new result }
-    ensures written { (history : ListOf RecordedFiring) → Remembers session.old.agent.parts history → let s = session_of session.old history in
-        OnOk result (Appends (O.written out.old) (O.written out.new) (step_text s (reply_to (whole command.now.line command.now.text) s))) }
-    ensures prefix { (history : ListOf RecordedFiring) → Remembers session.old.agent.parts history → let s = session_of session.old history in
-        AppendsSome (O.written out.old) (O.written out.new) (step_text s (reply_to (whole command.now.line command.now.text) s)) }
-    ensures ready { IsReadyAfter session.new result }
+    ensures answer { (s : SessionOf) → StandsFor session.old s →
+        Speaks (StandsFor session.new) s (obeyed present_stage source.now command.now.line command.now.text s) (O.written out.old) (O.written out.new) result }
+    ensures ready { IsReadyAfter (IsReadySession session.new) result }
     ensures cause { HasPutCause (O.faults out.old) (O.faults out.new) result }
 {
     let mut text = Text::new(alloc);
-    match session.command(command, STANDARD_INPUT, &mut text) {
+    match session.command(command, source, &mut text) {
         Ok(outcome) => follow(alloc, session, outcome, &text, out),
         Err(Stop::Limit(limit)) => {
             let _ = limit;
@@ -70,19 +54,17 @@ fn follow<M: Matcher, O: Sink>(
 ) -> Result<Answered, PutFault>
     requires ready { IsReadySession session.old }
     requires sink { O.faults out.old < 2 ^ 64 - 1 }
-    ensures answer { (old : SessionKept M) (history : ListOf RecordedFiring) (reply : Reply) → Outcomes old.agent.mid_line reply session.old [] text.now (Ok outcome)
-        → IsAnsweredOk (session_of old history) reply session.new result }
-    ensures written { (old : SessionKept M) (history : ListOf RecordedFiring) (reply : Reply) → Outcomes old.agent.mid_line reply session.old [] text.now (Ok outcome)
-        → OnOk result (Appends (O.written out.old) (O.written out.new) (step_text (session_of old history) reply)) }
-    ensures prefix { (old : SessionKept M) (history : ListOf RecordedFiring) (reply : Reply) → Outcomes old.agent.mid_line reply session.old [] text.now (Ok outcome)
-        → AppendsSome (O.written out.old) (O.written out.new) (step_text (session_of old history) reply) }
-    ensures ready { IsReadyAfter session.new result }
+    ensures answer { (s : SessionOf) (reply : Reply) → Outcomes s.agent.settings.watch s.mid_line reply session.old [] text.now (Ok outcome)
+        → Speaks (StandsFor session.new) s reply (O.written out.old) (O.written out.new) result }
+    ensures ready { IsReadyAfter (IsReadySession session.new) result }
     ensures cause { HasPutCause (O.faults out.old) (O.faults out.new) result }
 {
     match outcome {
-        Outcome::Done => put_answer(out, text, Answered::Went(false)),
-        Outcome::Refused => put_answer(out, text, Answered::Went(true)),
+        Outcome::Done => put_answer(out, text, Answered::Went(false, Next::Command)),
+        Outcome::Refused => put_answer(out, text, Answered::Went(true, Next::Command)),
         Outcome::Run(count) => run_cycles(alloc, session, count, out),
+        Outcome::Source(name) => put_answer(out, text, Answered::Went(false, Next::File(name))),
+        Outcome::Quit => put_answer(out, text, Answered::Went(false, Next::End)),
     }
 }
 
@@ -98,43 +80,39 @@ fn put_answer<O: Sink>(out: &mut O, text: &Text, answer: Answered) -> Result<Ans
     Ok(answer)
 }
 
-/// Refuses a command of a line that has no end, and writes that.
-pub fn answer_unfinished<M: Matcher, O: Sink>(
+/// Refuses on a line of a source what is no command, and writes that.
+pub fn refuse_told<M: Matcher, O: Sink>(
     alloc: Global,
     session: &mut Session<M>,
+    why: Unread,
+    name: &str,
+    source: &str,
     line: u64,
     out: &mut O,
 ) -> Result<(), PutFault>
     requires ready { IsReadySession session.old }
     requires sink { O.faults out.old < 2 ^ 64 - 1 }
-    ensures written { (history : ListOf RecordedFiring) → Remembers session.old.agent.parts history → let s = session_of session.old history in
-        OnOk result (Appends (O.written out.old) (O.written out.new) (step_text s (reply_to (unfinished line) s))) }
-    ensures prefix { (history : ListOf RecordedFiring) → Remembers session.old.agent.parts history → let s = session_of session.old history in
-        AppendsSome (O.written out.old) (O.written out.new) (step_text s (reply_to (unfinished line) s)) }
+    ensures answer { (s : SessionOf) → StandsFor session.old s →
+        Refuses (StandsFor session.new) s (refused_by (refusal_of why name.now) source.now line s) (O.written out.old) (O.written out.new) result }
+    ensures ready { IfOk result (λ _. IsReadySession session.new) }
     ensures cause { HasPutCause (O.faults out.old) (O.faults out.new) result }
 {
-    match refuse_unfinished(alloc, session, line) {
-        Ok(text) => put_all(out, text.as_str().as_bytes()),
+    let mut text = Text::new(alloc);
+    match session.refuse(number_of(why), source, line, name, &mut text) {
+        Ok(()) => put_all(out, text.as_str().as_bytes()),
         Err(_) => Err(PutFault::NoMemory),
     }
 }
 
-/// Refuses a command of a line that has no end, and gives what is written then.
-fn refuse_unfinished<M: Matcher>(
-    alloc: Global,
-    session: &mut Session<M>,
-    line: u64,
-) -> Result<Text, NoMemory>
-    requires { IsReadySession session.old }
-    ensures { (history : ListOf RecordedFiring) → Remembers session.old.agent.parts history → let s = session_of session.old history in
-        IfOk result (λ text. text ≡ step_text s (reply_to (unfinished line) s)) }
+/// The number of what is refused.
+fn number_of(why: Unread) -> u32
+    ensures told { IsToldByCaller result }
+    ensures refusal { (name : ListOf ℕ) → refusal_told result name ≡ refusal_of why name }
 {
-    let mut text = Text::new(alloc);
-    match session.refuse_unfinished(STANDARD_INPUT, line, &mut text) {
-        Ok(outcome) => {
-            let _ = outcome;
-            Ok(text)
-        }
-        Err(_) => Err(NoMemory),
+    match why {
+        Unread::Unfinished => 11,
+        Unread::NoFile => 40,
+        Unread::TooDeep => 41,
+        Unread::TooMany => 42,
     }
 }

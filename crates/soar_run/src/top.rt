@@ -1,23 +1,29 @@
-ghost use Rattle.std.specs.Prelude.{◌≡◌, ◌≢◌, ◌-◌, ◌^◌, ◌<◌, ◌≤◌, [], List as ListOf, map, length, string_bytes, ◌⊎◌, Some, IfSome, OnOk};
+ghost use Rattle.std.specs.Prelude.{◌≡◌, ◌≢◌, ◌-◌, ◌^◌, ◌<◌, ℕ, [], List as ListOf, map, string_bytes, ◌⊎◌, Some, None, IfOk, IfSome, OnOk, option_map};
 ghost use Rattle.soar_edge.specs.Outside.{Appends, AppendsSome, Rose, HasPutCause};
 ghost use Rattle.soar_edge.specs.declared.filed.Filed.{Filed};
-ghost use Rattle.defs_run.specs.Present.{present_transcript};
+ghost use Rattle.defs_run.specs.CommandLine.{options_of};
+ghost use Rattle.defs_run.specs.Present.{failing_transcript, present_transcript};
 ghost use Rattle.defs_run.specs.Transcripts.{usage_text};
-ghost use Rattle.defs_soar.specs.declared.limit.Which.{Which as Limit};
-ghost use Rattle.soar_run.specs.Answers.{Answers, IsComplete, IsTranscript, fault_status};
-ghost use Rattle.soar_run.specs.Lengths.{IsTooLong};
-ghost use Rattle.soar_run.specs.Runs.{ended, end_status};
+ghost use Rattle.command_runs.specs.Answers.{Answers, EndsAtFetch, IsComplete, IsTranscript};
+ghost use Rattle.command_runs.specs.Whole.{level_of};
+ghost use Rattle.defs_run.specs.Sessions.{first_session};
+ghost use Rattle.command_words.specs.Seen.{options_seen};
+ghost use Rattle.soar_run.specs.Asked.{IsTooLongBy, comes_to_input_by, usage_status};
+ghost use Rattle.soar_run.specs.Ready.{IsReadySession};
+ghost use Rattle.soar_run.specs.Spoken.{StandsFor};
 
-use crate::read::InputFault;
-use crate::run::{End, run_all};
-use crate::script::read_script;
+use crate::speaker::{Speaker, first_speaker};
+use command_runs::run_whole;
+use command_words::{Options, read_options};
+use match_direct::Direct;
 use soar_edge::{PutFault, Shelf, Sink, Source, Status, put_all};
+use soar_sym::NoMemory;
 use std::alloc::Global;
 
 /// The line for words that aren't of the form that is asked for.
 const USAGE: &str = "usage: soar_app [--watch N] [--generate N] [FILE]...\n";
 
-/// Runs the commands of an input, and ends with how that went. No word is taken yet, so no file is read.
+/// Runs the files that the words name and then the input, or a script in their place, and ends with how that went.
 pub fn run_soar<I: Source, F: Shelf, O: Sink>(
     alloc: Global,
     words: &Vec<String>,
@@ -37,42 +43,79 @@ pub fn run_soar<I: Source, F: Shelf, O: Sink>(
     ensures answers { IfSome (I.left input.old) (λ bytes. (stock : ListOf Filed) → F.files files.old ≡ Some stock
         → Answers (record { source = I.faults input.old; shelf = F.faults files.old; sink = O.faults out.old })
         (record { source = I.faults input.new; shelf = F.faults files.new; sink = O.faults out.new })
-        bytes (I.left input.new) (O.written out.old) (O.written out.new) (present_transcript (map string_bytes words.now.items) stock bytes) result) }
+        bytes (I.left input.new) (comes_to_input_by (map string_bytes words.now.items) stock) (O.written out.old) (O.written out.new) (present_transcript (map string_bytes words.now.items) stock bytes) result) }
     // Whatever fails, the bytes written are those at the transcript's front.
     ensures prefix { IfSome (I.left input.old) (λ bytes. (stock : ListOf Filed) → F.files files.old ≡ Some stock
         → AppendsSome (O.written out.old) (O.written out.new) (present_transcript (map string_bytes words.now.items) stock bytes).text) }
-    // Without words, an input of at most 64 MiB that reaches no limit and has no command of more than 1 MiB is carried out whole, unless memory runs out.
+    // Where a fetch fails, all is written that comes before it. The shelf's count of fetches is far from its last value.
+    ensures before_fetch { IfSome (I.left input.old) (λ bytes. (stock : ListOf Filed) → F.files files.old ≡ Some stock → (n : ℕ) → n < 2 ^ 63 → F.fetched files.old ≡ Some n → result ≡ Status.FileFault
+        → EndsAtFetch (O.written out.old) (O.written out.new) n (F.fetched files.new) (λ number. failing_transcript number (map string_bytes words.now.items) stock bytes)) }
+    // Words of the form, and an input and files that reach no limit and are not too long, are carried out whole, unless memory runs out.
     ensures complete { IfSome (I.left input.old) (λ bytes. (stock : ListOf Filed) → F.files files.old ≡ Some stock
-        → words.now.items ≡ [] → length bytes ≤ 2 ^ 26 → (present_transcript (map string_bytes words.now.items) stock bytes).status ≢ Status.Limit
+        → options_of (map string_bytes words.now.items) ≢ None → (present_transcript (map string_bytes words.now.items) stock bytes).status ≢ Status.Limit
         → (present_transcript (map string_bytes words.now.items) stock bytes).status ≢ Status.TooLong
         → I.faults input.new ≡ I.faults input.old → F.faults files.new ≡ F.faults files.old → O.faults out.new ≡ O.faults out.old
         → IsComplete result) }
-    // An input is too long only where it has more than 64 MiB, or a command of more than 1 MiB.
-    ensures too_long { IfSome (I.left input.old) (λ bytes. (stock : ListOf Filed) → F.files files.old ≡ Some stock → result ≡ Status.TooLong → IsTooLong bytes) }
+    // A run ends as too long only where the input or a file has more than 64 MiB, or a command of them or of a script more than 1 MiB.
+    ensures too_long { IfSome (I.left input.old) (λ bytes. (stock : ListOf Filed) → F.files files.old ≡ Some stock → result ≡ Status.TooLong → IsTooLongBy (map string_bytes words.now.items) stock bytes) }
 
     // These hold where nothing is told, too.
     ensures read { result ≡ Status.ReadFault → Rose (I.faults input.old) (I.faults input.new) }
     ensures write { result ≡ Status.WriteFault → Rose (O.faults out.old) (O.faults out.new) }
-    ensures file { result ≢ Status.FileFault }
-    ensures shelf { F.faults files.new ≡ F.faults files.old }
+    ensures file { result ≡ Status.FileFault → Rose (F.faults files.old) (F.faults files.new) }
     ensures calm { result ≢ Status.ReadFault → result ≢ Status.WriteFault → result ≢ Status.FileFault
         → (I.faults input.new ≡ I.faults input.old) × (F.faults files.new ≡ F.faults files.old) × (O.faults out.new ≡ O.faults out.old) }
-    ensures once { (I.faults input.new ≡ I.faults input.old) ⊎ (O.faults out.new ≡ O.faults out.old) }
+    ensures once { ((I.faults input.new ≡ I.faults input.old) × (F.faults files.new ≡ F.faults files.old))
+        ⊎ ((I.faults input.new ≡ I.faults input.old) × (O.faults out.new ≡ O.faults out.old))
+        ⊎ ((F.faults files.new ≡ F.faults files.old) × (O.faults out.new ≡ O.faults out.old)) }
 {
-    let _ = files;
-    if !words.is_empty() {
-        return match write_usage(out) {
-            Ok(()) => Status::Usage,
-            Err(fault) => status_of(fault),
-        };
+    match begin(alloc, words) {
+        Ok(Some(start)) => {
+            let speaker = start.speaker;
+            run_whole(
+                alloc,
+                start.options.generate,
+                start.options.files.as_slice(),
+                speaker,
+                input,
+                files,
+                out,
+            )
+        }
+        Ok(None) => status_of(write_usage(out)),
+        Err(_) => Status::NoMemory,
     }
-    match read_script(alloc, input) {
-        Ok(script) => match run_all(alloc, script.too_long, script.text.as_slice(), out) {
-            Ok(end) => end_of(script.too_long, end),
-            Err(fault) => status_of(fault),
-        },
-        Err(InputFault::Failed) => Status::ReadFault,
-        Err(InputFault::NoMemory) => Status::NoMemory,
+}
+
+/// What the words ask for, and what carries it out.
+#[derive(Drop)]
+struct Start {
+    options: Options,
+    speaker: Speaker<Direct>,
+}
+
+/// Reads the words, and makes the session before the first command. None where the words aren't of the form.
+fn begin(alloc: Global, words: &Vec<String>) -> Result<Option<Start>, NoMemory>
+    ensures options { IfOk result (λ start. option_map (λ s. options_seen s.options) start ≡ options_of (map string_bytes words.now.items)) }
+    ensures stands { IfOk result (λ start. IfSome start (λ s. StandsFor s.speaker.session (first_session (level_of s.options.watch)))) }
+    ensures ready { IfOk result (λ start. IfSome start (λ s. IsReadySession s.speaker.session)) }
+{
+    match read_options(alloc, words)? {
+        Some(options) => {
+            let speaker = first_speaker(alloc, level_of(options.watch))?;
+            Ok(Some(Start { options, speaker }))
+        }
+        None => Ok(None),
+    }
+}
+
+/// The watch level, 1 where none is asked for.
+fn level_of(watch: Option<u8>) -> u8
+    ensures { result ≡ level_of watch }
+{
+    match watch {
+        Some(level) => level,
+        None => 1,
     }
 }
 
@@ -85,33 +128,13 @@ fn write_usage<O: Sink>(out: &mut O) -> Result<(), PutFault>
     put_all(out, USAGE.as_bytes())
 }
 
-fn end_of(too_long: bool, end: End) -> Status
-    ensures { result ≡ end_status too_long end }
+/// How a run ends that writes the usage line alone.
+fn status_of(written: Result<(), PutFault>) -> Status
+    ensures { result ≡ usage_status written }
 {
-    match end {
-        End::All(refused) => ended(too_long, refused),
-        End::Limit => Status::Limit,
-        End::TooLong => Status::TooLong,
-    }
-}
-
-fn ended(too_long: bool, refused: bool) -> Status
-    ensures { result ≡ ended too_long refused }
-{
-    if too_long {
-        Status::TooLong
-    } else if refused {
-        Status::Refusals
-    } else {
-        Status::Done
-    }
-}
-
-fn status_of(fault: PutFault) -> Status
-    ensures { result ≡ fault_status fault }
-{
-    match fault {
-        PutFault::Failed => Status::WriteFault,
-        PutFault::NoMemory => Status::NoMemory,
+    match written {
+        Ok(()) => Status::Usage,
+        Err(PutFault::Failed) => Status::WriteFault,
+        Err(PutFault::NoMemory) => Status::NoMemory,
     }
 }

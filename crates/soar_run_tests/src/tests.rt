@@ -11,11 +11,15 @@ mod cases;
 mod checking;
 mod commands;
 mod failing;
+mod files;
 mod impasses;
 mod labels;
 mod limits;
+mod lists;
+mod pages;
 mod reading;
 mod running;
+mod traces;
 
 /// Runs an input without words and files.
 fn run<I: Source, O: Sink>(alloc: Global, input: &mut I, out: &mut O) -> Status
@@ -38,20 +42,24 @@ fn runs(alloc: Global, piece: usize, bytes: List<u8>, status: Status, text: &str
 }
 
 /// What is read and run without a refusal, but for the tables that take longer.
-const DONE: [&str; 6] = [
+const DONE: [&str; 9] = [
     checking::CHECKED,
     labels::LABELS,
+    lists::LISTED,
     reading::READ,
     running::SELECTED,
     running::LINKED,
     running::HALTED,
+    traces::SHOWN,
+    traces::LEVELS,
 ];
 
 /// What is refused, among what is not.
-const REFUSED: [&str; 6] = [
+const REFUSED: [&str; 7] = [
     checking::FAULTY,
     commands::REFUSED,
     labels::LABELS_REFUSED,
+    lists::LISTS_REFUSED,
     reading::NONE,
     running::RUN_REFUSED,
     impasses::BELOW,

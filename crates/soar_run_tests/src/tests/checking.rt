@@ -169,7 +169,7 @@ error 31 -:9: unknown identifier Q3
 10: (N1 ^operator w)
 no elements
 error 31 -:13: unknown identifier N1
-error 18 -:14: not built
+error 30 -:14: wrong words
 3: (S1 ^io I1)
 4: (S1 ^superstate nil)
 5: (S1 ^type state)

@@ -235,10 +235,10 @@ add-wme S1 ^a 1
 add-wme S1 ^a 1
 =>
 no matches
-error 18 -:2: not built
-error 18 -:3: not built
+error 32 -:2: no production now
+error 30 -:3: wrong words
 error 13 -:4: floating-point number at byte 14
-error 18 -:6: not built
+error 30 -:6: wrong words
 error 36 -:7: reserved attribute
 error 35 -:10: already there as 8
 ;;
@@ -262,10 +262,10 @@ run
 error 31 -:1: unknown identifier Q9
 error 34 -:2: not an input element 5
 error 33 -:3: no element 99
-error 18 -:4: not built
-error 18 -:5: not built
-error 18 -:6: not built
-error 18 -:7: not built
+error 30 -:4: wrong words
+error 30 -:5: wrong words
+error 30 -:6: wrong words
+error 30 -:7: wrong words
 ;;
 # a comment
 sp {e (state <s> ^a 1) (halt)}

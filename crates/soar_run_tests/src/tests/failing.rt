@@ -1,4 +1,4 @@
-// Outsides that fail, and words that are none.
+// Outsides that fail, and words of no form.
 ghost use Rattle.std.specs.Prelude.{◌≤◌};
 
 use super::run;
@@ -22,10 +22,12 @@ fn gives_usage(alloc: Global, word: &str) -> Result<bool, AllocError> {
 }
 
 #[test]
-fn a_word_gives_the_usage(rt: HostRuntime) -> Result<(), Fail> {
+fn a_word_of_no_form_gives_the_usage(rt: HostRuntime) -> Result<(), Fail> {
     let alloc = rt.alloc();
     assert!(rt;
-        gives_usage(alloc, "")? && gives_usage(alloc, "--watch")? && gives_usage(alloc, "a.soar")?
+        gives_usage(alloc, "--watch")?
+            && gives_usage(alloc, "-x")?
+            && gives_usage(alloc, "--watch=6")?
     );
     Ok(())
 }

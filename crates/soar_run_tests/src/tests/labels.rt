@@ -77,16 +77,16 @@ add-wme 1 ^a 1
 print
 print S1 S1
 print 1
-print --wm
+print --wm S1
 =>
-error 18 -:1: not built
-error 18 -:2: not built
-error 18 -:3: not built
-error 18 -:4: not built
-error 18 -:5: not built
-error 18 -:6: not built
-error 18 -:7: not built
-error 18 -:8: not built
-error 18 -:9: not built
+error 30 -:1: wrong words
+error 30 -:2: wrong words
+error 30 -:3: wrong words
+error 30 -:4: wrong words
+error 30 -:5: wrong words
+error 30 -:6: wrong words
+error 30 -:7: wrong words
+error 30 -:8: wrong words
+error 30 -:9: wrong words
 ;;
 "#;

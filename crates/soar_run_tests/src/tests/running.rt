@@ -171,9 +171,9 @@ random -1
 no elements
 error 36 -:8: reserved attribute
 error 31 -:9: unknown identifier Q1
-error 18 -:10: not built
-error 18 -:11: not built
+error 30 -:10: wrong words
+error 30 -:11: wrong words
 error 14 -:13: number too wide at byte 7
-error 18 -:14: not built
+error 30 -:14: wrong words
 ;;
 "#;

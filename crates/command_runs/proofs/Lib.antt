@@ -1,0 +1,12 @@
+pub mod ClauseLemmas
+pub mod CutterLemmas
+pub mod FileLemmas
+pub mod FlowLemmas
+pub mod InputLemmas
+pub mod LengthLemmas
+pub mod OpeningLemmas
+pub mod RunLemmas
+pub mod ScriptLemmas
+pub mod StepLemmas
+pub mod StreamLemmas
+pub mod WholeLemmas

@@ -1,0 +1,34 @@
+-- What taking a command off a stream leads to.
+use Rattle.std.specs.Prelude.{◌≡◌, ℕ, List, ◌∷◌, Option, Result, Ok, Err}
+use Rattle.soar_edge.specs.Cutting.{Cut}
+use Rattle.soar_edge.specs.declared.filed.Filed.{Filed}
+use Rattle.defs_run.specs.Present.{present_stage}
+use Rattle.defs_run.specs.Runs.{Run}
+use Rattle.defs_run.specs.Sessions.{Session}
+use Rattle.defs_run.specs.Sources.{Obeying, cut_run, cuts_run}
+use Rattle.command_runs.specs.Following.{Breaks, Flows, IsReadyFlow, IsReadyStep, OpensWithin, Steps}
+use Rattle.command_runs.specs.declared.fault.Fault.{Fault}
+use Rattle.command_runs.specs.declared.progress.Progress.{Progress}
+use Rattle.command_runs.specs.declared.turn.Turn.{Turn}
+use Rattle.command_runs.specs.declared.turn.Turn.TheVariants as turn
+
+-- of the commands that were left the first was taken, and led to this; or all ended so
+abbrev pub Turns : {C : Type 0} → (Session → Type 0) → Progress C → Option (List ℕ) → Option (List ℕ) → Option ℕ → Option Obeying → List Filed → List ℕ → List Cut → List Cut → Run → Result Turn Fault → Type 0
+Turns stands p before now fails inner stock from cuts left r (Ok (turn.Took step)) =
+    (c : Cut) → cuts ≡ c ∷ left → Steps stands p before now fails inner (cut_run present_stage inner fails stock from c r) (Ok step)
+Turns stands p before now fails inner stock from cuts left r (Ok (turn.Last flow)) = Flows stands p before now fails (cuts_run present_stage inner fails stock from cuts r) (Ok flow)
+Turns stands p before now fails inner stock from cuts left r (Err e) = Breaks p.fetched before now fails (cuts_run present_stage inner fails stock from cuts r) e
+
+-- one command was taken off
+abbrev pub TakesCommand : List Cut → List Cut → Result Turn Fault → Type 0
+TakesCommand cuts left (Ok (turn.Took step)) = (c : Cut) × (cuts ≡ c ∷ left)
+TakesCommand cuts left other = Unit {0}
+
+abbrev pub IsTurn : ℕ → Result Turn Fault → Type 0
+IsTurn depth (Ok (turn.Took step)) = OpensWithin depth (Ok step)
+IsTurn depth other = Unit {0}
+
+abbrev pub IsReadyTurn : Type 0 → Result Turn Fault → Type 0
+IsReadyTurn ready (Ok (turn.Took step)) = IsReadyStep ready (Ok step)
+IsReadyTurn ready (Ok (turn.Last flow)) = IsReadyFlow ready (Ok flow)
+IsReadyTurn ready (Err e) = Unit {0}

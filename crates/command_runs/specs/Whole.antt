@@ -1,0 +1,70 @@
+-- The whole run: the files of the command line and then the input, or a script in their place.
+use Rattle.std.specs.Prelude.{◌≡◌, ℕ, ◌^◌, Bool, true, false, nat_lt, List, [], ◌∷◌, take, length, Option, Some, None, if◌then◌else◌}
+use Rattle.soar_edge.specs.declared.filed.Filed.{Filed}
+use Rattle.defs_run.specs.CommandLine.{Options, script_of}
+use Rattle.defs_run.specs.Present.{present_stage}
+use Rattle.defs_run.specs.Runs.{Run, Ran, then_run}
+use Rattle.defs_run.specs.Sessions.{Session, first_session}
+use Rattle.defs_run.specs.Sources.{obeying, sourced}
+use Rattle.defs_run.specs.Transcripts.{Transcript, files_run, first_run, input_run, standard_input, with_options}
+use Rattle.command_runs.specs.Following.{inner_of}
+use Rattle.command_runs.specs.declared.ends.End.TheVariants as end
+use Rattle.command_runs.specs.declared.ends.Flow.{Flow}
+use Rattle.command_runs.specs.declared.ends.Flow.TheVariants as flow
+use Rattle.command_runs.specs.declared.script.Script.{Script}
+
+-- a file of the command line
+unfoldable pub file_of : Option ℕ → List Filed → List ℕ → Run → Ran
+file_of fails stock name r = sourced (inner_of fails stock 16) fails stock standard_input 0 name r
+
+unfoldable pub files_of : Option ℕ → List Filed → List (List ℕ) → Run → Ran
+files_of fails stock names r = files_run present_stage fails stock names r
+
+unfoldable pub input_of : Option ℕ → List Filed → List ℕ → Run → Ran
+input_of fails stock input r = input_run present_stage fails stock input r
+
+-- the commands of standard input, of which there are more or not
+unfoldable pub commands_of : Option ℕ → List Filed → Bool → List ℕ → Run → Ran
+commands_of fails stock closed bytes r = obeying present_stage fails stock 16 standard_input closed bytes r
+
+-- a script of so many items, or the files and the input
+abbrev pub whole_run : Option ℕ → List Filed → List ℕ → Option ℕ → List (List ℕ) → Run → Ran
+whole_run fails stock input (Some n) names r = commands_of fails stock true (script_of n) r
+whole_run fails stock input None names r = then_run (files_of fails stock names r) (input_of fails stock input)
+
+-- the watch level, 1 where none is asked for
+abbrev pub level_of : Option ℕ → ℕ
+level_of None = 1
+level_of (Some n) = n
+
+-- the transcript of what the words ask for
+unfoldable pub whole_transcript : Option ℕ → List Filed → List ℕ → Options → Transcript
+whole_transcript fails stock input o = with_options present_stage fails stock input o
+
+-- what is asked for, and what carries commands out stands for the first session
+pub record IsAsked (stands : Session → Type 0) (o : Options) (generate : Option ℕ) (names : List (List ℕ)) : Type 0 where
+  pub script : generate ≡ o.generate
+  pub files : names ≡ o.files
+  pub session : stands (first_session (level_of o.watch))
+
+-- whether the run comes to the input: no script is generated, and no file ends the run
+abbrev pub is_open : Ran → Bool
+is_open x = elim (x.run.ended) [ None ↦ true | Some s ↦ false ]
+
+abbrev pub comes_along : List Filed → Option ℕ → List (List ℕ) → Run → Bool
+comes_along stock None names r = is_open (files_of None stock names r)
+comes_along stock (Some n) names r = false
+
+unfoldable pub comes_to_input : List Filed → Options → Bool
+comes_to_input stock o = comes_along stock o.generate o.files (first_run (level_of o.watch))
+
+-- the part of an input that is run: all, or the first 64 MiB of a longer one
+pub record IsFront (input : List ℕ) (s : Script) : Type 0 where
+  pub long : s.too_long ≡ nat_lt (2 ^ 26) (length input)
+  pub text : s.text ≡ (if nat_lt (2 ^ 26) (length input) then take (2 ^ 26) input else input)
+
+-- how a run goes on behind an input, or behind the first 64 MiB of a longer one
+abbrev pub closed_flow : Bool → Flow → Flow
+closed_flow true flow.Goes = flow.Ends end.TooLong
+closed_flow false flow.Goes = flow.Goes
+closed_flow too_long (flow.Ends e) = flow.Ends e
