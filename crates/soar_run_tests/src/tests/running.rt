@@ -58,6 +58,26 @@ run 1
 =>
 1: O: O1 (2)
 ;;
+sp {p (state <s> ^superstate nil ^go yes) --> (<s> ^operator <o> +) (<o> ^name walk)}
+input add S1 ^go yes
+run 1
+input remove S1 ^go yes
+watch 3
+run 1
+print S1
+=>
+1: O: O1 (walk)
+-- input
+-- proposal
+retract 1 p: 4 6
+-- decision
+2:   ==>S: S2 (state no-change)
+-- application
+-- output
+3: (S1 ^io I1)
+4: (S1 ^superstate nil)
+5: (S1 ^type state)
+;;
 "#;
 
 /// What comes in and goes out at the links of the top state.
@@ -101,7 +121,8 @@ print S1
 ;;
 "#;
 
-/// A run ends where the agent halts, with cycles left.
+/// A run ends where the agent halts, with cycles left: in the application phase, and in the proposal phase, after which
+/// only the output phase comes.
 pub const HALTED: &str = r#"sp {hello*propose
    (state <s> ^type state)
    -->
@@ -119,6 +140,20 @@ run 5
 =>
 1: O: O1 (hello-world)
 Hello World
+halt
+;;
+sp {stop (state <s> ^superstate nil ^go yes) --> (<s> ^stopped yes) (halt)}
+sp {late (state <s> ^stopped yes) --> (write |never|)}
+sp {out (state <s> ^superstate nil ^io.output-link <ol>) --> (<ol> ^say hi)}
+sp {op (state <s> ^superstate nil) --> (<s> ^operator <o> +) (<o> ^name wait)}
+input add S1 ^go yes
+watch 2
+run 5
+=>
+-- input
+-- proposal
+-- output
+out + (I3 ^say hi)
 halt
 ;;
 "#;
