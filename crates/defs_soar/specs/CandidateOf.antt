@@ -19,11 +19,12 @@ use Rattle.defs_soar.specs.Outcome.{Outcome, lost, blocked, groundless, justifie
 use Rattle.defs_soar.specs.LearnedRules.{names_joining}
 use Rattle.defs_soar.specs.Ungrounded.{or_else, ungrounded}
 
--- the forms that are there, and the first cause against the general one, whatever the settings
+-- the forms that are there, the first cause against the general one, whatever the settings, and the identifier without a variable
 pub record CandidateOf : Type 0 where
   pub general : Option ProductionOf
   pub literal : Option ProductionOf
   pub cause : Option Cause
+  pub ungrounded : Option Sym
 
 -- ---- the forms
 
@@ -60,6 +61,7 @@ candidate_of words c depth = record {
   general = if has_grounds c then general_in words c depth else None;
   literal = if has_grounds c then Some (literal_in words c depth) else None;
   cause = first_cause words c depth;
+  ungrounded = ungrounded words c depth;
 }
 
 -- ---- what is learned
@@ -84,7 +86,7 @@ learned_by words c depth (blocked b) = as_blocked b.negation b.tag
 -- ---- the code's types as plain data
 
 abbrev pub candidate_seen : Candidate → CandidateOf
-candidate_seen c = record { general = option_map production_seen c.general; literal = option_map production_seen c.literal; cause = c.cause }
+candidate_seen c = record { general = option_map production_seen c.general; literal = option_map production_seen c.literal; cause = c.cause; ungrounded = c.ungrounded }
 
 abbrev pub learned_seen : Learned → LearnedOf
 learned_seen (learned.Chunk p) = as_chunk (production_seen p)

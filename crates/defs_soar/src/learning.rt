@@ -24,12 +24,14 @@ pub enum Learned {
     Blocked(u32, u32),
 }
 
-/// The two forms of a learned rule, as far as they are there, and the first cause against the general one.
+/// The two forms of a learned rule, as far as they are there, the first cause against the general one, and the first
+/// identifier that has no variable in it.
 #[derive(Drop)]
 pub struct Candidate {
     pub general: Option<Production>,
     pub literal: Option<Production>,
     pub cause: Option<Cause>,
+    pub ungrounded: Option<Sym>,
 }
 
 /// Whether learning is on, whether local negations are allowed, and how many chunks this cycle learned.

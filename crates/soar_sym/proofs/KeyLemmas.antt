@@ -9,6 +9,7 @@ use Rattle.soar_sym.specs.Equality.{symbol_eq, mark_eq, triple_eq}
 use Rattle.soar_sym.specs.declared.symbol.Sym.{Sym}
 use Rattle.soar_sym.specs.declared.symbol.Sym.TheVariants.{Ident, Word, Int}
 use Rattle.soar_sym.specs.declared.symbol.Triple.{Triple}
+use Rattle.soar_sym.specs.contracts.symbol.SymPartialEq.TheImpl as equality
 use Rattle.soar_sym.specs.contracts.symbol.SymOrd.TheImpl as symbols
 use Rattle.soar_sym.specs.contracts.symbol.SymOrd.TheImpl.Laws as symbol_laws
 use Rattle.soar_sym.specs.contracts.symbol.TripleOrd.TheImpl as triples
@@ -106,6 +107,18 @@ symbol_same (Word m) (Ident b n) h = cc
 symbol_same (Word m) (Int n) h = cc
 symbol_same (Int m) (Ident b n) h = cc
 symbol_same (Int m) (Word n) h = cc
+
+-- what `==` answers
+pub symbol_derived : (a b : Sym) → equality.ghosts.eq a b ≡ symbol_eq a b
+symbol_derived (Ident a m) (Ident b n) = refl
+symbol_derived (Word m) (Word n) = refl
+symbol_derived (Int m) (Int n) = refl
+symbol_derived (Ident a m) (Word n) = refl
+symbol_derived (Ident a m) (Int n) = refl
+symbol_derived (Word m) (Ident b n) = refl
+symbol_derived (Word m) (Int n) = refl
+symbol_derived (Int m) (Ident b n) = refl
+symbol_derived (Int m) (Word n) = refl
 
 then_same : (x y : Ordering) → is_eq (ordering_then x y) ≡ (is_eq x && is_eq y)
 then_same Less y = refl
