@@ -2,9 +2,8 @@ ghost use Rattle.std.specs.Prelude.{◌≡◌, ◌++◌, map, IfOk, OnOk};
 ghost use Rattle.defs_match.specs.Conflict as meaning;
 ghost use Rattle.defs_match.specs.Rules.{rule_seen};
 
-use crate::extension::rows;
-use crate::row::Row;
 use defs_match::{Instance, Rule};
+use match_row::{Row, rows};
 use soar_sym::{List, NoMemory};
 use soar_wm::Element;
 use std::alloc::Global;
@@ -34,7 +33,7 @@ fn add_instances(
     ensures { OnOk result (out.new ≡ out.old ++ meaning.instances_of elements.now (rule_seen rule.now)) }
 {
     let rows = rows(alloc, rule.production.conds.as_slice(), elements)?;
-    'rows: for row in rows.into_vec() {
+    'rows: for row in rows {
         out.push(instance_of(alloc, rule.number, row)?)?;
     }
     Ok(())

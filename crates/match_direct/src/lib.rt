@@ -4,10 +4,6 @@
 mod contents;
 mod direct;
 mod enumeration;
-mod extension;
-mod row;
-mod taking;
-mod testing;
 
 pub use direct::Direct;
 pub use enumeration::conflict;

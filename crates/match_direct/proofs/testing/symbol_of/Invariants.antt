@@ -1,6 +1,0 @@
-use Rattle.std.proofs.Common.{◌≡◌, drop}
-use Rattle.defs_match.specs.Testing.{symbol_of}
-use Rattle.match_direct.proofs.testing.symbol_of.Given as goal
-
-abbrev pub invariant-bindings : goal.invariant-bindings
-invariant-bindings l = symbol_of l.variable (drop l.binding-index l.bindings) ≡ symbol_of l.variable l.bindings
