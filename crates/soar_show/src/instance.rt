@@ -2,7 +2,7 @@ ghost use Rattle.std.specs.Prelude.{◌≡◌, ◌∷◌, ◌++◌, decimal, OnO
 ghost use Rattle.soar_sym.specs.Words.{IsKnown};
 ghost use Rattle.defs_text.specs.Symbols.{instance_text, tags_text};
 
-use crate::symbol::text_of;
+use crate::symbol::symbol_text;
 use defs_match::Instance;
 use itoa::Buffer;
 use soar_sym::{NoMemory, Sym, SymTable, Text};
@@ -19,15 +19,15 @@ pub fn show_instance(
     ensures ok { OnOk result (out.new ≡ out.old ++ instance_text table.now name instance.now.tags) }
     ensures err { OnErr result (out.new ≡ out.old) }
 {
-    let mut text = text_of(out.allocator(), table, name)?;
+    let mut text = symbol_text(out.allocator(), table, name)?;
     text.push(':')?;
     push_tags(&mut text, instance.tags.as_slice())?;
     out.push_str(text.as_str())?;
     Ok(())
 }
 
-/// Appends each tag behind a blank.
-fn push_tags(out: &mut Text, tags: &[u32]) -> Result<(), AllocError>
+/// Appends each tag behind a blank. Want of memory may leave a part of it.
+pub fn push_tags(out: &mut Text, tags: &[u32]) -> Result<(), AllocError>
     ensures { OnOk result (out.new ≡ out.old ++ tags_text tags.now) }
 {
     'tags: for tag in tags {

@@ -14,6 +14,6 @@ mod word;
 
 pub use bare::{identifier_number, is_identifier_form};
 pub use element::show_element;
-pub use instance::show_instance;
+pub use instance::{push_tags, show_instance};
 pub use production::show_production;
-pub use symbol::show_symbol;
+pub use symbol::{show_symbol, symbol_text};

@@ -16,13 +16,13 @@ pub fn show_symbol(out: &mut Text, table: &SymTable, symbol: Sym) -> Result<(), 
     ensures ok { OnOk result (out.new ≡ out.old ++ symbol_text table.now symbol) }
     ensures err { OnErr result (out.new ≡ out.old) }
 {
-    let text = text_of(out.allocator(), table, symbol)?;
+    let text = symbol_text(out.allocator(), table, symbol)?;
     out.push_str(text.as_str())?;
     Ok(())
 }
 
-/// The text of a symbol.
-pub fn text_of(alloc: Global, table: &SymTable, symbol: Sym) -> Result<Text, AllocError>
+/// The text of a symbol, as `show_symbol` appends it.
+pub fn symbol_text(alloc: Global, table: &SymTable, symbol: Sym) -> Result<Text, AllocError>
     requires { IsKnown table.now symbol }
     ensures { IfOk result (λ text. text ≡ symbol_text table.now symbol) }
 {

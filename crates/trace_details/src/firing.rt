@@ -1,17 +1,15 @@
 // The lines of a firing that is made, and of one that is taken back.
-ghost use Rattle.std.specs.Prelude.{◌≡◌, ◌∷◌, ◌++◌, decimal, string_bytes, IfOk, OnErr, OnOk};
+ghost use Rattle.std.specs.Prelude.{OnErr, OnOk};
 ghost use Rattle.soar_sym.specs.Words.{IsKnown};
-ghost use Rattle.defs_text.specs.Symbols.{instance_text};
 ghost use Rattle.defs_soar.specs.Events.{fires, retracts};
 ghost use Rattle.trace_lines.specs.Saying.{SaysNothing};
 ghost use Rattle.trace_details.specs.Details.{SaysAt};
 
 use crate::level::{FIRINGS, is_shown};
 use crate::line::say_line;
+use chain_texts::numbered_text;
 use defs_match::Instance;
-use soar_show::show_instance;
 use soar_sym::{NoMemory, Sym, SymTable, Text};
-use std::alloc::Global;
 
 /// Appends the line of a firing under its number and the name of its rule, as `fire 3 eval: 14 15`.
 pub fn say_firing(
@@ -53,36 +51,4 @@ pub fn say_retraction(
     }
     let text = numbered_text(out.allocator(), "retract ", table, number, name, instance)?;
     say_line(out, mid_line, text.as_str())
-}
-
-/// A number behind a word, and the instance behind a blank.
-fn numbered_text(
-    alloc: Global,
-    word: &str,
-    table: &SymTable,
-    number: u64,
-    name: Sym,
-    instance: &Instance,
-) -> Result<String, NoMemory>
-    requires { IsKnown table.now name }
-    ensures { IfOk result (λ text. string_bytes text ≡ word.now ++ (decimal number ++ (32 ∷ instance_text table.now name instance.now.tags))) }
-{
-    let instance = instance_text(alloc, table, name, instance)?;
-    let instance = instance.as_str();
-    Ok(format!(in alloc; "{word}{number} {instance}")?)
-}
-
-/// The name, a colon, and each tag.
-fn instance_text(
-    alloc: Global,
-    table: &SymTable,
-    name: Sym,
-    instance: &Instance,
-) -> Result<Text, NoMemory>
-    requires { IsKnown table.now name }
-    ensures { IfOk result (λ text. text ≡ instance_text table.now name instance.now.tags) }
-{
-    let mut text = Text::new(alloc);
-    show_instance(&mut text, table, instance, name)?;
-    Ok(text)
 }

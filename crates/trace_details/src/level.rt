@@ -7,6 +7,8 @@ pub const REMOVALS: u8 = 2;
 
 pub const FIRINGS: u8 = 3;
 
+pub const LESSONS: u8 = 3;
+
 pub const ELEMENTS: u8 = 4;
 
 pub const WISHES: u8 = 5;

@@ -1,9 +1,6 @@
 // The line of a preference that a firing makes.
-ghost use Rattle.std.specs.Prelude.{◌≡◌, string_bytes, IfOk, OnErr, OnOk};
-ghost use Rattle.soar_sym.specs.Words.{IsKnown};
-ghost use Rattle.defs_text.specs.Symbols.{symbol_text};
+ghost use Rattle.std.specs.Prelude.{◌≡◌, IfOk, OnErr, OnOk};
 ghost use Rattle.defs_soar.specs.Events.{makes_wish};
-ghost use Rattle.defs_soar.specs.Texts.{wish_text};
 ghost use Rattle.defs_soar.specs.Trace.{piece_of, support_text};
 ghost use Rattle.trace_laws.specs.Events.{IsWishKnown};
 ghost use Rattle.trace_lines.specs.Saying.{SaysNothing, text_of_line};
@@ -11,10 +8,9 @@ ghost use Rattle.trace_details.specs.Details.{SaysAt, support_of};
 
 use crate::level::{WISHES, is_shown};
 use crate::line::say_line;
-use crate::sign::sign_text;
+use chain_texts::show_wish;
 use defs_soar::Wish;
-use soar_show::show_symbol;
-use soar_sym::{NoMemory, Sym, SymTable, Text};
+use soar_sym::{NoMemory, SymTable, Text};
 use std::alloc::Global;
 
 /// How a preference is held: by its instance, by the operator, or by the learned firing to which it went over.
@@ -50,13 +46,14 @@ fn held_text(
     table: &SymTable,
     wish: &Wish,
     held_by: HeldBy,
-) -> Result<String, NoMemory>
+) -> Result<Text, NoMemory>
     requires { IsWishKnown table.now wish.now }
-    ensures { IfOk result (λ text. string_bytes text ≡ text_of_line (piece_of table.now (makes_wish wish.now (support_of held_by)))) }
+    ensures { IfOk result (λ text. text ≡ text_of_line (piece_of table.now (makes_wish wish.now (support_of held_by)))) }
 {
-    let wish = wish_text(alloc, table, wish)?;
-    let (wish, support) = (wish.as_str(), support_text(held_by));
-    Ok(format!(in alloc; "  {wish}{support}")?)
+    let mut text = Text::from_str(alloc, "  ")?;
+    show_wish(&mut text, table, wish)?;
+    text.push_str(support_text(held_by))?;
+    Ok(text)
 }
 
 fn support_text(held_by: HeldBy) -> &'static str
@@ -67,26 +64,4 @@ fn support_text(held_by: HeldBy) -> &'static str
         HeldBy::Operator => " o",
         HeldBy::Learned => " r",
     }
-}
-
-/// A preference in brackets.
-fn wish_text(alloc: Global, table: &SymTable, wish: &Wish) -> Result<String, NoMemory>
-    requires { IsWishKnown table.now wish.now }
-    ensures { IfOk result (λ text. string_bytes text ≡ wish_text table.now wish.now) }
-{
-    let id = symbol_text(alloc, table, wish.id)?;
-    let attr = symbol_text(alloc, table, wish.attr)?;
-    let value = symbol_text(alloc, table, wish.value)?;
-    let sign = sign_text(alloc, table, wish.kind, wish.referent)?;
-    let (id, attr, value, sign) = (id.as_str(), attr.as_str(), value.as_str(), sign.as_str());
-    Ok(format!(in alloc; "({id} ^{attr} {value} {sign})")?)
-}
-
-fn symbol_text(alloc: Global, table: &SymTable, symbol: Sym) -> Result<Text, NoMemory>
-    requires { IsKnown table.now symbol }
-    ensures { IfOk result (λ text. text ≡ symbol_text table.now symbol) }
-{
-    let mut text = Text::new(alloc);
-    show_symbol(&mut text, table, symbol)?;
-    Ok(text)
 }

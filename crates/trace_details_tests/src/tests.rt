@@ -1,16 +1,17 @@
-ghost use Rattle.std.specs.Prelude.{◌<◌, length};
-ghost use Rattle.trace_laws.specs.Events.{IsSignKnown};
+ghost use Rattle.std.specs.Prelude.{◌≡◌, ◌<◌, length, IfOk};
+ghost use Rattle.trace_laws.specs.Events.{IsLearningKnown, IsSignKnown};
+ghost use Rattle.trace_details.specs.Lessons.{lesson_seen};
 
 use defs_match::Instance;
-use defs_soar::{DropCause, Dropped, PrefKind, Wish};
+use defs_soar::{Cause, DropCause, Dropped, PrefKind, Wish};
 use soar_sym::architecture::{NAME, NIL, OPERATOR};
 use soar_sym::{List, NoMemory, Sym, SymTable, Text};
 use soar_wm::Element;
 use std::alloc::Global;
 use std::test::Fail;
 use trace_details::{
-    CyclePart, HeldBy, say_drop, say_firing, say_gone, say_new, say_part, say_removal,
-    say_retraction, say_wish,
+    CyclePart, HeldBy, LearnedFiring, Lesson, say_drop, say_firing, say_gone, say_lesson, say_new,
+    say_part, say_removal, say_retraction, say_wish,
 };
 
 const S1: Sym = Sym::Ident {
@@ -75,6 +76,80 @@ fn say_firings(
     };
     say_retraction(watch, table, 2, NIL, &instance, out, mid_line)?;
     say_firing(watch, table, 20, NAME, &instance, out, mid_line)
+}
+
+fn learned(alloc: Global, number: u64, name: Sym) -> Result<LearnedFiring, NoMemory>
+    ensures { IfOk result (λ f. f.name ≡ name) }
+{
+    Ok(LearnedFiring {
+        number,
+        name,
+        explained: 20,
+        tags: List::from_slice(alloc, &[11, 9])?,
+    })
+}
+
+fn say(
+    watch: u8,
+    table: &SymTable,
+    lesson: Lesson,
+    out: &mut Text,
+    mid_line: &mut bool,
+) -> Result<(), NoMemory>
+    requires { IsLearningKnown table.now (lesson_seen lesson) }
+{
+    say_lesson(watch, table, &lesson, out, mid_line)
+}
+
+fn say_learned(
+    watch: u8,
+    table: &SymTable,
+    out: &mut Text,
+    mid_line: &mut bool,
+) -> Result<(), NoMemory>
+    requires { 8 < length table.now }
+{
+    let chunk = learned(out.allocator(), 21, NAME)?;
+    say(watch, table, Lesson::Chunk(chunk), out, mid_line)?;
+    let justification = learned(out.allocator(), 22, NIL)?;
+    say(
+        watch,
+        table,
+        Lesson::Justification(justification, Cause::LocalNegation(4)),
+        out,
+        mid_line,
+    )
+}
+
+fn say_unlearned(
+    watch: u8,
+    table: &SymTable,
+    out: &mut Text,
+    mid_line: &mut bool,
+) -> Result<(), NoMemory>
+    requires { 8 < length table.now }
+{
+    let (name, explained, place, tag) = (NAME, 20, 2, 10);
+    say(watch, table, Lesson::NoGrounds { explained }, out, mid_line)?;
+    say(
+        watch,
+        table,
+        Lesson::Reused { name, explained },
+        out,
+        mid_line,
+    )?;
+    say(watch, table, Lesson::Lost { explained, tag }, out, mid_line)?;
+    say(
+        watch,
+        table,
+        Lesson::Blocked {
+            explained,
+            place,
+            tag,
+        },
+        out,
+        mid_line,
+    )
 }
 
 fn say_sign(
@@ -179,6 +254,8 @@ fn trace(alloc: Global, watch: u8) -> Result<Text, NoMemory> {
     say_parts(watch, &mut out, &mut mid_line)?;
     say_removal(watch, &table, S2, &mut out, &mut mid_line)?;
     say_firings(watch, &table, &mut out, &mut mid_line)?;
+    say_learned(watch, &table, &mut out, &mut mid_line)?;
+    say_unlearned(watch, &table, &mut out, &mut mid_line)?;
     say_wishes(watch, &table, &mut out, &mut mid_line)?;
     say_drops(watch, &mut out, &mut mid_line)?;
     say_elements(watch, &table, &mut out, &mut mid_line)?;
@@ -199,6 +276,12 @@ const ALL: &str = "x
 remove S2
 retract 2 nil: 3 12
 fire 20 name: 3 12
+learn 21 name from 20: 11 9
+justify 22 nil from 20: 11 9 (local negation in 4)
+justify from 20 (no grounds)
+reuse name from 20
+stale 20 lost 10
+stale 20 blocked 2 by 10
   (S1 ^operator O1 +) i
   (S1 ^operator O1 > O2) o
   (S1 ^operator O1 <) r
@@ -218,6 +301,12 @@ const AT_FOUR: &str = "x
 remove S2
 retract 2 nil: 3 12
 fire 20 name: 3 12
+learn 21 name from 20: 11 9
+justify 22 nil from 20: 11 9 (local negation in 4)
+justify from 20 (no grounds)
+reuse name from 20
+stale 20 lost 10
+stale 20 blocked 2 by 10
 - 6: (S1 ^operator O1 +)
 + 4294967295: (S1 ^name -5)
 ";
@@ -231,6 +320,12 @@ const AT_THREE: &str = "x
 remove S2
 retract 2 nil: 3 12
 fire 20 name: 3 12
+learn 21 name from 20: 11 9
+justify 22 nil from 20: 11 9 (local negation in 4)
+justify from 20 (no grounds)
+reuse name from 20
+stale 20 lost 10
+stale 20 blocked 2 by 10
 ";
 
 const AT_TWO: &str = "x

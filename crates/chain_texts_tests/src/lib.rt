@@ -1,0 +1,5 @@
+//! A test of explanations as text.
+#![tactic(auto)]
+
+#[cfg(test)]
+mod tests;
