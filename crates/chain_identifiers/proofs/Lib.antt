@@ -1,0 +1,3 @@
+pub mod BindingLemmas
+pub mod ConstantLemmas
+pub mod StepLemmas

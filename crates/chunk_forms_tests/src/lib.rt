@@ -1,0 +1,5 @@
+//! Tests of the forms of learned rules.
+#![tactic(auto)]
+
+#[cfg(test)]
+mod tests;

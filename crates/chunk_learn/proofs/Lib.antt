@@ -1,0 +1,4 @@
+pub mod BlockingLemmas
+pub mod BodyLemmas
+pub mod PreferenceLemmas
+pub mod ToldLemmas

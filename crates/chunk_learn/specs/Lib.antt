@@ -1,0 +1,4 @@
+pub mod Blocked
+pub mod Candidates
+pub mod Seen
+pub mod Told

@@ -1,0 +1,6 @@
+pub mod CauseLemmas
+pub mod DraftLemmas
+pub mod FormLemmas
+pub mod JoinLemmas
+pub mod KnownLemmas
+pub mod NameLemmas

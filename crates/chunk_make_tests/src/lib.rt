@@ -1,0 +1,5 @@
+//! Tests of the candidates for learned rules.
+#![tactic(auto)]
+
+#[cfg(test)]
+mod tests;

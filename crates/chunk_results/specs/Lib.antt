@@ -1,0 +1,4 @@
+pub mod Reached
+pub mod Told
+pub mod Held
+pub mod Placed

@@ -1,0 +1,3 @@
+pub mod OccurrenceLemmas
+pub mod VariableLemmas
+pub mod NamingLemmas

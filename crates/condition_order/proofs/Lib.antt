@@ -1,0 +1,4 @@
+mod KnownLemmas
+mod PlaceLemmas
+mod ReachLemmas
+mod StepLemmas

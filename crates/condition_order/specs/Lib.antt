@@ -1,0 +1,3 @@
+pub mod Orders
+pub mod Reaching
+pub mod Steps

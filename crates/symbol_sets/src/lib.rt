@@ -1,0 +1,6 @@
+//! Sets of symbols.
+#![tactic(auto)]
+
+mod set;
+
+pub use set::SymbolSet;
