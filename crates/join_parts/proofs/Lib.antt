@@ -1,0 +1,4 @@
+pub mod KnownLemmas
+pub mod PrefixLemmas
+pub mod ServeLemmas
+pub mod ServedLemmas

@@ -1,0 +1,4 @@
+pub mod AgendaLemmas
+pub mod BeginLemmas
+pub mod LoopLemmas
+pub mod TurnLemmas

@@ -1,0 +1,59 @@
+-- The agenda of a change.
+use Rattle.std.specs.Prelude.{◌≡◌, ◌⊎◌, ◌≤◌, ◌<◌, ◌==◌, ◌&&◌, not, ℕ, Bool, true, false, List, [], ◌∷◌, Option, Some}
+use Rattle.defs_match.specs.Laws.{IsIn}
+use Rattle.soar_wm.specs.declared.element.Element.{Element}
+use Rattle.node_table.specs.declared.node.NodeKey.{NodeKey}
+use Rattle.node_table.specs.declared.node.Node.{Node}
+use Rattle.node_table.specs.Nodes.{uppers}
+use Rattle.node_table.specs.Serving.{come_at, gone_at, LeavesOut}
+use Rattle.node_table.specs.Content.{IsTable}
+use Rattle.node_agenda.specs.declared.turns.Turn.{Turn}
+use Rattle.node_agenda.specs.declared.turns.TurnKey.{TurnKey}
+use Rattle.node_agenda.specs.Turns.{under}
+
+abbrev pub turn_of : Node → ℕ → Turn
+turn_of node n = record { made = node.made; node = n }
+
+abbrev pub is_nothing : {A : Type 0} → List A → Bool
+is_nothing [] = true
+is_nothing (_ ∷ _) = false
+
+abbrev pub is_changed : Node → Bool
+is_changed node = not (is_nothing node.come.items && is_nothing node.gone.items)
+
+-- the agenda after a node was served, by the turns under its number
+pub record GoesOn (node : Option Node) (n : ℕ) (below : List TurnKey) (old new : List Turn) : Type 0 where
+  pub kept : (t : Turn) → IsIn t old → IsIn t new
+  pub children : (m : Node) → node ≡ Some m → is_changed m ≡ true → (t : Turn) → IsIn (under n t) below → IsIn t new
+  pub from : (t : Turn) → IsIn t new → IsIn (under n t) below ⊎ IsIn t old
+
+-- nothing that a node of this key reads has changed
+pub record IsIdle (nodes : ℕ → Option Node) (stamp : ℕ) (come goes : Option Element) (key : NodeKey) : Type 0 where
+  pub out : LeavesOut key.step come goes
+  pub none_came : (m : ℕ) → IsIn m (uppers key) → (upper : Node) → nodes m ≡ Some upper → come_at stamp upper ≡ []
+  pub none_went : (m : ℕ) → IsIn m (uppers key) → (upper : Node) → nodes m ≡ Some upper → gone_at stamp upper ≡ []
+
+abbrev pub IsTurn : (ℕ → Option Node) → ℕ → Turn → Type 0
+IsTurn nodes floor t = (node : Node) × (key : NodeKey) × (nodes t.node ≡ Some node) × (node.key ≡ Some key) × (node.made ≡ t.made) × (floor ≤ t.made)
+
+-- the turn of a node that reads the node of its number
+abbrev pub IsReader : (ℕ → Option Node) → TurnKey → Type 0
+IsReader nodes c = (node : Node) × (key : NodeKey) × (nodes c.turn.node ≡ Some node) × (node.key ≡ Some key) × IsIn c.number (uppers key) × (node.made ≡ c.turn.made)
+
+-- each node stands under those that it reads, and nothing else does
+pub record IsLinked (nodes : ℕ → Option Node) (below : List TurnKey) : Type 0 where
+  pub covers : (n : ℕ) (node : Node) (key : NodeKey) → nodes n ≡ Some node → node.key ≡ Some key → (m : ℕ) → IsIn m (uppers key) → IsIn (under m (turn_of node n)) below
+  pub names : (c : TurnKey) → IsIn c below → IsReader nodes c
+
+-- Between two turns: each node that a change can reach is served, on the agenda, or idle, and those that were served were made before the floor.
+pub record IsLoop (nodes : ℕ → Option Node) (agenda : List Turn) (below : List TurnKey) (stamp floor end : ℕ) (come goes : Option Element) : Type 0 where
+  pub table : IsTable nodes end
+  pub turns : (t : Turn) → IsIn t agenda → IsTurn nodes floor t
+  pub done : (n : ℕ) (node : Node) → nodes n ≡ Some node → (node.stamp == stamp) ≡ true → node.made < floor
+  pub waits : (n : ℕ) (node : Node) (key : NodeKey) → nodes n ≡ Some node → node.key ≡ Some key → (node.stamp == stamp) ≡ false → IsIn (turn_of node n) agenda ⊎ IsIdle nodes stamp come goes key
+  pub links : IsLinked nodes below
+
+-- What of a node is not its rows stays, but for the stamp of those that were served.
+pub record Settles (old new : ℕ → Option Node) (stamp : ℕ) : Type 0 where
+  pub stays : (n : ℕ) (node : Node) → new n ≡ Some node → (was : Node) × (old n ≡ Some was) × (node.key ≡ was.key) × (node.made ≡ was.made) × (node.alpha ≡ was.alpha) × (node.requests ≡ was.requests) × ((node.stamp ≡ was.stamp) ⊎ (node.stamp ≡ stamp))
+  pub still : (n : ℕ) (was : Node) → old n ≡ Some was → (node : Node) × (new n ≡ Some node)

@@ -1,0 +1,9 @@
+pub mod BelowLemmas
+pub mod ChangeLemmas
+pub mod EntryLemmas
+pub mod HoldLemmas
+pub mod IndexLemmas
+pub mod KeyLemmas
+pub mod MemoryLemmas
+pub mod RunLemmas
+pub mod SymbolLemmas

@@ -1,0 +1,16 @@
+use Rattle.std.proofs.Common.{◌∙◌, ap, filter, Result, Ok, Err, IfOk}
+use Rattle.std.specs.Map.{values_of}
+use Rattle.node_memory.specs.Keys.{meets}
+use Rattle.node_memory.proofs.KeyLemmas.{run_of_id}
+use Rattle.node_memory.proofs.IndexLemmas.{found_meets}
+use Rattle.node_memory.proofs.index.ElementIndex.candidates.Goals as goal
+
+pub returns : goal.returns
+returns c =
+    both (λ v run ordered.
+    run ∙ ap values_of (run_of_id c.args.id c.args.attr c.self.inside.by_key.entries ordered) ∙ found_meets c.args.id c.args.attr c.self.inside.by_key.entries c.self.invariant
+    ∙ ap (filter (meets c.args.id c.args.attr)) c.self.view_is) c.run_of.result c.run_of.ensures.run c.run_of.ensures.ordered
+  where
+    both : {T E : Type 0} {P Q R : T → Type 0} → ((x : T) → P x → Q x → R x) → (r : Result T E) → IfOk r P → IfOk r Q → IfOk r R
+    both f (Ok x) p q = f x p q
+    both f (Err e) p q = tt

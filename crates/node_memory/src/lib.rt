@@ -1,0 +1,12 @@
+//! The rows of a node and the elements of working memory, kept so that each side of a join finds its partners by index.
+#![tactic(auto)]
+
+mod index;
+mod indexing;
+mod memory;
+mod symbols;
+
+pub use index::{ElementIndex, ElementKey};
+pub use indexing::{all_rows, index_by};
+pub use memory::{Memory, add_found, change, empty, filled, rows_with};
+pub use symbols::{SymbolIndex, SymbolKey};

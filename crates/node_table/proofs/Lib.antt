@@ -1,0 +1,14 @@
+pub mod AskedLemmas
+pub mod ContentLemmas
+pub mod CountLemmas
+pub mod DropLemmas
+pub mod FillLemmas
+pub mod GrowLemmas
+pub mod KeyLemmas
+pub mod MakeLemmas
+pub mod MakingLemmas
+pub mod NodeLemmas
+pub mod NumberLemmas
+pub mod OrderLemmas
+pub mod ServingLemmas
+pub mod StandLemmas

@@ -1,0 +1,108 @@
+// The elements of working memory, by tag.
+ghost use Rattle.std.specs.Prelude.{◌≡◌, map, false, [], OnOk, OnErr, IfOk};
+ghost use Rattle.std.specs.BTreeMap.{IsOrdered};
+ghost use Rattle.std.specs.List.{list_any};
+ghost use Rattle.std.specs.Map.{values_of};
+ghost use Rattle.std.specs.Ordering.{nat_cmp};
+ghost use Rattle.defs_match.specs.Contents.{with_element};
+ghost use Rattle.soar_wm.specs.WorkingMemory.{IsRising, element_of, has_tag, without_tag};
+ghost use Rattle.rete_alpha.specs.Taking.{takes, tags_taken};
+
+use crate::pattern::{ConstPattern, takes};
+use soar_sym::{List, NoMemory};
+use soar_wm::Element;
+use std::alloc::Global;
+use std::collections::BTreeMap;
+use std::marker::Model;
+
+/// Elements in order of tag. What one change of them costs grows with the logarithm of their number.
+#[derive(Drop)]
+pub struct Elements {
+    by_tag: BTreeMap<u32, Element>,
+}
+
+impl Model for Elements {
+    ghost use Rattle.std.specs.Prelude.{List as ListOf};
+    ghost use Rattle.std.specs.Map.{values_of};
+    ghost use Rattle.soar_wm.specs.declared.element.Element.{Element as ElementOf};
+    ghost use Rattle.rete_alpha.specs.Entries.{OwnTags};
+
+    ghost Value = { ListOf ElementOf };
+
+    ghost view = { λ a. values_of a.by_tag.entries };
+
+    ghost invariant = { λ a. OwnTags a.by_tag.entries };
+}
+
+impl Elements {
+    /// No elements. It takes no memory.
+    pub fn new(alloc: Global) -> Elements
+        ensures { result ≡ [] }
+    {
+        Elements {
+            by_tag: BTreeMap::new(alloc),
+        }
+    }
+
+    /// Puts an element at the place of its tag. Want of memory changes nothing.
+    pub fn insert(&mut self, e: Element) -> Result<(), NoMemory>
+        requires { list_any (has_tag e.tag) self.old ≡ false }
+        ensures ok { OnOk result (self.new ≡ with_element self.old e) }
+        ensures err { OnErr result (self.new ≡ self.old) }
+        ensures rising { OnOk result (IsRising self.old) }
+    {
+        self.by_tag.insert(e.tag, e)?;
+        Ok(())
+    }
+
+    /// Takes the element of a tag away, and answers it.
+    pub fn remove(&mut self, tag: u32) -> Option<Element>
+        ensures removed { result ≡ element_of tag self.old }
+        ensures rest { self.new ≡ without_tag tag self.old }
+        ensures rising { IsRising self.old }
+    {
+        let _count = self.by_tag.len();
+        self.by_tag.remove(&tag)
+    }
+
+    /// The element of a tag.
+    pub fn get(&self, tag: u32) -> Option<Element>
+        ensures { result ≡ element_of tag self.now }
+    {
+        self.by_tag.get(&tag).copied()
+    }
+
+    /// Tags rise.
+    pub fn law(&self)
+        ensures { IsRising self.now }
+    {
+        let _count = self.by_tag.len();
+    }
+
+    /// The tags of the elements that a pattern takes, in order. It looks at each element.
+    pub fn tags_taken(&self, alloc: Global, p: &ConstPattern) -> Result<List<u32>, NoMemory>
+        ensures tags { IfOk result (λ tags. tags ≡ tags_taken p.now self.now) }
+        ensures rising { OnOk result (IsRising self.now) }
+    {
+        tags_of(alloc, &self.by_tag, p)
+    }
+}
+
+/// The tags of the elements of a map that a pattern takes, in order.
+fn tags_of(
+    alloc: Global,
+    by_tag: &BTreeMap<u32, Element>,
+    p: &ConstPattern,
+) -> Result<List<u32>, NoMemory>
+    ensures tags { IfOk result (λ tags. tags ≡ tags_taken p.now (values_of by_tag.now.entries)) }
+    ensures ordered { OnOk result (IsOrdered nat_cmp by_tag.now) }
+{
+    let _count = by_tag.len();
+    let mut tags = List::new(alloc);
+    'elements: for element in by_tag.values() {
+        if takes(p, element) {
+            tags.push(element.tag)?;
+        }
+    }
+    Ok(tags)
+}

@@ -1,0 +1,12 @@
+//! Pattern memories: for each pattern of constants the tags of the elements that it takes.
+#![tactic(auto)]
+
+mod alpha;
+mod elements;
+mod numbers;
+mod pattern;
+mod requests;
+mod slots;
+
+pub use alpha::Alpha;
+pub use pattern::ConstPattern;

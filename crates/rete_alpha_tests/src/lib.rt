@@ -1,0 +1,5 @@
+//! Tests of the pattern memories.
+#![tactic(auto)]
+
+#[cfg(test)]
+mod tests;

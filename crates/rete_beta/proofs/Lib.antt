@@ -1,0 +1,9 @@
+pub mod AgendaLemmas
+pub mod ElementLemmas
+pub mod LinkLemmas
+pub mod NetworkLemmas
+pub mod SettleLemmas
+pub mod SpreadLemmas
+pub mod StartLemmas
+pub mod ViewLemmas
+pub mod WayLemmas

@@ -1,0 +1,49 @@
+use Rattle.std.proofs.Common.{◌≡◌, sym, ◌+◌, arith}
+use Rattle.std.specs.BTreeMap as numbers_of
+use Rattle.slab.specs.Slab.{get}
+use Rattle.node_table.specs.Nodes.{key_cmp, key_at}
+use Rattle.node_table.specs.Making.{seen_at}
+use Rattle.node_table.proofs.NumberLemmas.{numbered_same}
+use Rattle.node_table.proofs.AskedLemmas.{alike_asked}
+use Rattle.node_agenda.proofs.BeginLemmas.{stands_first, loop_first}
+use Rattle.rete_beta.specs.Networks.{links_of, takers_of}
+use Rattle.rete_beta.proofs.ElementLemmas.{rising_differ}
+use Rattle.rete_beta.proofs.SpreadLemmas.{spread_same, linked}
+use Rattle.rete_beta.proofs.SettleLemmas.{links_settled, takers_settled, keys_settled, askers_settled, asked_settled, stamps_settled, root_settled, first_turns, first_reached, unserved}
+use Rattle.rete_beta.proofs.changing.react.Goals as goal
+
+pub settle-requires : goal.settle-requires
+settle-requires c =
+    let net = c.args.net.now in
+    let n = c.requires.behind.network in
+    loop_first (get net.nodes) c.in_ok-agenda.agenda.keys net.below net.stamp net.made c.args.come c.args.goes n.whole.table (unserved (get net.nodes) net.stamp n.stamps)
+    (first_turns (get net.nodes) net.takers net.alpha c.args.e.now c.in_ok-agenda.agenda.keys n.takers c.in_ok-agenda.ensures)
+    (first_reached net.nodes.slots net.takers net.alpha c.args.e.now c.args.come c.args.goes c.in_ok-agenda.agenda.keys n.whole.asked n.takers c.in_ok-agenda.ensures c.requires.one) (linked (get net.nodes) net.below n.links)
+
+pub returns-clause-network : goal.returns-clause-network
+returns-clause-network c =
+    let net = c.args.net.now in
+    let n = c.requires.behind.network in
+    let old = get net.nodes in
+    let new = get c.settle.new.nodes in
+    let s = c.in_ok-settle.ensures.settles in
+    let next : c.in-Some.next ≡ c.args.net.now.stamp + 1 = omega arith in
+    record {
+      works = n.works;
+      whole = record {
+        numbered = numbered_same (numbers_of.get key_cmp net.numbers) (key_at old) (key_at new) n.whole.numbered (keys_settled old new net.stamp s);
+        table = c.in_ok-settle.ensures.table;
+        asked = alike_asked net.nodes.slots c.settle.new.nodes.slots net.alpha n.whole.asked (askers_settled old new net.stamp s);
+      };
+      links = spread_same links_of (seen_at old) (seen_at new) net.below (links_settled old new net.stamp s) n.links;
+      takers = spread_same takers_of (seen_at old) (seen_at new) net.takers (takers_settled old new net.stamp s) n.takers;
+      stamps = stamps_settled old new net.stamp c.in-Some.next s (sym next) n.stamps;
+      elements = n.elements;
+      rising = n.rising;
+      holds = c.in_ok-settle.ensures.hold c.requires.behind.before net.alpha.elements (stands_first old net.stamp c.requires.behind.before net.alpha.elements n.holds (unserved old net.stamp n.stamps)) c.requires.behind.change n.elements
+          (rising_differ net.alpha.elements n.rising);
+      root = root_settled old new net.stamp s n.root;
+    }
+
+pub returns-clause-nodes : goal.returns-clause-nodes
+returns-clause-nodes c = asked_settled (get c.args.net.now.nodes) (get c.settle.new.nodes) c.args.net.now.stamp c.in_ok-settle.ensures.settles

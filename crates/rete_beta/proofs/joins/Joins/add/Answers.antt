@@ -1,0 +1,11 @@
+use Rattle.std.proofs.Common.{refl, sym, ap}
+use Rattle.rete_beta.specs.Joins.{JoinsOf}
+use Rattle.rete_beta.specs.Insides.{joins_view}
+use Rattle.std.proofs.lemmas.Result.{on_ok_weaker}
+use Rattle.rete_beta.proofs.ViewLemmas.{same_shown}
+use Rattle.rete_beta.proofs.joins.Joins.add.Goals as goal
+
+pub returns-clause-nodes : goal.returns-clause-nodes
+returns-clause-nodes c =
+    on_ok_weaker c.plus-added.result (λ same. same_shown c.args.self.now (joins_view (record c.self.inside { network = c.plus-added.new.net; failed = c.is_err-self-inside.result })) c.self.inside.network.nodes.slots c.plus-added.new.net.nodes.slots
+    (sym (ap (λ (v : JoinsOf). v.nodes) c.self.view_is)) refl same) c.plus-added.ensures.nodes

@@ -1,0 +1,18 @@
+use Rattle.std.proofs.Common.{◌∙◌, refl, sym, ap}
+use Rattle.rete_beta.specs.Joins.{JoinsOf}
+use Rattle.rete_beta.specs.Insides.{joins_view}
+use Rattle.rete_beta.specs.Networks.{key_made}
+use Rattle.node_table.specs.declared.node.Step.TheVariants.{Negation}
+use Rattle.rete_beta.proofs.ViewLemmas.{live_in, asks_shown, if_ok}
+use Rattle.rete_beta.proofs.joins.Joins.negation.Goals as goal
+
+pub ask_negation-asked-requires-clause-parent : goal.ask_negation-asked-requires-clause-parent
+ask_negation-asked-requires-clause-parent c = live_in c.args.self.now c.self.inside.network.nodes.slots c.args.parent (sym (ap (λ (v : JoinsOf). v.nodes) c.self.view_is)) (c.requires.live (sym (ap (λ (v : JoinsOf). v.failed) c.self.view_is) ∙ c.if-self.false))
+
+pub ask_negation-asked-requires-clause-inner : goal.ask_negation-asked-requires-clause-inner
+ask_negation-asked-requires-clause-inner c = live_in c.args.self.now c.self.inside.network.nodes.slots c.args.inner (sym (ap (λ (v : JoinsOf). v.nodes) c.self.view_is)) (c.requires.inner (sym (ap (λ (v : JoinsOf). v.failed) c.self.view_is) ∙ c.if-self.false))
+
+pub returns-clause-asks : goal.returns-clause-asks
+returns-clause-asks c =
+    if_ok (λ n asks. asks_shown c.args.self.now (joins_view (record c.self.inside { network = c.ask_negation-asked.new.net; failed = c.is_err-self-inside.result })) c.self.inside.network.nodes.slots c.ask_negation-asked.new.net.nodes.slots
+    (sym (ap (λ (v : JoinsOf). v.nodes) c.self.view_is)) refl (key_made c.args.parent (Negation c.args.inner)) n asks) c.ask_negation-asked.result c.ask_negation-asked.ensures.asks

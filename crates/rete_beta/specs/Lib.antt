@@ -1,0 +1,4 @@
+pub mod Insides
+pub mod Joins
+pub mod Networks
+pub mod Ways
