@@ -1,0 +1,4 @@
+pub mod Labels
+pub mod Literals
+pub mod Orders
+pub mod Sessions

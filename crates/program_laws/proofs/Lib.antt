@@ -1,0 +1,11 @@
+pub mod CarriedKnown
+pub mod KnownEvents
+pub mod KnownLaws
+pub mod KnownSteps
+pub mod LearningRounds
+pub mod LiteralLaws
+pub mod MakerLaws
+pub mod MatchingLaws
+pub mod OutcomeLaws
+pub mod ShownLaws
+pub mod TeachingLaws
