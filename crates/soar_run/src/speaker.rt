@@ -7,7 +7,7 @@ ghost use Rattle.soar_run.specs.Spoken.{StandsFor};
 use crate::step::{answer_command, refuse_told};
 use command_runs::{Answered, Carrier, Unread};
 use defs_match::Matcher;
-use match_direct::Direct;
+use rete_net::Net;
 use soar_agent::Session;
 use soar_edge::{Command, PutFault, Sink};
 use soar_sym::NoMemory;
@@ -51,11 +51,11 @@ impl<M: Matcher> Carrier for Speaker<M> {
 }
 
 /// The session before the first command, at a watch level from 0 to 5.
-pub fn first_speaker(alloc: Global, watch: u8) -> Result<Speaker<Direct>, NoMemory>
+pub fn first_speaker(alloc: Global, watch: u8) -> Result<Speaker<Net>, NoMemory>
     ensures stands { IfOk result (λ speaker. StandsFor speaker.session (first_session watch)) }
     ensures ready { IfOk result (λ speaker. IsReadySession speaker.session) }
 {
-    let matcher = Direct::new(alloc)?;
+    let matcher = Net::new(alloc)?;
     let session = Session::new(alloc, matcher, watch)?;
     Ok(Speaker { session })
 }

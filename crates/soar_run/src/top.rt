@@ -15,7 +15,7 @@ ghost use Rattle.soar_run.specs.Spoken.{StandsFor};
 use crate::speaker::{Speaker, first_speaker};
 use command_runs::run_whole;
 use command_words::{Options, read_options};
-use match_direct::Direct;
+use rete_net::Net;
 use soar_edge::{PutFault, Shelf, Sink, Source, Status, put_all};
 use soar_sym::NoMemory;
 use std::alloc::Global;
@@ -91,7 +91,7 @@ pub fn run_soar<I: Source, F: Shelf, O: Sink>(
 #[derive(Drop)]
 struct Start {
     options: Options,
-    speaker: Speaker<Direct>,
+    speaker: Speaker<Net>,
 }
 
 /// Reads the words, and makes the session before the first command. None where the words aren't of the form.

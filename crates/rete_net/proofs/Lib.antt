@@ -1,0 +1,9 @@
+pub mod AskLemmas
+pub mod CountLemmas
+pub mod DropLemmas
+pub mod GroundLemmas
+pub mod LeadLemmas
+pub mod LoadLemmas
+pub mod ReadLemmas
+pub mod RuleLemmas
+pub mod WayLemmas

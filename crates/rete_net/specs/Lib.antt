@@ -1,0 +1,6 @@
+pub mod Chains
+pub mod Insides
+pub mod Leading
+pub mod Loads
+pub mod Nets
+pub mod Requests

@@ -1,0 +1,62 @@
+// The instances of loaded rules.
+ghost use Rattle.std.specs.Prelude.{◌≡◌, ◌++◌, map, false, OnOk, IfOk};
+ghost use Rattle.defs_match.specs.Conflict as meaning;
+ghost use Rattle.rete_beta.specs.Joins.{node_at};
+ghost use Rattle.rete_net.specs.Chains.{IsServed, AllServed, rule_of, numbered};
+ghost use Rattle.rete_net.specs.Requests.{HasRoot, key_in};
+
+use crate::chain::Chain;
+use defs_match::Instance;
+use net_laws::canonical_forms_match;
+use rete_beta::Joins;
+use soar_sym::{List, NoMemory};
+use std::alloc::Global;
+
+/// Adds instances, under the number of a rule.
+fn add_numbered(
+    tokens: List<Instance>,
+    number: u64,
+    out: &mut List<Instance>,
+) -> Result<(), NoMemory>
+    ensures { OnOk result (out.new ≡ out.old ++ map (numbered number) tokens) }
+{
+    'tokens: for token in tokens.into_vec() {
+        out.push(Instance {
+            rule: number,
+            tags: token.tags,
+            binds: token.binds,
+        })?;
+    }
+    Ok(())
+}
+
+/// Adds the instances of a rule: the rows of its last node.
+fn add_instances(
+    alloc: Global,
+    joins: &Joins,
+    chain: &Chain,
+    out: &mut List<Instance>,
+) -> Result<(), NoMemory>
+    requires works { joins.now.failed ≡ false }
+    requires root { HasRoot (node_at joins.now) }
+    requires served { IsServed (key_in (node_at joins.now)) chain.now }
+    ensures { OnOk result (out.new ≡ out.old ++ meaning.instances_of joins.now.elements (rule_of chain.now)) }
+{
+    canonical_forms_match();
+    let tokens = joins.tokens(alloc, chain.last)?;
+    add_numbered(tokens, chain.rule.number, out)
+}
+
+/// The instances of all rules: rule by rule, those of a rule by their tags.
+pub fn conflict(alloc: Global, joins: &Joins, chains: &[Chain]) -> Result<List<Instance>, NoMemory>
+    requires works { joins.now.failed ≡ false }
+    requires root { HasRoot (node_at joins.now) }
+    requires served { AllServed (key_in (node_at joins.now)) chains.now }
+    ensures { IfOk result (λ instances. instances ≡ meaning.conflict (map rule_of chains.now) joins.now.elements) }
+{
+    let mut out = List::new(alloc);
+    'chains: for chain in chains {
+        add_instances(alloc, joins, chain, &mut out)?;
+    }
+    Ok(out)
+}
