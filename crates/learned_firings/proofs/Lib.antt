@@ -1,0 +1,4 @@
+pub mod DecidingLemmas
+pub mod FiringLemmas
+pub mod IdentifierLemmas
+pub mod NameLemmas

@@ -1,0 +1,16 @@
+pub mod Agreement
+pub mod CandidateLemmas
+pub mod ChainLemmas
+pub mod CountLemmas
+pub mod CourseLemmas
+pub mod ExplainedLemmas
+pub mod FlagLemmas
+pub mod JoinLemmas
+pub mod LawfulFacts
+pub mod LearnLemmas
+pub mod MatchLemmas
+pub mod NamedLemmas
+pub mod RoundAgreement
+pub mod StepLemmas
+pub mod StopLemmas
+pub mod WordLemmas

@@ -1,0 +1,21 @@
+-- Firings among the entries of a wave. No public clause cites this.
+use Rattle.std.specs.Prelude.{ℕ, ◌==◌, List, [], ◌∷◌, Option, Some, None, if◌then◌else◌}
+use Rattle.defs_soar.specs.History.{FiringOf}
+use Rattle.defs_soar.specs.WaveAtHand.{Entry, fired, noted}
+
+abbrev pub number_in : Entry → List ℕ
+number_in (fired x) = x.firing.number ∷ []
+number_in (noted learning_event) = []
+
+-- the firing of the entry, where it has this number
+abbrev pub firing_at : ℕ → Entry → Option FiringOf
+firing_at n (fired x) = if x.firing.number == n then Some x.firing else None
+firing_at n (noted learning_event) = None
+
+abbrev pub or_firing : Option FiringOf → Option FiringOf → Option FiringOf
+or_firing (Some f) later = Some f
+or_firing None later = later
+
+abbrev pub first_firing : ℕ → List Entry → Option FiringOf
+first_firing n [] = None
+first_firing n (e ∷ entries) = or_firing (firing_at n e) (first_firing n entries)

@@ -1,0 +1,6 @@
+pub mod Course
+pub mod Found
+pub mod Hands
+pub mod Held
+pub mod Lawful
+pub mod Seen
