@@ -34,9 +34,9 @@ within_counts n fits = let below : nat_lt 18446744073709551615 n ≡ false = gri
 abbrev in_cycle : ℕ → AgentStep → AgentStep
 in_cycle n s = record s { events = begins input_phase ∷ s.events; totals = counts_to n ∷ s.totals }
 
--- the parts that are settled
+-- the parts that are settled; nothing was learned in the new cycle
 abbrev pub with_inputs : PartsKept → List Triple → ℕ → PartsKept
-with_inputs a inputs cycles = record a { inputs = inputs; queue = []; cycles = cycles }
+with_inputs a inputs cycles = record a { inputs = inputs; queue = []; cycles = cycles; learned = 0 }
 
 input_at : (a : PartsKept) (history : List RecordedFiring)
     → after_input (agent_of a history) ≡ in_cycle (suc a.cycles) (resettled_now (agent_of (with_inputs a (with_changes a.inputs (map queued_seen a.queue)) (suc a.cycles)) history))

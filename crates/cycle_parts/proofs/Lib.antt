@@ -2,10 +2,13 @@ pub mod ExcisedLemmas
 pub mod FreshLemmas
 pub mod InputLemmas
 pub mod InputNowLemmas
+pub mod LawfulLemmas
 pub mod ListLemmas
 pub mod LoadLemmas
 pub mod NumberLemmas
 pub mod OutputLemmas
+pub mod QueueLemmas
+pub mod RetellingLemmas
 pub mod RuleLemmas
 pub mod SoundLemmas
 pub mod SteppingLemmas

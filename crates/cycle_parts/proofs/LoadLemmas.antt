@@ -12,6 +12,8 @@ use Rattle.defs_soar.specs.Agents.{Agent}
 use Rattle.defs_soar.specs.History.{RecordedFiring}
 use Rattle.defs_soar.specs.Limits.{counts_to}
 use Rattle.defs_run.specs.Carrying.{is_named}
+use Rattle.wave_learning.specs.Hands.{learned_rule_seen}
+use Rattle.wave_learning.specs.declared.program.LearnedRule.{LearnedRule}
 use Rattle.wave_parts.specs.Counting.{Counts}
 use Rattle.wave_parts.specs.Seen.{AreUpTo, IsSound, Stepped, agent_of}
 use Rattle.wave_parts.specs.Stands.{Stands}
@@ -19,9 +21,9 @@ use Rattle.wave_parts.specs.declared.parts.Parts.{Parts as PartsKept}
 use Rattle.wave_parts.proofs.LimitLemmas.{passed_later, passes_not}
 use Rattle.wave_parts.proofs.StandsLemmas.{of_each_state, remembers_same, stands_for}
 use Rattle.cycle_parts.specs.Calls.{load_step}
+use Rattle.cycle_parts.specs.Dropping.{AreDropped, unnamed, unnamed_chains}
 use Rattle.cycle_parts.proofs.NumberLemmas.{none_numbered, with_last_rule}
 use Rattle.cycle_parts.proofs.RuleLemmas.{up_to_filter}
-use Rattle.cycle_parts.proofs.SoundLemmas.{unnamed}
 use Rattle.cycle_parts.proofs.SteppingLemmas.{stepped_at}
 
 kept_given : (a : PartsKept) (rules : List Rule) (name : Sym) → IsSound a → map rule_seen rules ≡ unnamed name (map rule_seen a.rules) → AreUpTo a.last_rule (map rule_seen rules)
@@ -41,26 +43,35 @@ joins_last a rules more rule name sound are next pushed =
 pub more_rules : (rules more : List Rule) (rule : Rule) (kept : List RuleOf) → map rule_seen rules ≡ kept → more ≡ rules ++ rule ∷ [] → map rule_seen more ≡ kept ++ rule_seen rule ∷ []
 more_rules rules more rule kept are pushed = ap (map rule_seen) pushed ∙ map-append rule_seen rules (rule ∷ []) ∙ ap (λ (first : List RuleOf). first ++ rule_seen rule ∷ []) are
 
+-- ---- the parts
+
+abbrev pub loaded_parts : PartsKept → List Rule → ℕ → List LearnedRule → PartsKept
+loaded_parts a rules number chains = record a { rules = rules; last_rule = number; chains = chains }
+
+-- once the rules of the name went
+pub loaded_from : (a dropped : PartsKept) (name : Sym) (rules : List Rule) (number : ℕ) → AreDropped a dropped name
+    → record dropped { rules = rules; last_rule = number } ≡ loaded_parts a rules number dropped.chains
+loaded_from a dropped name rules number is = ap (λ (p : PartsKept). record p { rules = rules; last_rule = number }) is.same
+
 -- ---- the state afterwards
 
-abbrev with_rules : List Rule → ℕ → PartsKept → PartsKept
-with_rules rules number a = record a { rules = rules; last_rule = number }
-
-loaded_is : (a : PartsKept) (rules : List Rule) (number : ℕ) (production : ProductionOf) (history : List RecordedFiring) → number ≡ suc a.last_rule
+loaded_is : (a : PartsKept) (rules : List Rule) (number : ℕ) (chains : List LearnedRule) (production : ProductionOf) (history : List RecordedFiring) → number ≡ suc a.last_rule
     → map rule_seen rules ≡ unnamed production.name (map rule_seen a.rules) ++ record { number = number; production = production } ∷ []
-    → agent_of (with_rules rules number a) history ≡ (load_step production (agent_of a history)).agent
-loaded_is a rules number production history next are =
+    → map learned_rule_seen chains ≡ unnamed_chains production.name (map rule_seen a.rules) (map learned_rule_seen a.chains)
+    → agent_of (loaded_parts a rules number chains) history ≡ (load_step production (agent_of a history)).agent
+loaded_is a rules number chains production history next are chains_are =
     let kept = unnamed production.name (map rule_seen a.rules) in
     let there : map rule_seen rules ≡ kept ++ record { number = suc a.last_rule; production = production } ∷ [] = are ∙ ap (λ n. kept ++ record { number = n; production = production } ∷ []) next in
-    λ k. record (agent_of a history) { program = record (agent_of a history).program { rules = there k; last_rule = next k } }
+    λ k. record (agent_of a history) { program = record (agent_of a history).program { rules = there k; last_rule = next k; chains = chains_are k } }
 
-pub loads : (a : PartsKept) (rules : List Rule) (number : ℕ) (production : ProductionOf) → Counts (a.last_rule + 1) (Ok number)
+pub loads : (a : PartsKept) (rules : List Rule) (number : ℕ) (chains : List LearnedRule) (production : ProductionOf) → Counts (a.last_rule + 1) (Ok number)
     → map rule_seen rules ≡ unnamed production.name (map rule_seen a.rules) ++ record { number = number; production = production } ∷ []
-    → (s : Agent) → Stands a s → Stepped (with_rules rules number a) (load_step production s)
-loads a rules number production counted are =
+    → map learned_rule_seen chains ≡ unnamed_chains production.name (map rule_seen a.rules) (map learned_rule_seen a.chains)
+    → (s : Agent) → Stands a s → Stepped (loaded_parts a rules number chains) (load_step production s)
+loads a rules number chains production counted are chains_are =
     let next : number ≡ suc a.last_rule = omega (arith, counted.0) in
-    of_each_state (λ (s : Agent). Stepped (with_rules rules number a) (load_step production s)) a (λ history remembers.
-    stepped_at (with_rules rules number a) (load_step production (agent_of a history)) refl
-    (stands_for (with_rules rules number a) history (load_step production (agent_of a history)).agent
-    (remembers_same a (with_rules rules number a) history refl refl refl refl remembers) (loaded_is a rules number production history next are))
+    of_each_state (λ (s : Agent). Stepped (loaded_parts a rules number chains) (load_step production s)) a (λ history remembers.
+    stepped_at (loaded_parts a rules number chains) (load_step production (agent_of a history)) refl
+    (stands_for (loaded_parts a rules number chains) history (load_step production (agent_of a history)).agent
+    (remembers_same a (loaded_parts a rules number chains) history refl refl refl refl remembers) (loaded_is a rules number chains production history next are chains_are))
     (passed_later (counts_to (suc a.last_rule)) [] (passes_not (suc a.last_rule) which.Counts (omega (arith, counted.1)))))

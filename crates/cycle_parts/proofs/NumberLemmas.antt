@@ -12,7 +12,7 @@ use Rattle.cycle_parts.proofs.ListLemmas.{map_remove}
 
 -- ---- the rule at a place
 
-or_true : (b : Bool) → (b || true) ≡ true
+pub or_true : (b : Bool) → (b || true) ≡ true
 or_true true = refl
 or_true false = refl
 
@@ -34,7 +34,7 @@ below_at number (first ∷ rules) (suc at) rule below is = below_at number rules
 above_apart : (m n : ℕ) → m < n → (n == m) ≡ false
 above_apart m n h = grind arith
 
-without_none : (number : ℕ) (rules : List RuleOf) → IsBelowRules number rules → without_rule rules number ≡ rules
+pub without_none : (number : ℕ) (rules : List RuleOf) → IsBelowRules number rules → without_rule rules number ≡ rules
 without_none number [] below = refl
 without_none number (first ∷ rules) below =
     ap (λ b. cond (not b) (first ∷ without_rule rules number) (without_rule rules number)) (above_apart number first.number below.0)

@@ -1,12 +1,11 @@
 -- What is known of rules stays so with some less, or one more.
-use Rattle.std.proofs.Common.{◌≡◌, ℕ, ◌<◌, Bool, true, false, cond, List, [], ◌∷◌, ◌++◌, filter, arith}
+use Rattle.std.proofs.Common.{ℕ, ◌<◌, Bool, true, false, cond, List, [], ◌∷◌, ◌++◌, filter, arith}
 use Rattle.soar_sym.specs.Words.{Texts}
 use Rattle.soar_rule.specs.Symbols.{AreKnown, symbols_of}
 use Rattle.defs_match.specs.Rules.{RuleOf}
-use Rattle.defs_soar.specs.Pending.{is_justification}
 use Rattle.soar_settle.specs.Known.{AreRulesKnown}
 use Rattle.pending_work.specs.Firables.{IsBelowRules, AreNumbered}
-use Rattle.wave_parts.specs.Seen.{AreNoJustifications, AreUpTo}
+use Rattle.wave_parts.specs.Seen.{AreUpTo}
 
 -- ---- a rule less
 
@@ -34,14 +33,6 @@ up_to_filter p last (rule ∷ rules) given = by (p rule) (up_to_filter p last ru
     by true later = (given.0, later)
     by false later = later
 
-pub unlearned_filter : (p : RuleOf → Bool) (rules : List RuleOf) → AreNoJustifications rules → AreNoJustifications (filter p rules)
-unlearned_filter p [] none = tt
-unlearned_filter p (rule ∷ rules) none = by (p rule) (unlearned_filter p rules none.1)
-  where
-    by : (b : Bool) → AreNoJustifications (filter p rules) → AreNoJustifications (cond b (rule ∷ filter p rules) (filter p rules))
-    by true later = (none.0, later)
-    by false later = later
-
 pub rules_filter : (p : RuleOf → Bool) (words : Texts) (rules : List RuleOf) → AreRulesKnown words rules → AreRulesKnown words (filter p rules)
 rules_filter p words [] known = tt
 rules_filter p words (rule ∷ rules) known = by (p rule) (rules_filter p words rules known.1)
@@ -64,10 +55,6 @@ numbered_last last (first ∷ rules) rule numbered given less =
 pub up_to_last : (last : ℕ) (rules : List RuleOf) (rule : RuleOf) → AreUpTo last rules → last < rule.number → AreUpTo rule.number (rules ++ rule ∷ [])
 up_to_last last [] rule given less = (omega arith, tt)
 up_to_last last (first ∷ rules) rule given less = (omega (arith, given.0, less), up_to_last last rules rule given.1 less)
-
-pub unlearned_last : (rules : List RuleOf) (rule : RuleOf) → AreNoJustifications rules → is_justification rule.production.kind ≡ false → AreNoJustifications (rules ++ rule ∷ [])
-unlearned_last [] rule none one = (one, tt)
-unlearned_last (first ∷ rules) rule none one = (none.0, unlearned_last rules rule none.1 one)
 
 pub rules_last : (words : Texts) (rules : List RuleOf) (rule : RuleOf) → AreRulesKnown words rules → AreKnown words (symbols_of rule.production) → AreRulesKnown words (rules ++ rule ∷ [])
 rules_last words [] rule known one = (one, tt)

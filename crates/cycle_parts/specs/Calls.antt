@@ -1,18 +1,22 @@
--- What the calls by which a session works do to the state, each one step.
+-- What the calls by which a session works ask, and what they do to the state, each one step.
 use Rattle.std.specs.Prelude.{◌≡◌, ℕ, suc, ◌+◌, Bool, true, false, not, List, [], ◌∷◌, ◌++◌, filter, Some, Result, Ok, Err}
 use Rattle.soar_sym.specs.Letters.{last_of, with_last}
 use Rattle.soar_sym.specs.Words.{IsKnown, Texts}
 use Rattle.soar_sym.specs.declared.symbol.Sym.{Sym}
 use Rattle.soar_sym.specs.declared.symbol.Sym.TheVariants.{Ident}
 use Rattle.soar_sym.specs.declared.symbol.Triple.{Triple}
+use Rattle.soar_rule.specs.Checking.{ordered}
 use Rattle.soar_rule.specs.Productions.{ProductionOf}
+use Rattle.soar_rule.specs.Symbols.{constants_of}
 use Rattle.defs_soar.specs.Agents.{Agent}
 use Rattle.defs_soar.specs.Cycle.{held_with}
+use Rattle.defs_soar.specs.Laws.{IsIn}
 use Rattle.defs_soar.specs.Limits.{Total, counts_to, first_passed, identifiers_to}
 use Rattle.defs_soar.specs.Resettling.{AgentStep, resettled}
 use Rattle.defs_soar.specs.Start.{restarted}
 use Rattle.defs_soar.specs.Values.{triple_eq}
 use Rattle.defs_run.specs.Carrying.{with_production, without_name}
+use Rattle.learning_laws.specs.LawfulAgents.{AreGiven, IsLiteral, symbols_of_triple}
 use Rattle.soar_settle.specs.declared.stop.Stop.{Stop}
 use Rattle.soar_settle.specs.declared.stop.Stop.TheVariants as stop
 use Rattle.wave_parts.specs.Seen.{Stepped}
@@ -20,6 +24,15 @@ use Rattle.wave_parts.specs.declared.parts.Parts.{Parts as PartsKept}
 
 abbrev pub IsTripleKnown : Texts → Triple → Type 0
 IsTripleKnown words t = IsKnown words t.id × IsKnown words t.attr × IsKnown words t.value
+
+-- its words are in the table, and its identifiers were given by the letters
+abbrev pub IsTripleGiven : PartsKept → Triple → Type 0
+IsTripleGiven p t = AreGiven (record { words = p.table; letters = p.letters; last_tag = p.memory.last }) (symbols_of_triple t)
+
+-- the check gives it back, and its constants and the names of its variables are words of the table or numbers
+pub record MayBeLoaded (words : Texts) (production : ProductionOf) : Type 0 where
+  pub checked : ordered production ≡ Ok production
+  pub literal : (s : Sym) → IsIn s (production.vars ++ constants_of production) → IsLiteral words s
 
 -- a state, and what getting there drew
 abbrev pub drawn : Agent → List Total → AgentStep

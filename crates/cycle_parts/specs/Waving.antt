@@ -1,7 +1,7 @@
 -- The answers of a wave of a phase.
 use Rattle.std.specs.Prelude.{◌≡◌, ℕ, Bool, true, false, List, Result, Ok, Err}
 use Rattle.defs_soar.specs.Agents.{Agent}
-use Rattle.defs_soar.specs.Learning.{without_learning}
+use Rattle.defs_soar.specs.Learning.{with_learning}
 use Rattle.defs_soar.specs.Pending.{pending, is_none}
 use Rattle.defs_soar.specs.Resettling.{AgentStep}
 use Rattle.defs_soar.specs.Waves.{wave_of}
@@ -26,7 +26,7 @@ waved_by false = waved.Went
 
 -- what is pending in a state, carried out
 abbrev pub wave_at : Bool → Agent → AgentStep
-wave_at proposing s = wave_of without_learning s (pending proposing s)
+wave_at proposing s = wave_of with_learning s (pending proposing s)
 
 -- nothing was pending, and nothing changed
 pub record Rested (proposing : Bool) (s : Agent) (old new : PartsKept) (mid new_mid : Bool) (before after : List ℕ) : Type 0 where

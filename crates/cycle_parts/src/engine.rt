@@ -3,6 +3,7 @@ ghost use Rattle.defs_match.specs.Conflict.{conflict};
 ghost use Rattle.defs_soar.specs.Start.{first_agent};
 ghost use Rattle.defs_match.specs.Rules.{rule_seen};
 ghost use Rattle.cycle_parts.specs.Bonds.{Bond};
+ghost use Rattle.wave_parts.specs.Lawful.{IsOfLawful};
 ghost use Rattle.wave_parts.specs.Seen.{IsSound};
 ghost use Rattle.wave_parts.specs.Stands.{Stands};
 
@@ -27,6 +28,7 @@ impl<M: Matcher + Drop> Engine<M> {
         requires elements { M.elements matcher ≡ [] }
         ensures stands { IfOk result (λ engine. Stands engine.parts (first_agent watch)) }
         ensures sound { IfOk result (λ engine. IsSound engine.parts) }
+        ensures lawful { IfOk result (λ engine. IsOfLawful engine.parts) }
         ensures bond { IfOk result (λ engine. Bond (M.rules engine.matcher) (M.elements engine.matcher) (M.failed engine.matcher) engine.parts) }
     {
         let parts = Parts::new(alloc, watch)?;

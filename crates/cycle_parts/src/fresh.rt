@@ -5,6 +5,7 @@ ghost use Rattle.soar_sym.specs.Words.{IsKnown};
 ghost use Rattle.defs_soar.specs.Agents.{Agent as AgentOf};
 ghost use Rattle.cycle_parts.specs.Bonds.{Bond};
 ghost use Rattle.cycle_parts.specs.Calls.{GivesFresh};
+ghost use Rattle.wave_parts.specs.Lawful.{IsOfLawful};
 ghost use Rattle.wave_parts.specs.Seen.{IsSound};
 ghost use Rattle.wave_parts.specs.Stands.{Stands};
 
@@ -20,6 +21,7 @@ impl<M: Matcher> Engine<M> {
         requires low { 65 ≤ letter }
         requires high { letter ≤ 90 }
         requires sound { IsSound self.old.parts }
+        requires lawful { IsOfLawful self.old.parts }
         requires bond { Bond (M.rules self.old.matcher) (M.elements self.old.matcher) (M.failed self.old.matcher) self.old.parts }
         ensures step { (s : AgentOf) → Stands self.old.parts s → GivesFresh letter s self.new.parts result }
         ensures symbol { IfOk result (λ symbol. symbol ≡ Sym.Ident letter (last_of self.old.parts.letters letter + 1)) }
@@ -27,6 +29,7 @@ impl<M: Matcher> Engine<M> {
         ensures table { self.new.parts.table ≡ self.old.parts.table }
         ensures settings { self.new.parts.settings ≡ self.old.parts.settings }
         ensures sound { OnOk result (IsSound self.new.parts) }
+        ensures lawful { OnOk result (IsOfLawful self.new.parts) }
         ensures bond { OnOk result (Bond (M.rules self.new.matcher) (M.elements self.new.matcher) (M.failed self.new.matcher) self.new.parts) }
     {
         match self.parts.letters.next(letter) {

@@ -9,6 +9,7 @@ ghost use Rattle.step_report.specs.Reports.{settled_events};
 ghost use Rattle.cycle_parts.specs.Bonds.{Bond};
 ghost use Rattle.cycle_parts.specs.Settling.{Settles};
 ghost use Rattle.decision_parts.specs.Stepping.{GoesStep};
+ghost use Rattle.wave_parts.specs.Lawful.{IsOfLawful};
 ghost use Rattle.wave_parts.specs.Seen.{IsSound};
 ghost use Rattle.wave_parts.specs.Stands.{Stands};
 
@@ -31,10 +32,12 @@ impl<M: Matcher> Engine<M> {
         mid_line: &mut bool,
     ) -> Result<(), Stop>
         requires sound { IsSound self.old.parts }
+        requires lawful { IsOfLawful self.old.parts }
         requires bond { Bond (M.rules self.old.matcher) (M.elements self.old.matcher) (M.failed self.old.matcher) self.old.parts }
         ensures step { (s : AgentOf) → Stands self.old.parts s → GoesStep self.old.parts.settings.watch mid_line.old (after_input s) self.new.parts mid_line.new out.old out.new result }
         ensures settings { self.new.parts.settings ≡ self.old.parts.settings }
         ensures sound { OnOk result (IsSound self.new.parts) }
+        ensures lawful { OnOk result (IsOfLawful self.new.parts) }
         ensures bond { OnOk result (Bond (M.rules self.new.matcher) (M.elements self.new.matcher) (M.failed self.new.matcher) self.new.parts) }
     {
         let settled = self.settle_queued(alloc)?;
@@ -48,7 +51,7 @@ impl<M: Matcher> Engine<M> {
         Ok(())
     }
 
-    /// Counts the cycle, applies the queued changes of the inputs, and settles.
+    /// Counts the cycle, in which nothing was learned yet, applies the queued changes of the inputs, and settles.
     fn settle_queued(&mut self, alloc: Global) -> Result<Settled, Stop>
         requires sound { IsSound self.old.parts }
         requires bond { Bond (M.rules self.old.matcher) (M.elements self.old.matcher) (M.failed self.old.matcher) self.old.parts }
@@ -63,6 +66,7 @@ impl<M: Matcher> Engine<M> {
         self.parts.inputs = inputs;
         self.parts.queue = List::new(alloc);
         self.parts.cycles = cycles;
+        self.parts.learned = 0;
         self.resettle(alloc)
     }
 }

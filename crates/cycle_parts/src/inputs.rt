@@ -2,8 +2,9 @@
 ghost use Rattle.std.specs.Prelude.{◌≡◌, OnOk};
 ghost use Rattle.defs_soar.specs.Agents.{Agent as AgentOf};
 ghost use Rattle.cycle_parts.specs.Bonds.{Bond};
-ghost use Rattle.cycle_parts.specs.Calls.{IsTripleKnown, input_step};
+ghost use Rattle.cycle_parts.specs.Calls.{IsTripleGiven, input_step};
 ghost use Rattle.decision_parts.specs.Stepping.{GoesStep};
+ghost use Rattle.wave_parts.specs.Lawful.{IsOfLawful};
 ghost use Rattle.wave_parts.specs.Seen.{IsSound};
 ghost use Rattle.wave_parts.specs.Stands.{Stands};
 
@@ -26,12 +27,14 @@ impl<M: Matcher> Engine<M> {
         mid_line: &mut bool,
     ) -> Result<(), Stop>
         requires sound { IsSound self.old.parts }
+        requires lawful { IsOfLawful self.old.parts }
         requires bond { Bond (M.rules self.old.matcher) (M.elements self.old.matcher) (M.failed self.old.matcher) self.old.parts }
-        requires known { IsTripleKnown self.old.parts.table triple }
+        requires given { IsTripleGiven self.old.parts triple }
         ensures step { (s : AgentOf) → Stands self.old.parts s → GoesStep self.old.parts.settings.watch mid_line.old (input_step adds triple s) self.new.parts mid_line.new out.old out.new result }
         ensures table { self.new.parts.table ≡ self.old.parts.table }
         ensures settings { self.new.parts.settings ≡ self.old.parts.settings }
         ensures sound { OnOk result (IsSound self.new.parts) }
+        ensures lawful { OnOk result (IsOfLawful self.new.parts) }
         ensures bond { OnOk result (Bond (M.rules self.new.matcher) (M.elements self.new.matcher) (M.failed self.new.matcher) self.new.parts) }
     {
         self.parts.inputs = with_input(alloc, adds, triple, &self.parts.inputs)?;

@@ -13,6 +13,7 @@ mod loading;
 mod output_phase;
 mod queues;
 mod restarting;
+mod retelling;
 mod settings;
 mod settling;
 mod taking;

@@ -7,6 +7,7 @@ ghost use Rattle.soar_settle.specs.Known.{AreTriplesKnown};
 ghost use Rattle.step_report.specs.Saying.{SaysEvents};
 ghost use Rattle.cycle_parts.specs.Bonds.{Bond};
 ghost use Rattle.decision_parts.specs.Stepping.{GoesStep};
+ghost use Rattle.wave_parts.specs.Lawful.{IsOfLawful};
 ghost use Rattle.wave_parts.specs.Seen.{IsSound};
 ghost use Rattle.wave_parts.specs.Stands.{Stands};
 
@@ -29,10 +30,12 @@ impl<M: Matcher> Engine<M> {
         mid_line: &mut bool,
     ) -> Result<(), Stop>
         requires sound { IsSound self.old.parts }
+        requires lawful { IsOfLawful self.old.parts }
         requires bond { Bond (M.rules self.old.matcher) (M.elements self.old.matcher) (M.failed self.old.matcher) self.old.parts }
         ensures step { (s : AgentOf) → Stands self.old.parts s → GoesStep self.old.parts.settings.watch mid_line.old (after_output s) self.new.parts mid_line.new out.old out.new result }
         ensures settings { self.new.parts.settings ≡ self.old.parts.settings }
         ensures sound { OnOk result (IsSound self.new.parts) }
+        ensures lawful { OnOk result (IsOfLawful self.new.parts) }
         ensures bond { OnOk result (Bond (M.rules self.new.matcher) (M.elements self.new.matcher) (M.failed self.new.matcher) self.new.parts) }
     {
         let now = output_of(alloc, &self.parts.memory, self.parts.goals.list())?;

@@ -10,12 +10,14 @@ ghost use Rattle.cycle_parts.specs.Bonds.{Bond};
 ghost use Rattle.cycle_parts.specs.Waving.{TellsWork, WavesFrom, is_proposing, waved_by};
 ghost use Rattle.goal_trimming.specs.Living.{live_seen};
 ghost use Rattle.pending_work.specs.Working.{is_nothing};
-ghost use Rattle.wave_parts.specs.Carrying.{CarriesOut};
+ghost use Rattle.wave_parts.specs.Carrying.{CarriesOut, IsPendingIn};
 ghost use Rattle.pending_work.specs.Firables.{AreBound, IsPending};
+ghost use Rattle.wave_parts.specs.Lawful.{IsOfLawful};
 ghost use Rattle.wave_parts.specs.Seen.{AreLiveKnown, IsSound, pending_of};
 ghost use Rattle.wave_parts.specs.Stands.{Stands};
 
 use crate::engine::Engine;
+use crate::retelling::{forget, take_up};
 use crate::telling::tell;
 use defs_match::Matcher;
 use soar_sym::{NoMemory, Text};
@@ -33,7 +35,8 @@ pub enum Waved {
 }
 
 impl<M: Matcher> Engine<M> {
-    /// Runs a wave of a phase (Soar manual, chapter 2, elaboration cycle), and appends what can be told of it.
+    /// Runs a wave of a phase, which may teach rules (Soar manual, chapter 2, elaboration cycle, and chapter 4, chunking),
+    /// and appends what can be told of it.
     pub fn wave(
         &mut self,
         alloc: Global,
@@ -42,11 +45,13 @@ impl<M: Matcher> Engine<M> {
         mid_line: &mut bool,
     ) -> Result<Waved, Stop>
         requires sound { IsSound self.old.parts }
+        requires lawful { IsOfLawful self.old.parts }
         requires bond { Bond (M.rules self.old.matcher) (M.elements self.old.matcher) (M.failed self.old.matcher) self.old.parts }
         ensures wave { (s : AgentOf) → Stands self.old.parts s
             → WavesFrom self.old.parts.settings.watch (is_proposing phase) s self.old.parts self.new.parts mid_line.old mid_line.new out.old out.new result }
         ensures settings { self.new.parts.settings ≡ self.old.parts.settings }
         ensures sound { OnOk result (IsSound self.new.parts) }
+        ensures lawful { OnOk result (IsOfLawful self.new.parts) }
         ensures bond { OnOk result (Bond (M.rules self.new.matcher) (M.elements self.new.matcher) (M.failed self.new.matcher) self.new.parts) }
     {
         let work = self.pending(alloc, phase)?;
@@ -93,10 +98,12 @@ impl<M: Matcher> Engine<M> {
         self.parts.pending(alloc, is_proposing(phase), instances)
     }
 
-    /// Carries the work of a wave out, and tells the matcher what it changed.
+    /// Carries the work of a wave out, and tells the matcher which elements and rules went and which came.
     fn carry_out(&mut self, alloc: Global, work: Work) -> Result<Done, Stop>
         requires sound { IsSound self.old.parts }
+        requires lawful { IsOfLawful self.old.parts }
         requires bond { Bond (M.rules self.old.matcher) (M.elements self.old.matcher) (M.failed self.old.matcher) self.old.parts }
+        requires pending { IsPendingIn self.old.parts work }
         requires bound { AreBound (map rule_seen self.old.parts.rules) work.fired }
         requires known { AreInstancesKnown self.old.parts.table work.fired }
         requires names { AreLiveKnown self.old.parts.table (map live_seen work.retracted) }
@@ -104,10 +111,14 @@ impl<M: Matcher> Engine<M> {
         ensures known { IfOk result (λ done. AreEventsKnown self.new.parts.table (report_events done.report)) }
         ensures settings { self.new.parts.settings ≡ self.old.parts.settings }
         ensures sound { OnOk result (IsSound self.new.parts) }
+        ensures lawful { OnOk result (IsOfLawful self.new.parts) }
         ensures bond { OnOk result (Bond (M.rules self.new.matcher) (M.elements self.new.matcher) (M.failed self.new.matcher) self.new.parts) }
     {
+        let last = self.parts.last_rule;
         let done = self.parts.carry_out(alloc, work)?;
         tell(&mut self.matcher, &done.report.settled.changes)?;
+        forget(&mut self.matcher, done.spent.as_slice());
+        take_up(&mut self.matcher, last, self.parts.rules.as_slice())?;
         Ok(done)
     }
 }

@@ -5,7 +5,7 @@ use Rattle.defs_soar.specs.Agents.{Agent}
 use Rattle.defs_soar.specs.Cycle.{after_output, begun, cut_line, cycle, then_application, then_course, then_decision, then_output, then_phase, told_alone, unless_halted}
 use Rattle.defs_soar.specs.Decision.{decided_by}
 use Rattle.defs_soar.specs.Events.{Event, Part, application_phase, begins, is_cut, proposal_phase}
-use Rattle.defs_soar.specs.Learning.{without_learning}
+use Rattle.defs_soar.specs.Learning.{with_learning}
 use Rattle.defs_soar.specs.Phases.{Course, Phased, Said, phase, said_by, still, then_step}
 use Rattle.defs_soar.specs.Resettling.{AgentStep}
 use Rattle.defs_soar.specs.Trace.{Written, pieces_of, rendered}
@@ -33,9 +33,9 @@ extends_cut : (part : Part) (cut : Bool) (c : Course) → (more : List Said) × 
 extends_cut part true c = (told_alone c.agent.names.words (is_cut part) ∷ [], refl)
 extends_cut part false c = ([], sym (append-nil c.steps))
 
-pub phase_extends : (part : Part) (proposing : Bool) → Extends (then_phase without_learning part proposing)
+pub phase_extends : (part : Part) (proposing : Bool) → Extends (then_phase with_learning part proposing)
 phase_extends part proposing c =
-    let p : Phased = phase without_learning proposing c.agent in
+    let p : Phased = phase with_learning proposing c.agent in
     let begin : List Said = told_alone c.agent.names.words (begins part) ∷ [] in
     let cut = extends_cut part p.is_cut (then_course (begun part c) p.course) in (
       begin ++ (p.course.steps ++ cut.0),
@@ -67,9 +67,9 @@ begun_behind : (part : Part) (c d : Course) → then_course (begun part c) d ≡
 begun_behind part c d =
     ap (λ (steps : List Said). record { agent = d.agent; steps = steps }) (append_assoc c.steps (told_alone c.agent.names.words (begins part) ∷ []) d.steps)
 
-pub phase_behind : (part : Part) (proposing : Bool) (c : Course) → then_phase without_learning part proposing c ≡ then_course c (then_phase without_learning part proposing (still c.agent))
+pub phase_behind : (part : Part) (proposing : Bool) (c : Course) → then_phase with_learning part proposing c ≡ then_course c (then_phase with_learning part proposing (still c.agent))
 phase_behind part proposing c =
-    let p : Phased = phase without_learning proposing c.agent in
+    let p : Phased = phase with_learning proposing c.agent in
     ap (cut_line part p.is_cut) (begun_behind part c p.course) ∙ cut_behind part p.is_cut c (then_course (begun part (still c.agent)) p.course)
 
 -- ---- the lines of a phase
@@ -148,7 +148,7 @@ step_on f old new old_mid new_mid between after result goes watch level mid c be
 
 pub phase_on : {T : Type 0} (part : Phase) (old new : PartsKept) (old_mid new_mid : Bool) (between after : List ℕ) (result : Result T Stop)
     → ((s : Agent) → Stands old s → Goes old.settings.watch old_mid (phase_course part s) new new_mid between after result)
-    → (watch : ℕ) → GoesOn watch (then_phase without_learning (part_of part) (is_proposing part)) old new old_mid new_mid between after result
+    → (watch : ℕ) → GoesOn watch (then_phase with_learning (part_of part) (is_proposing part)) old new old_mid new_mid between after result
 phase_on part old new old_mid new_mid between after result goes watch level mid c before went =
     subst (λ (d : Course). Goes watch mid d new new_mid before after result) (sym (phase_behind (part_of part) (is_proposing part) c))
     (goes_then watch mid old_mid new_mid c (phase_course part c.agent) old new before between after result went
@@ -176,7 +176,7 @@ same_level now then is = ap (λ (x : Settings). x.watch) is
 abbrev pub whole : Course → Course
 whole c = then_output (with_application (with_decision (with_proposals (with_input c))))
 
-pub cycle_is : (s : Agent) → cycle decided_by without_learning s ≡ whole (still s)
+pub cycle_is : (s : Agent) → cycle decided_by with_learning s ≡ whole (still s)
 unfolding cycle
 cycle_is s = refl
 
@@ -198,7 +198,7 @@ pub after_output_extends : Extends then_output
 after_output_extends = step_extends after_output
 
 pub after_decision : Extends (λ c. then_output (with_application c))
-after_decision = extends_then with_application then_output (unless_extends (then_application without_learning) (phase_extends application_phase false)) after_output_extends
+after_decision = extends_then with_application then_output (unless_extends (then_application with_learning) (phase_extends application_phase false)) after_output_extends
 
 pub after_proposals : Extends (λ c. then_output (with_application (with_decision c)))
 after_proposals = extends_then with_decision (λ c. then_output (with_application c)) (unless_extends (then_decision decided_by) (step_extends decided_by)) after_decision
@@ -218,5 +218,5 @@ stopped_with {T} watch mid c g f extends old new old_mid new_mid before between 
     (stopped_on (Unit {0}) T watch f g extends mid c old new old_mid new_mid before between after why level went goes)
 
 pub of_cycle : {T : Type 0} (watch : ℕ) (s : Agent) (new : PartsKept) (mid new_mid : Bool) (before after : List ℕ) (result : Result T Stop)
-    → Goes watch mid (whole (still s)) new new_mid before after result → Goes watch mid (cycle decided_by without_learning s) new new_mid before after result
+    → Goes watch mid (whole (still s)) new new_mid before after result → Goes watch mid (cycle decided_by with_learning s) new new_mid before after result
 of_cycle {T} watch s new mid new_mid before after result goes = subst (λ (c : Course). Goes watch mid c new new_mid before after result) (sym (cycle_is s)) goes

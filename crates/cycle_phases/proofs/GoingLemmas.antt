@@ -2,7 +2,7 @@
 use Rattle.std.proofs.Common.{◌≡◌, ℕ, suc, ◌-◌, ◌<◌, ◌≤◌, ◌∙◌, Bool, true, false, not, List, Result, Ok, Err, refl, sym, ap, subst, arith}
 use Rattle.soar_rule.specs.Repeat.{Turn, ends, goes_on, turns}
 use Rattle.defs_soar.specs.Agents.{Agent, Settings as SettingsOf}
-use Rattle.defs_soar.specs.Learning.{without_learning}
+use Rattle.defs_soar.specs.Learning.{with_learning}
 use Rattle.defs_soar.specs.Pending.{is_none, pending}
 use Rattle.defs_soar.specs.Phases.{Course, Phased, still, then_step, one_wave, phased_by, phase}
 use Rattle.soar_settle.specs.declared.stop.Stop.{Stop}
@@ -21,7 +21,7 @@ pub starts : (watch : ℕ) (proposing : Bool) (now : PartsKept) (s : Agent) (mid
 starts watch proposing now s mid text stands = record {
   course = still s;
   went = none_went watch mid s now text stands;
-  is_left = ap (λ (settings : SettingsOf). turns settings.max_elaborations (one_wave without_learning proposing) (still s)) stands.settings;
+  is_left = ap (λ (settings : SettingsOf). turns settings.max_elaborations (one_wave with_learning proposing) (still s)) stands.settings;
 }
 
 -- ---- a wave told at the level that was set at the start
@@ -55,22 +55,22 @@ goes watch proposing now new left s mid now_mid new_mid before between after g w
 
 -- the phase is what the turns that are left come to
 abbrev ends_with : Bool → Agent → Turn Course → Type 0
-ends_with proposing s t = turns s.settings.max_elaborations (one_wave without_learning proposing) (still s) ≡ t
+ends_with proposing s t = turns s.settings.max_elaborations (one_wave with_learning proposing) (still s) ≡ t
 
-phase_is : (proposing : Bool) (s : Agent) (t : Turn Course) → ends_with proposing s t → phase without_learning proposing s ≡ phased_by proposing t
+phase_is : (proposing : Bool) (s : Agent) (t : Turn Course) → ends_with proposing s t → phase with_learning proposing s ≡ phased_by proposing t
 unfolding phase
 phase_is proposing s t is = ap (phased_by proposing) is
 
 ends_so : (watch : ℕ) (proposing : Bool) (s : Agent) (t : Turn Course) (new : PartsKept) (mid new_mid : Bool) (before after : List ℕ) (cut : Bool) → ends_with proposing s t
     → Went watch mid (phased_by proposing t).course new new_mid before after → cut ≡ (phased_by proposing t).is_cut
-    → GoesPhase watch mid (phase without_learning proposing s) new new_mid before after (Ok cut)
+    → GoesPhase watch mid (phase with_learning proposing s) new new_mid before after (Ok cut)
 ends_so watch proposing s t new mid new_mid before after cut is went cut_is =
     subst (λ (p : Phased). GoesPhase watch mid p new new_mid before after (Ok cut)) (sym (phase_is proposing s t is)) (went, cut_is)
 
 -- nothing was pending
 pub rests : (watch : ℕ) (proposing : Bool) (now new : PartsKept) (left : ℕ) (s : Agent) (mid now_mid new_mid : Bool) (before between after : List ℕ)
     → (g : Going watch proposing now (suc left) s mid now_mid before between) → Rested proposing g.course.agent now new now_mid new_mid between after
-    → GoesPhase watch mid (phase without_learning proposing s) new new_mid before after (Ok false)
+    → GoesPhase watch mid (phase with_learning proposing s) new new_mid before after (Ok false)
 rests watch proposing now new left s mid now_mid new_mid before between after g rest =
     let w = g.went in
     ends_so watch proposing s (ends g.course) new mid new_mid before after false
@@ -86,7 +86,7 @@ rests watch proposing now new left s mid now_mid new_mid before between after g 
 -- a firing halted
 pub halts : (watch : ℕ) (proposing : Bool) (now new : PartsKept) (left : ℕ) (s : Agent) (mid now_mid new_mid : Bool) (before between after : List ℕ)
     → (g : Going watch proposing now (suc left) s mid now_mid before between) → Worked watch proposing g.course.agent true new now_mid new_mid between after
-    → GoesPhase watch mid (phase without_learning proposing s) new new_mid before after (Ok false)
+    → GoesPhase watch mid (phase with_learning proposing s) new new_mid before after (Ok false)
 halts watch proposing now new left s mid now_mid new_mid before between after g worked =
     let c : Course = then_step g.course (at_wave proposing g.course) in
     ends_so watch proposing s (ends c) new mid new_mid before after false
@@ -97,14 +97,14 @@ halts watch proposing now new left s mid now_mid new_mid before between after g 
 
 pub stops : (watch : ℕ) (proposing : Bool) (now new : PartsKept) (left : ℕ) (s : Agent) (mid now_mid new_mid : Bool) (before between after : List ℕ) (why : Stop)
     → (g : Going watch proposing now (suc left) s mid now_mid before between) → WavesFrom watch proposing g.course.agent now new now_mid new_mid between after (Err why)
-    → GoesPhase watch mid (phase without_learning proposing s) new new_mid before after (Err why)
+    → GoesPhase watch mid (phase with_learning proposing s) new new_mid before after (Err why)
 stops watch proposing now new left s mid now_mid new_mid before between after stop.NoMemory g h = tt
 stops watch proposing now new left s mid now_mid new_mid before between after (stop.Limit limit) g h =
     let c : Course = then_step g.course (at_wave proposing g.course) in
     let among = wave_among proposing left g.course h.0 in
-    let is : phase without_learning proposing s ≡ phased_by proposing (turns (suc left) (one_wave without_learning proposing) g.course) =
-    phase_is proposing s (turns (suc left) (one_wave without_learning proposing) g.course) (sym g.is_left) in
-    passed_more watch mid new_mid c (phase without_learning proposing s).course among.0 before after limit (ap (λ (p : Phased). p.course.steps) is ∙ among.1)
+    let is : phase with_learning proposing s ≡ phased_by proposing (turns (suc left) (one_wave with_learning proposing) g.course) =
+    phase_is proposing s (turns (suc left) (one_wave with_learning proposing) g.course) (sym g.is_left) in
+    passed_more watch mid new_mid c (phase with_learning proposing s).course among.0 before after limit (ap (λ (p : Phased). p.course.steps) is ∙ among.1)
     (went_stops watch mid now_mid new_mid g.course (course_by (at_wave proposing g.course)) now before between after limit g.went
     (step_stops watch now_mid (at_wave proposing g.course) new_mid between after limit h.1))
 
@@ -122,11 +122,11 @@ negated false none is = ap not (sym is)
 -- no wave is left
 pub is_over : (watch : ℕ) (proposing : Bool) (now new : PartsKept) (left : ℕ) (s : Agent) (mid now_mid : Bool) (before after : List ℕ) (result : Result Bool Stop) → left ≤ 0
     → (g : Going watch proposing now left s mid now_mid before after) → new ≡ now → TellsWork proposing g.course.agent result
-    → GoesPhase watch mid (phase without_learning proposing s) new now_mid before after result
+    → GoesPhase watch mid (phase with_learning proposing s) new now_mid before after result
 is_over watch proposing now new left s mid now_mid before after (Ok some) h g same tells =
     let none : left ≡ 0 = omega (arith, h) in
     ends_so watch proposing s (goes_on g.course) new mid now_mid before after some
-    (sym g.is_left ∙ ap (λ n. turns n (one_wave without_learning proposing) g.course) none)
+    (sym g.is_left ∙ ap (λ n. turns n (one_wave with_learning proposing) g.course) none)
     (subst (λ (a : PartsKept). Went watch mid g.course a now_mid before after) (sym same) g.went) (negated some (is_none (pending proposing g.course.agent)) tells)
 is_over watch proposing now new left s mid now_mid before after (Err (stop.Limit limit)) h g same tells = absurd tells
 is_over watch proposing now new left s mid now_mid before after (Err stop.NoMemory) h g same tells = tt

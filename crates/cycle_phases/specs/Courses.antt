@@ -3,7 +3,7 @@ use Rattle.std.specs.Prelude.{◌≡◌, ℕ, Bool, true, false, List, [], ◌�
 use Rattle.defs_soar.specs.declared.limit.Which.{Which}
 use Rattle.defs_soar.specs.Agents.{Agent}
 use Rattle.defs_soar.specs.Cycle.{then_phase}
-use Rattle.defs_soar.specs.Learning.{without_learning}
+use Rattle.defs_soar.specs.Learning.{with_learning}
 use Rattle.defs_soar.specs.Limits.{or_limit, first_passed}
 use Rattle.defs_soar.specs.Phases.{Said, Course, Phased, phase, still}
 use Rattle.defs_soar.specs.Trace.{Written, followed_by, pieces_of, rendered}
@@ -58,10 +58,10 @@ Goes watch mid c new new_mid before after (Err stop.NoMemory) = Unit {0}
 
 -- from a state on: the line that begins it, its waves, and the line of a cut
 abbrev pub phase_course : Phase → Agent → Course
-phase_course part s = then_phase without_learning (part_of part) (is_proposing part) (still s)
+phase_course part s = then_phase with_learning (part_of part) (is_proposing part) (still s)
 
 abbrev pub phased : Phase → Agent → Phased
-phased part s = phase without_learning (is_proposing part) s
+phased part s = phase with_learning (is_proposing part) s
 
 -- how it ended: cut, or at rest, halted or not
 abbrev pub ended_as : Bool → Bool → Ended

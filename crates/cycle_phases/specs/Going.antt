@@ -3,7 +3,7 @@ use Rattle.std.specs.Prelude.{◌≡◌, ℕ, Bool, true, false, List, [], ◌�
 use Rattle.soar_rule.specs.Repeat.{turns}
 use Rattle.defs_soar.specs.Agents.{Agent}
 use Rattle.defs_soar.specs.Events.{Event, Part, is_cut}
-use Rattle.defs_soar.specs.Learning.{without_learning}
+use Rattle.defs_soar.specs.Learning.{with_learning}
 use Rattle.defs_soar.specs.Phases.{Course, Phased, still, one_wave}
 use Rattle.soar_settle.specs.declared.stop.Stop.{Stop}
 use Rattle.soar_settle.specs.declared.stop.Stop.TheVariants as stop
@@ -14,7 +14,7 @@ use Rattle.cycle_phases.specs.Courses.{Passed, Went}
 pub record Going (watch : ℕ) (proposing : Bool) (now : PartsKept) (left : ℕ) (initial : Agent) (mid now_mid : Bool) (before after : List ℕ) : Type 0 where
   pub course : Course
   pub went : Went watch mid course now now_mid before after
-  pub is_left : turns left (one_wave without_learning proposing) course ≡ turns initial.settings.max_elaborations (one_wave without_learning proposing) (still initial)
+  pub is_left : turns left (one_wave with_learning proposing) course ≡ turns initial.settings.max_elaborations (one_wave with_learning proposing) (still initial)
 
 -- each answer, exactly where it comes: whether the phase is cut, or the limit; only want of memory is free
 abbrev pub GoesPhase : ℕ → Bool → Phased → PartsKept → Bool → List ℕ → List ℕ → Result Bool Stop → Type 0

@@ -109,7 +109,6 @@ pushed_sound a goal letters depends sound room keep known none depends_is =
       top_numbered = omega (arith, sound.top_numbered, keep 83);
       numbered = sound.numbered;
       numbers_given = sound.numbers_given;
-      none_learned = sound.none_learned;
       rules_known = sound.rules_known;
       elements_known = sound.elements_known;
       rows_known = sound.rows_known;
@@ -117,6 +116,9 @@ pushed_sound a goal letters depends sound room keep known none depends_is =
       queue_known = sound.queue_known;
       output_known = sound.output_known;
       live_known = sound.live_known;
+      live_given = sound.live_given;
+      past_named = sound.past_named;
+      chains_known = sound.chains_known;
     }
 
 -- ---- the answer

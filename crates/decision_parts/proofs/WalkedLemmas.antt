@@ -10,7 +10,7 @@ use Rattle.defs_soar.specs.declared.goal.Goal.{Goal}
 use Rattle.defs_soar.specs.declared.goal.Item.{Item}
 use Rattle.defs_soar.specs.declared.goal.Selection.{Selection}
 use Rattle.defs_soar.specs.declared.preference.Preference.{Preference}
-use Rattle.defs_soar.specs.Agents.{Agent}
+use Rattle.defs_soar.specs.Agents.{Agent, LiveFiring}
 use Rattle.defs_soar.specs.Decision.{view_of}
 use Rattle.defs_soar.specs.Dependencies.{dependency_set}
 use Rattle.defs_soar.specs.Goals.{goal_ids}
@@ -235,7 +235,6 @@ walked_sound a goals depends prefs live range sound first left known selections 
       top_numbered = sound.top_numbered;
       numbered = sound.numbered;
       numbers_given = sound.numbers_given;
-      none_learned = sound.none_learned;
       rules_known = sound.rules_known;
       elements_known = sound.elements_known;
       rows_known = subst (AreRowsKnown a.table) (sym rows) (rows_filtered a.table (λ r. not (is_of_gone gone r)) a.prefs.rows sound.rows_known);
@@ -243,4 +242,7 @@ walked_sound a goals depends prefs live range sound first left known selections 
       queue_known = sound.queue_known;
       output_known = sound.output_known;
       live_known = subst (AreLiveKnown a.table) (sym left.live_are) (live_filter a.table (λ l. nat_lt l.depth (suc (length goals))) (map live_seen a.live) sound.live_known);
+      live_given = λ l is. sound.live_given l (filter_within (λ (m : LiveFiring). nat_lt m.depth (suc (length goals))) (map live_seen a.live) l (subst (IsIn l) left.live_are is));
+      past_named = sound.past_named;
+      chains_known = sound.chains_known;
     }

@@ -5,15 +5,15 @@ use Rattle.soar_sym.specs.declared.symbol.Triple.{Triple}
 use Rattle.soar_wm.specs.declared.element.Element.{Element}
 use Rattle.defs_soar.specs.declared.firing.DropCause.TheVariants as drop_cause
 use Rattle.defs_soar.specs.declared.firing.Dropped.{Dropped}
-use Rattle.defs_soar.specs.declared.preference.Preference.{Preference}
 use Rattle.defs_soar.specs.declared.preference.PrefKind.TheVariants as kind
+use Rattle.trace_details.specs.declared.wish.HeldBy.TheVariants as held_by
+use Rattle.wave_entries.specs.declared.entry.HeldWish.{HeldWish}
 use Rattle.step_report.specs.declared.settled.Removed.{Removed}
 
-abbrev pub no_row : Preference
-no_row = record {
-  firing = 0;
+abbrev pub no_wish : HeldWish
+no_wish = record {
   wish = record { id = Ident 0 0; attr = Ident 0 0; value = Ident 0 0; kind = kind.Accept; referent = None };
-  operator_support = false;
+  by = held_by.Instance;
 }
 
 abbrev pub no_drop : Dropped

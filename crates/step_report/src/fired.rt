@@ -1,19 +1,18 @@
-// What is told of a firing: its line, then the rows that it made, the actions that it dropped, and what it wrote.
-ghost use Rattle.std.specs.Prelude.{◌≡◌, map, OnOk};
+// What is told of a firing: its line, then the preferences that it made, the actions that it dropped, and what it wrote.
+ghost use Rattle.std.specs.Prelude.{[], ◌∷◌, map, OnOk};
 ghost use Rattle.defs_soar.specs.Events.{drops};
-ghost use Rattle.trace_laws.specs.Events.{AreEventsKnown};
-ghost use Rattle.trace_details.specs.Details.{support_of};
-ghost use Rattle.wave_firings.specs.Told.{row_event, support_of_row, told_events};
+ghost use Rattle.trace_laws.specs.Events.{AreEventsKnown, IsEventKnown};
+ghost use Rattle.wave_entries.specs.Entries.{heading_event, held_event, told_events};
 ghost use Rattle.step_report.specs.Saying.{SaysEvents};
 
 use crate::text::say_text;
-use defs_soar::{Dropped, Preference};
+use defs_soar::Dropped;
 use soar_sym::{NoMemory, SymTable, Text};
-use trace_details::{HeldBy, say_drop, say_firing, say_wish};
-use wave_firings::Told;
+use trace_details::{say_drop, say_firing, say_lesson, say_wish};
+use wave_entries::{Heading, HeldWish, Told};
 
-/// Appends what is told of a firing: its line (level 3), its rows and dropped actions (level 5), and its text at every
-/// level.
+/// Appends what is told of a firing: its line (level 3), its preferences and dropped actions (level 5), and its text at
+/// every level. Of what learning told without a firing that is its line alone.
 pub fn say_fired(
     watch: u8,
     table: &SymTable,
@@ -24,46 +23,49 @@ pub fn say_fired(
     requires { AreEventsKnown table.now (told_events told.now) }
     ensures { OnOk result (SaysEvents watch table.now (told_events told.now) mid_line.old out.old mid_line.new out.new) }
 {
-    say_firing(
-        watch,
-        table,
-        told.number,
-        told.name,
-        &told.instance,
-        out,
-        mid_line,
-    )?;
-    say_rows(watch, table, told.rows.as_slice(), out, mid_line)?;
+    say_heading(watch, table, &told.heading, out, mid_line)?;
+    say_wishes(watch, table, told.wishes.as_slice(), out, mid_line)?;
     say_drops(watch, table, told.dropped.as_slice(), out, mid_line)?;
     say_text(told.text.as_str(), out, mid_line)?;
     Ok(())
 }
 
-fn say_rows(
+/// Appends the line of a firing: that of its rule, or that of what was learned.
+#[tactic(auto, unfolding(defs_soar::specs::Trace::pieces_of))]
+fn say_heading(
     watch: u8,
     table: &SymTable,
-    rows: &[Preference],
+    heading: &Heading,
     out: &mut Text,
     mid_line: &mut bool,
 ) -> Result<(), NoMemory>
-    requires { AreEventsKnown table.now (map row_event rows.now) }
-    ensures { OnOk result (SaysEvents watch table.now (map row_event rows.now) mid_line.old out.old mid_line.new out.new) }
+    requires { IsEventKnown table.now (heading_event heading.now) }
+    ensures { OnOk result (SaysEvents watch table.now (heading_event heading.now ∷ []) mid_line.old out.old mid_line.new out.new) }
 {
-    'rows: for row in rows {
-        say_wish(watch, table, &row.wish, held_by(row), out, mid_line)?;
+    match heading {
+        Heading::Fires {
+            number,
+            name,
+            instance,
+        } => say_firing(watch, table, *number, *name, instance, out, mid_line),
+        Heading::Learns(lesson) => say_lesson(watch, table, lesson, out, mid_line),
     }
-    Ok(())
 }
 
-/// How a row is held by its firing, where nothing is learned.
-fn held_by(row: &Preference) -> HeldBy
-    ensures { support_of result ≡ support_of_row row.now }
+fn say_wishes(
+    watch: u8,
+    table: &SymTable,
+    wishes: &[HeldWish],
+    out: &mut Text,
+    mid_line: &mut bool,
+) -> Result<(), NoMemory>
+    requires { AreEventsKnown table.now (map held_event wishes.now) }
+    ensures { OnOk result (SaysEvents watch table.now (map held_event wishes.now) mid_line.old out.old mid_line.new out.new) }
 {
-    if row.operator_support {
-        HeldBy::Operator
-    } else {
-        HeldBy::Instance
+    'wishes: for held in wishes {
+        say_wish(watch, table, &held.wish, held.by, out, mid_line)?;
     }
+    Ok(())
 }
 
 fn say_drops(

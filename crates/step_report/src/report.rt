@@ -1,9 +1,9 @@
-// What a wave tells: the firings that it took back, those that it made, and what it settled to.
+// What a wave tells: the firings that it took back, those that it made with what it learned, and what it settled to.
 ghost use Rattle.std.specs.Prelude.{◌++◌, flat_map, map, OnOk};
 ghost use Rattle.defs_soar.specs.Waves.{retract_event};
 ghost use Rattle.goal_trimming.specs.Living.{live_seen};
 ghost use Rattle.trace_laws.specs.Events.{AreEventsKnown};
-ghost use Rattle.wave_firings.specs.Told.{told_events};
+ghost use Rattle.wave_entries.specs.Entries.{told_events};
 ghost use Rattle.step_report.specs.Reports.{report_events};
 ghost use Rattle.step_report.specs.Saying.{SaysEvents};
 
@@ -12,9 +12,9 @@ use crate::settled::{Settled, say_settled};
 use goal_trimming::Live;
 use soar_sym::{List, NoMemory, SymTable, Text};
 use trace_details::say_retraction;
-use wave_firings::Told;
+use wave_entries::Told;
 
-/// What a wave did that can be told.
+/// What a wave did that can be told. What learning told is among the firings, in its place.
 #[derive(Drop)]
 pub struct Report {
     pub retracted: List<Live>,
@@ -64,7 +64,7 @@ fn say_retractions(
     Ok(())
 }
 
-/// Appends what is told of each firing.
+/// Appends what is told of each firing, and of learning.
 fn say_firings(
     watch: u8,
     table: &SymTable,

@@ -1,5 +1,5 @@
--- Rules, instances and rows whose words are in the table, also in a longer table, and in shorter lists.
-use Rattle.std.proofs.Common.{◌≡◌, ◌<◌, ◌≤◌, ℕ, ◌+◌, Bool, true, false, cond, List, [], ◌∷◌, ◌++◌, length, map, drop, get_or, Option, Some, None, refl, subst, ◌∙◌, add-one, drop-cons, arith}
+-- Rules, instances and rows whose words are in the table, also in a longer table, and in shorter lists. Crates above cite this file.
+use Rattle.std.proofs.Common.{◌≡◌, ◌<◌, ◌≤◌, ℕ, ◌+◌, Bool, true, false, cond, List, [], ◌∷◌, ◌++◌, length, drop, get_or, refl, subst, ◌∙◌, add-one, drop-cons, arith}
 use Rattle.soar_sym.specs.Words.{Texts, IsKnown}
 use Rattle.soar_sym.specs.declared.symbol.Sym.{Sym}
 use Rattle.soar_sym.specs.declared.symbol.Sym.TheVariants.{Ident, Word, Int}
@@ -10,15 +10,11 @@ use Rattle.defs_match.specs.Rules.{RuleOf}
 use Rattle.defs_match.specs.declared.instance.Instance.{Instance}
 use Rattle.defs_soar.specs.declared.goal.Goal.{Goal}
 use Rattle.defs_soar.specs.declared.preference.Preference.{Preference}
-use Rattle.defs_soar.specs.declared.preference.Wish.{Wish}
-use Rattle.defs_soar.specs.Dependencies.{symbols_of_wish, symbols_of_referent}
+use Rattle.defs_soar.specs.Dependencies.{symbols_of_wish}
 use Rattle.defs_soar.specs.Goals.{goal_ids}
-use Rattle.defs_soar.specs.Pending.{Firable, depth_of, is_of_operator_kind}
-use Rattle.soar_fire.specs.Fires.{AreWishesKnown, referents_of}
 use Rattle.pending_work.specs.Firables.{rules_of, AreBound, IsBoundBy, IsInstance}
 use Rattle.soar_settle.specs.Known.{AreInstancesKnown, AreRowsKnown, AreRulesKnown}
-use Rattle.wave_firings.specs.FiringOutcome.{rows_made, KnowsGoals, KnowsInstances, KnowsRows, KnowsRules}
-use Rattle.wave_firings.specs.Rows.{Against, row_made}
+use Rattle.wave_firings.specs.FiringOutcome.{KnowsGoals, KnowsInstances, KnowsRules}
 
 -- ---- a longer table
 
@@ -52,31 +48,11 @@ instances_grown old new instances h grown = record { are_known = are_instances_g
 pub goals_grown : (old new : Texts) (goals : List Goal) → KnowsGoals old goals → length old ≤ length new → KnowsGoals new goals
 goals_grown old new goals h grown = record { are_known = are_known_grown old new (goal_ids goals) grown h.are_known; are_few = h.are_few }
 
-pub rows_grown : (old new : Texts) (rows : List Preference) → KnowsRows old rows → length old ≤ length new → KnowsRows new rows
-rows_grown old new rows h grown = record { are_known = are_rows_grown old new rows grown h.are_known }
-
--- ---- the rows of a firing
-
-referents_are : (o : Option Sym) → referents_of o ≡ symbols_of_referent o
-referents_are None = refl
-referents_are (Some s) = refl
-
-are_wishes_rows : (words : Texts) (a : Against) (depth number : ℕ) (kind : Bool) (wishes : List Wish) → AreWishesKnown words wishes → AreRowsKnown words (map (row_made a depth number kind) wishes)
-are_wishes_rows words a depth number kind [] h = tt
-are_wishes_rows words a depth number kind (w ∷ wishes) h =
-    (subst (λ more. AreKnown words (w.id ∷ w.attr ∷ w.value ∷ more)) (referents_are w.referent) h.0, are_wishes_rows words a depth number kind wishes h.1)
+-- ---- rows in turn
 
 pub are_rows_append : (words : Texts) (rows more : List Preference) → AreRowsKnown words rows → AreRowsKnown words more → AreRowsKnown words (rows ++ more)
 are_rows_append words [] more h k = k
 are_rows_append words (row ∷ rows) more h k = (h.0, are_rows_append words rows more h.1 k)
-
-pub rows_more : (old new : Texts) (rows : List Preference) (a : Against) (f : Firable) (number : ℕ) (wishes : List Wish)
-    → KnowsRows old rows → length old ≤ length new → AreWishesKnown new wishes → KnowsRows new (rows ++ rows_made a f number wishes)
-rows_more old new rows a f number wishes h grown k = record {
-  are_known =
-      are_rows_append new rows (rows_made a f number wishes) (are_rows_grown old new rows grown h.are_known)
-      (are_wishes_rows new a (depth_of a.reach.goals f) number (is_of_operator_kind a.reach.goals f) wishes k);
-}
 
 -- ---- the instance at hand, and those behind it
 

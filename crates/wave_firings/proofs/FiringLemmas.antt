@@ -9,7 +9,7 @@ use Rattle.defs_soar.specs.declared.limit.Which.TheVariants as which
 use Rattle.defs_soar.specs.Pending.{Firable, firable_of}
 use Rattle.pending_work.specs.Firables.{firables_for, rules_of, IsInstance}
 use Rattle.wave_firings.specs.FiringOutcome.{Gathered, gathered, stopped, then_on, first_of, firing_outcome, next_outcome, firings_outcome, instances_outcome, Leaves, LeavesOne}
-use Rattle.wave_firings.specs.Rows.{Against}
+use Rattle.wave_firings.specs.Held.{Against}
 use Rattle.wave_firings.specs.declared.firing.Fired.{Fired}
 use Rattle.soar_settle.specs.declared.stop.Stop.{Stop}
 use Rattle.soar_settle.specs.declared.stop.Stop.TheVariants as stop

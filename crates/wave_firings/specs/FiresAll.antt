@@ -4,15 +4,12 @@ use Rattle.soar_sym.specs.Words.{Texts}
 use Rattle.soar_wm.specs.declared.element.Element.{Element}
 use Rattle.defs_match.specs.Rules.{RuleOf}
 use Rattle.defs_match.specs.declared.instance.Instance.{Instance}
-use Rattle.defs_soar.specs.Learning.{without_learning}
 use Rattle.defs_soar.specs.Limits.{first_passed}
-use Rattle.defs_soar.specs.WaveAtHand.{BeforeWave, Wave, all_fresh}
+use Rattle.defs_soar.specs.WaveAtHand.{BeforeWave, Wave}
 use Rattle.defs_soar.specs.WaveFirings.{with_firings}
-use Rattle.defs_soar.specs.Waves.{entry_events, rows_of_fresh, live_of}
 use Rattle.pending_work.specs.Firables.{firables_for}
-use Rattle.firing_records.specs.Recorded.{Standing, fresh_seen, reach_of, recorded_seen}
-use Rattle.goal_trimming.specs.Living.{live_seen}
-use Rattle.wave_firings.specs.Told.{told_events}
+use Rattle.firing_records.specs.Recorded.{Standing, reach_of}
+use Rattle.wave_entries.specs.Entries.{entry_seen}
 use Rattle.wave_firings.specs.declared.firing.Fired.{Fired}
 use Rattle.soar_settle.specs.declared.stop.Stop.{Stop}
 use Rattle.soar_settle.specs.declared.stop.Stop.TheVariants as stop
@@ -30,21 +27,18 @@ pub record Begins (words : Texts) (letters : List ℕ) (s : Standing) (last : �
   pub not_halted : w.halted ≡ false
   pub nothing_drawn : w.totals ≡ []
 
--- what the wave holds after the firings; the rows and what is told are those without learning, by which all else stays
-pub record HasFired (m : BeforeWave) (words : Texts) (letters : List ℕ) (count : ℕ) (fired : Fired) (before after : Wave) : Type 0 where
+-- what the wave holds after the firings; each preference is held as the kind of its firing has it
+pub record HasFired (words : Texts) (letters : List ℕ) (count : ℕ) (fired : Fired) (before after : Wave) : Type 0 where
   pub words_are : words ≡ after.names.words
   pub letters_are : letters ≡ after.names.letters
   pub last_is : after.last_firing ≡ before.last_firing + count
-  pub rows_are : fired.rows ≡ flat_map rows_of_fresh (all_fresh (without_learning m after).entries)
-  pub live_are : map live_seen fired.live ≡ map live_of (all_fresh after.entries)
-  pub recorded_are : map recorded_seen fired.recorded ≡ map fresh_seen (all_fresh after.entries)
-  pub told_are : flat_map told_events fired.told ≡ flat_map entry_events (without_learning m after).entries
+  pub entries_are : map entry_seen fired.entries ≡ after.entries
   pub halted_is : fired.halted ≡ after.halted
   pub within : first_passed after.totals ≡ None
 
 abbrev pub FiredFrom : BeforeWave → Wave → List RuleOf → List Element → List Instance → Texts → List ℕ → Result Fired Stop → Type 0
 FiredFrom m w rules elements instances words letters (Ok fired) =
-    HasFired m words letters (length instances) fired w (with_firings m w (flat_map (firables_for rules elements) instances))
+    HasFired words letters (length instances) fired w (with_firings m w (flat_map (firables_for rules elements) instances))
 FiredFrom m w rules elements instances words letters (Err (stop.Limit which)) =
     first_passed (with_firings m w (flat_map (firables_for rules elements) instances)).totals ≡ Some which
 FiredFrom m w rules elements instances words letters (Err stop.NoMemory) = Unit {0}

@@ -5,60 +5,39 @@ use Rattle.soar_sym.specs.declared.symbol.Sym.{Sym}
 use Rattle.soar_rule.specs.Symbols.{AreKnown, constants_of}
 use Rattle.defs_match.specs.Rules.{RuleOf}
 use Rattle.defs_match.specs.declared.instance.Instance.{Instance}
-use Rattle.defs_soar.specs.declared.firing.Dropped.{Dropped}
 use Rattle.defs_soar.specs.declared.firing.Made.{Made}
 use Rattle.defs_soar.specs.declared.goal.Goal.{Goal}
 use Rattle.defs_soar.specs.declared.limit.Which.{Which}
 use Rattle.defs_soar.specs.declared.limit.Which.TheVariants as which
-use Rattle.defs_soar.specs.declared.preference.Preference.{Preference}
-use Rattle.defs_soar.specs.declared.preference.Wish.{Wish}
-use Rattle.defs_soar.specs.Agents.{LiveFiring}
-use Rattle.defs_soar.specs.Events.{Event}
 use Rattle.defs_soar.specs.Firing.{MadeSoFar, made_by}
 use Rattle.defs_soar.specs.Limits.{limit_of, first_passed}
-use Rattle.defs_soar.specs.Pending.{Firable, depth_of, is_of_operator_kind}
+use Rattle.defs_soar.specs.Pending.{Firable}
 use Rattle.defs_soar.specs.Goals.{goal_ids}
-use Rattle.defs_soar.specs.Support.{goal_at_depth}
-use Rattle.defs_soar.specs.Uses.{all_uses, elements_matched}
-use Rattle.defs_soar.specs.WaveAtHand.{goals_among}
-use Rattle.soar_fire.specs.Fires.{IsMade}
-use Rattle.firing_records.specs.Recorded.{RecordedAs, recorded_seen}
+use Rattle.defs_soar.specs.WaveAtHand.{Entry, fired, goals_among}
+use Rattle.soar_fire.specs.Fires.{AreWishesKnown, IsMade}
 use Rattle.pending_work.specs.Firables.{firables_for}
-use Rattle.goal_trimming.specs.Living.{live_seen}
+use Rattle.wave_entries.specs.Entries.{entry_seen}
 use Rattle.trace_laws.specs.Events.{AreEventsKnown}
-use Rattle.soar_settle.specs.Known.{AreInstancesKnown, AreRulesKnown, AreRowsKnown}
-use Rattle.wave_firings.specs.Rows.{Against, row_made}
-use Rattle.wave_firings.specs.Told.{told_events}
+use Rattle.soar_settle.specs.Known.{AreInstancesKnown, AreRowsKnown, AreRulesKnown}
+use Rattle.wave_firings.specs.Held.{Against, fresh_made}
+use Rattle.wave_firings.specs.Listed.{events_in, rows_in, wishes_in}
 use Rattle.wave_firings.specs.declared.firing.Fired.{Fired}
-use Rattle.wave_firings.specs.declared.told.Told.{Told}
 use Rattle.soar_settle.specs.declared.stop.Stop.{Stop}
 use Rattle.soar_settle.specs.declared.stop.Stop.TheVariants as stop
 
--- what the firings so far left: words, letters and the last number, and what they made
+-- what the firings so far left: words, letters and the last number, their entries, and whether one halts
 pub record Gathered : Type 0 where
   pub words : Texts
   pub letters : List ℕ
   pub last : ℕ
-  pub rows : List Preference
-  pub live : List LiveFiring
-  pub recorded : List RecordedAs
-  pub told : List Event
+  pub entries : List Entry
   pub halted : Bool
 
 abbrev pub gathered : Texts → List ℕ → ℕ → Fired → Gathered
-gathered words letters last fired = record {
-  words = words;
-  letters = letters;
-  last = last;
-  rows = fired.rows;
-  live = map live_seen fired.live;
-  recorded = map recorded_seen fired.recorded;
-  told = flat_map told_events fired.told;
-  halted = fired.halted;
-}
+gathered words letters last made = record { words = words; letters = letters; last = last; entries = map entry_seen made.entries; halted = made.halted }
 
 abbrev pub nothing_fired : Fired
-nothing_fired = record { rows = []; live = []; recorded = []; told = []; halted = false }
+nothing_fired = record { entries = []; halted = false }
 
 -- what was gathered, or the limit that was passed
 pub data Outcome : Type 0 where
@@ -84,50 +63,16 @@ abbrev pub made_for : List Goal → Firable → Texts → List ℕ → MadeSoFar
 made_for goals f words letters =
     made_by goals f.rule.production.actions (record { bindings = f.bindings; words = words; letters = letters; vars = f.rule.production.vars; totals = [] })
 
-abbrev pub rows_made : Against → Firable → ℕ → List Wish → List Preference
-rows_made a f number wishes = map (row_made a (depth_of a.reach.goals f) number (is_of_operator_kind a.reach.goals f)) wishes
-
-abbrev pub live_made : List Goal → Firable → ℕ → LiveFiring
-live_made goals f number = record { number = number; name = f.rule.production.name; depth = depth_of goals f; instance = f.instance }
-
-abbrev pub told_as : RuleOf → Instance → ℕ → List Preference → List Dropped → List ℕ → Told
-told_as rule i number rows dropped text = record { number = number; name = rule.production.name; instance = i; rows = rows; dropped = dropped; text = text }
-
--- the firing as it is told, with the rows that it holds itself
-abbrev pub told_made : Against → Firable → ℕ → List Wish → List Dropped → List ℕ → Told
-told_made a f number wishes dropped text = told_as f.rule f.instance number (rows_made a f number wishes) dropped text
-
 -- the goals among the symbols of the firing, by the words of its turn
 abbrev pub goals_named : List Goal → Firable → Texts → List Sym
 goals_named goals f words = goals_among words goals (f.instance.binds ++ constants_of f.rule.production)
-
-abbrev pub recorded_made : Against → Firable → ℕ → List Sym → List Wish → RecordedAs
-recorded_made a f number goals made =
-    let depth = depth_of a.reach.goals f in
-    record {
-      firing = record {
-        number = number;
-        name = f.rule.production.name;
-        rule = f.rule;
-        depth = depth;
-        instance = f.instance;
-        goals = goals;
-        used = all_uses a.reach a.rows depth (elements_matched a.elements f.instance.tags);
-        made = made;
-      };
-      goal = goal_at_depth depth a.reach.goals;
-      operator_kind = is_of_operator_kind a.reach.goals f;
-    }
 
 abbrev pub with_made : Against → Firable → ℕ → MadeSoFar → Gathered → Gathered
 with_made a f number made g = record {
   words = made.naming.words;
   letters = made.naming.letters;
   last = number;
-  rows = g.rows ++ rows_made a f number made.wishes;
-  live = g.live ++ live_made a.reach.goals f number ∷ [];
-  recorded = g.recorded ++ recorded_made a f number (goals_named a.reach.goals f g.words) made.wishes ∷ [];
-  told = g.told ++ told_events (told_made a f number made.wishes made.dropped made.text);
+  entries = g.entries ++ fired (fresh_made a f number (goals_named a.reach.goals f g.words) made.wishes made.dropped made.text) ∷ [];
   halted = g.halted || made.halted;
 }
 
@@ -179,8 +124,8 @@ pub record KnowsGoals (words : Texts) (goals : List Goal) : Type 0 where
   pub are_known : AreKnown words (goal_ids goals)
   pub are_few : length goals ≤ 100
 
-pub record KnowsRows (words : Texts) (rows : List Preference) : Type 0 where
-  pub are_known : AreRowsKnown words rows
-
-pub record KnowsTold (words : Texts) (told : List Told) : Type 0 where
-  pub are_known : AreEventsKnown words (flat_map told_events told)
+-- what these entries leave shows words of the table
+pub record KnowsEntries (words : Texts) (entries : List Entry) : Type 0 where
+  pub rows_known : AreRowsKnown words (rows_in entries)
+  pub wishes_known : AreWishesKnown words (wishes_in entries)
+  pub events_known : AreEventsKnown words (events_in entries)

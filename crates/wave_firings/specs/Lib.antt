@@ -1,5 +1,5 @@
 pub mod FiresAll
 pub mod FiringOutcome
+pub mod Held
+pub mod Listed
 pub mod Numbered
-pub mod Rows
-pub mod Told

@@ -1,42 +1,38 @@
-ghost use Rattle.std.specs.Prelude.{◌≡◌, ◌≤◌, flat_map, length, map, IfOk};
+ghost use Rattle.std.specs.Prelude.{◌≡◌, ◌≤◌, length, map, IfOk};
 ghost use Rattle.soar_rule.specs.Symbols.{AreKnown};
+ghost use Rattle.soar_fire.specs.Fires.{AreWishesKnown};
 ghost use Rattle.soar_fire.specs.Growth.{Grown, LettersKeep};
 ghost use Rattle.defs_match.specs.Rules.{rule_seen};
 ghost use Rattle.defs_soar.specs.Goals.{goal_ids};
 ghost use Rattle.trace_laws.specs.Events.{AreEventsKnown};
 ghost use Rattle.soar_settle.specs.Known.{AreInstancesKnown, AreRulesKnown, AreRowsKnown};
-ghost use Rattle.firing_records.specs.Recorded.{recorded_seen, standing};
+ghost use Rattle.firing_records.specs.Recorded.{standing};
 ghost use Rattle.pending_work.specs.Firables.{AreNumbered, AreBound};
+ghost use Rattle.wave_entries.specs.Entries.{entry_seen};
 ghost use Rattle.wave_firings.specs.FiresAll.{FiresAll};
 ghost use Rattle.wave_firings.specs.FiringOutcome.{nothing_fired};
+ghost use Rattle.wave_firings.specs.Listed.{events_in, recorded_in, rows_in, wishes_in};
 ghost use Rattle.wave_firings.specs.Numbered.{AreGoalsOf, AreMakersOfFirings, AreMakersUpTo, AreNumberedAfter, AreOfFirings};
-ghost use Rattle.wave_firings.specs.Told.{told_events};
 
 use crate::scene::Scene;
-use crate::told::Told;
 use crate::turns::fire_each;
 use defs_match::{Instance, Rule};
-use defs_soar::Preference;
-use firing_records::{Before, Recorded};
-use goal_trimming::Live;
+use firing_records::Before;
 use soar_settle::Stop;
 use soar_sym::{Letters, List, SymTable};
 use std::alloc::Global;
+use wave_entries::Entry;
 
-/// What the firings of a wave made: rows in order of firing, the firings themselves, how each is recorded and told,
-/// and whether one halts.
+/// The firings of a wave in turn, each as it is recorded and as it is told, and whether one halts.
 #[derive(Drop)]
 pub struct Fired {
-    pub rows: List<Preference>,
-    pub live: List<Live>,
-    pub recorded: List<Recorded>,
-    pub told: List<Told>,
+    pub entries: List<Entry>,
     pub halted: bool,
 }
 
 /// Fires the instances in order, numbered from the one after `last` on, against what is there before the wave
-/// (Soar manual, chapter 2, elaboration cycle). Each firing's rows have the support of its kind, but nothing that it
-/// makes for a higher goal has operator support: without learning that is the firing's own.
+/// (Soar manual, chapter 2, elaboration cycle). Each preference is held as the kind of its firing has it; what learning
+/// makes of those for higher goals comes later.
 /// Of a wave that is stopped new words and identifiers may stay.
 pub fn fire_all(
     alloc: Global,
@@ -54,14 +50,15 @@ pub fn fire_all(
     requires goals_known { AreKnown table.old (goal_ids before.now.goals.now) }
     requires goals_few { length before.now.goals.now ≤ 100 }
     ensures answer { FiresAll table.old letters.old (standing before.now) (map rule_seen rules.now) instances.now last table.new letters.new result }
-    ensures known { IfOk result (λ fired. AreRowsKnown table.new fired.rows) }
+    ensures known { IfOk result (λ fired. AreRowsKnown table.new (rows_in (map entry_seen fired.entries))) }
+    ensures made_known { IfOk result (λ fired. AreWishesKnown table.new (wishes_in (map entry_seen fired.entries))) }
     ensures words { Grown table.old table.new }
     ensures letters { LettersKeep letters.old letters.new }
-    ensures numbers { IfOk result (λ fired. AreNumberedAfter last (map recorded_seen fired.recorded)) }
+    ensures numbers { IfOk result (λ fired. AreNumberedAfter last (recorded_in (map entry_seen fired.entries))) }
     ensures earlier { AreOfFirings last before.now.prefs.now.rows → AreMakersOfFirings last before.now.goals.now
-        → IfOk result (λ fired. AreMakersUpTo last (map recorded_seen fired.recorded)) }
-    ensures told_known { IfOk result (λ fired. AreEventsKnown table.new (flat_map told_events fired.told)) }
-    ensures goals { IfOk result (λ fired. AreGoalsOf before.now.goals.now (map recorded_seen fired.recorded)) }
+        → IfOk result (λ fired. AreMakersUpTo last (recorded_in (map entry_seen fired.entries))) }
+    ensures told_known { IfOk result (λ fired. AreEventsKnown table.new (events_in (map entry_seen fired.entries))) }
+    ensures goals { IfOk result (λ fired. AreGoalsOf before.now.goals.now (recorded_in (map entry_seen fired.entries))) }
 {
     let mut fired = nothing_fired(alloc);
     let scene = Scene {
@@ -85,10 +82,7 @@ fn nothing_fired(alloc: Global) -> Fired
     ensures { result ≡ nothing_fired }
 {
     Fired {
-        rows: List::new(alloc),
-        live: List::new(alloc),
-        recorded: List::new(alloc),
-        told: List::new(alloc),
+        entries: List::new(alloc),
         halted: false,
     }
 }

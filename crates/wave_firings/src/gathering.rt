@@ -1,27 +1,24 @@
-// What a firing made joins what the earlier ones of its wave made.
-ghost use Rattle.std.specs.Prelude.{◌≡◌, ◌≤◌, ◌++◌, ◌∷◌, ◌||◌, [], flat_map, length, map, IfOk, OnOk};
+// A firing with what it made joins the earlier ones of its wave.
+ghost use Rattle.std.specs.Prelude.{◌≡◌, ◌≤◌, ◌++◌, ◌∷◌, ◌||◌, [], length, map, IfOk, OnOk};
 ghost use Rattle.soar_rule.specs.Variables.{bound_variables};
 ghost use Rattle.defs_match.specs.Rules.{rule_seen};
 ghost use Rattle.defs_soar.specs.Pending.{firable_of};
-ghost use Rattle.firing_records.specs.Recorded.{recorded_as, recorded_seen, standing};
-ghost use Rattle.goal_trimming.specs.Living.{live_seen};
-ghost use Rattle.wave_firings.specs.FiringOutcome.{live_made, rows_made, told_as, told_made};
-ghost use Rattle.wave_firings.specs.Rows.{against};
-ghost use Rattle.wave_firings.specs.Told.{told_events};
+ghost use Rattle.defs_soar.specs.WaveAtHand.{fired};
+ghost use Rattle.firing_records.specs.Recorded.{standing};
+ghost use Rattle.wave_entries.specs.Entries.{entry_seen, fresh_at_hand};
+ghost use Rattle.wave_firings.specs.Held.{against, fresh_made, told_as};
 
 use crate::firing::Fired;
-use crate::rows::rows_of;
+use crate::held::held_of;
 use crate::scene::Scene;
-use crate::told::Told;
 use defs_match::{Instance, Rule};
-use defs_soar::{Made, Preference};
+use defs_soar::Made;
 use firing_records::recorded;
-use goal_trimming::Live;
-use soar_levels::match_depth;
 use soar_sym::{List, NoMemory, Sym, Text};
 use std::alloc::{AllocError, Global};
+use wave_entries::{Entry, Fresh, Heading, Told};
 
-/// Adds a firing with what it made, and records it with the goals among its symbols. Its number is that of its rows.
+/// Adds a firing with what it made, and records it with the goals among its symbols.
 pub fn gather(
     scene: &Scene<'_>,
     rule: &Rule,
@@ -29,75 +26,63 @@ pub fn gather(
     number: u64,
     goals: List<Sym>,
     made: &Made,
-    fired: &mut Fired,
+    gathered: &mut Fired,
 ) -> Result<(), NoMemory>
     requires binds { length instance.now.binds ≡ length (bound_variables (rule_seen rule.now).production.conditions) }
     requires few { length scene.now.before.now.goals.now ≤ 100 }
-    ensures rows { OnOk result (fired.new.rows ≡ fired.old.rows
-        ++ rows_made (against (standing scene.now.before.now)) (firable_of scene.now.before.now.memory.now.elements (rule_seen rule.now) instance.now)
-        number made.now.wishes) }
-    ensures live { OnOk result (map live_seen fired.new.live ≡ map live_seen fired.old.live
-        ++ live_made scene.now.before.now.goals.now (firable_of scene.now.before.now.memory.now.elements (rule_seen rule.now) instance.now) number ∷ []) }
-    ensures recorded { OnOk result (map recorded_seen fired.new.recorded ≡ map recorded_seen fired.old.recorded
-        ++ recorded_as goals (standing scene.now.before.now) (rule_seen rule.now) instance.now number made.now.wishes ∷ []) }
-    ensures told { OnOk result (flat_map told_events fired.new.told ≡ flat_map told_events fired.old.told
-        ++ told_events (told_made (against (standing scene.now.before.now))
-        (firable_of scene.now.before.now.memory.now.elements (rule_seen rule.now) instance.now) number made.now.wishes made.now.dropped made.now.texts)) }
-    ensures halted { OnOk result (fired.new.halted ≡ fired.old.halted || made.now.halted) }
+    ensures entries { OnOk result (map entry_seen gathered.new.entries ≡ map entry_seen gathered.old.entries
+        ++ fired (fresh_made (against (standing scene.now.before.now)) (firable_of scene.now.before.now.memory.now.elements (rule_seen rule.now) instance.now)
+        number goals made.now.wishes made.now.dropped made.now.texts) ∷ []) }
+    ensures halted { OnOk result (gathered.new.halted ≡ gathered.old.halted || made.now.halted) }
 {
-    let wishes = made.wishes.as_slice();
-    let recorded = recorded(scene.before, rule, instance, number, goals, wishes)?;
-    let rows = rows_of(scene.alloc, scene.before, &recorded, wishes)?;
-    fired.rows.extend_from_slice(rows.as_slice())?;
-    let told = told_of(scene.alloc, rule, instance, number, rows, made)?;
-    fired.live.push(live_of(scene, rule, instance, number)?)?;
-    fired.recorded.push(recorded)?;
-    fired.told.push(told)?;
-    fired.halted = fired.halted || made.halted;
+    let fresh = at_hand(scene, rule, instance, number, goals, made)?;
+    gathered.entries.push(Entry::Fired(fresh))?;
+    gathered.halted = gathered.halted || made.halted;
     Ok(())
 }
 
-/// The firing as it is listed, with the depth of its match goal.
-fn live_of(
+/// The firing as the wave holds it: as it is recorded, and as it is told.
+fn at_hand(
     scene: &Scene<'_>,
     rule: &Rule,
     instance: &Instance,
     number: u64,
-) -> Result<Live, AllocError>
-    ensures { IfOk result (λ live. live_seen live
-        ≡ live_made scene.now.before.now.goals.now (firable_of scene.now.before.now.memory.now.elements (rule_seen rule.now) instance.now) number) }
+    goals: List<Sym>,
+    made: &Made,
+) -> Result<Fresh, NoMemory>
+    requires binds { length instance.now.binds ≡ length (bound_variables (rule_seen rule.now).production.conditions) }
+    requires few { length scene.now.before.now.goals.now ≤ 100 }
+    ensures { IfOk result (λ fresh. fresh_at_hand fresh
+        ≡ fresh_made (against (standing scene.now.before.now)) (firable_of scene.now.before.now.memory.now.elements (rule_seen rule.now) instance.now)
+        number goals made.now.wishes made.now.dropped made.now.texts) }
 {
-    let before = scene.before;
-    Ok(Live {
-        number,
-        name: rule.production.name,
-        depth: match_depth(
-            before.goals.as_slice(),
-            before.memory,
-            instance.tags.as_slice(),
-        ),
-        instance: copy_of(scene.alloc, instance)?,
-    })
+    let wishes = made.wishes.as_slice();
+    let recorded = recorded(scene.before, rule, instance, number, goals, wishes)?;
+    let told = told_of(scene, rule, instance, number, recorded.operator_kind, made)?;
+    Ok(Fresh { recorded, told })
 }
 
-/// The firing as it is told, with its rows.
+/// The firing as it is told, with how its preferences are held.
 fn told_of(
-    alloc: Global,
+    scene: &Scene<'_>,
     rule: &Rule,
     instance: &Instance,
     number: u64,
-    rows: List<Preference>,
+    operator_kind: bool,
     made: &Made,
 ) -> Result<Told, NoMemory>
-    ensures { IfOk result (λ told. told ≡ told_as (rule_seen rule.now) instance.now number rows made.now.dropped made.now.texts) }
+    ensures { IfOk result (λ told. told ≡ told_as scene.now.before.now.goals.now operator_kind (rule_seen rule.now) instance.now number made.now.wishes made.now.dropped made.now.texts) }
 {
+    let goals = scene.before.goals.as_slice();
     Ok(Told {
-        number,
-        name: rule.production.name,
-        instance: copy_of(alloc, instance)?,
-        rows,
-        dropped: List::from_slice(alloc, made.dropped.as_slice())?,
-        text: Text::from_str(alloc, made.texts.as_str())?,
+        heading: Heading::Fires {
+            number,
+            name: rule.production.name,
+            instance: copy_of(scene.alloc, instance)?,
+        },
+        wishes: held_of(scene.alloc, goals, operator_kind, made.wishes.as_slice())?,
+        dropped: List::from_slice(scene.alloc, made.dropped.as_slice())?,
+        text: Text::from_str(scene.alloc, made.texts.as_str())?,
     })
 }
 

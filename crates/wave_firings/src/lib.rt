@@ -3,10 +3,8 @@
 
 mod firing;
 mod gathering;
-mod rows;
+mod held;
 mod scene;
-mod told;
 mod turns;
 
 pub use firing::{Fired, fire_all};
-pub use told::Told;

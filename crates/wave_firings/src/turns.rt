@@ -9,8 +9,9 @@ ghost use Rattle.defs_match.specs.Rules.{rule_seen};
 ghost use Rattle.defs_soar.specs.Pending.{firable_of};
 ghost use Rattle.pending_work.specs.Firables.{firables_for, rules_of, AreBound, IsInstance};
 ghost use Rattle.firing_records.specs.Recorded.{standing};
-ghost use Rattle.wave_firings.specs.FiringOutcome.{first_of, firing_outcome, gathered, instances_outcome, Leaves, LeavesOne, Makes, KnowsGoals, KnowsInstances, KnowsRows, KnowsRules, KnowsTold};
-ghost use Rattle.wave_firings.specs.Rows.{against};
+ghost use Rattle.wave_firings.specs.FiringOutcome.{first_of, firing_outcome, gathered, instances_outcome, Leaves, LeavesOne, Makes, KnowsEntries, KnowsGoals, KnowsInstances, KnowsRules};
+ghost use Rattle.wave_entries.specs.Entries.{entry_seen};
+ghost use Rattle.wave_firings.specs.Held.{against};
 
 use crate::firing::Fired;
 use crate::gathering::gather;
@@ -35,14 +36,12 @@ pub fn fire_each(
     requires rules { KnowsRules table.old (map rule_seen scene.now.rules.now) }
     requires goals { KnowsGoals table.old scene.now.before.now.goals.now }
     requires instances { KnowsInstances table.old instances.now }
-    requires rows { KnowsRows table.old fired.old.rows }
-    requires told { KnowsTold table.old fired.old.told }
+    requires entries { KnowsEntries table.old (map entry_seen fired.old.entries) }
     ensures answer { Leaves
         (instances_outcome (against (standing scene.now.before.now)) (map rule_seen scene.now.rules.now) instances.now
         (gathered table.old letters.old last fired.old))
         (gathered table.new letters.new (last + length instances.now) fired.new) result }
-    ensures rows { OnOk result (KnowsRows table.new fired.new.rows) }
-    ensures told { OnOk result (KnowsTold table.new fired.new.told) }
+    ensures entries { OnOk result (KnowsEntries table.new (map entry_seen fired.new.entries)) }
     ensures gains { OnlyGains table.old letters.old table.new letters.new }
 {
     let mut number = last;
@@ -79,13 +78,11 @@ fn fire_one(
     requires rules { KnowsRules table.old (map rule_seen scene.now.rules.now) }
     requires goals { KnowsGoals table.old scene.now.before.now.goals.now }
     requires known { AreKnown table.old instance.now.binds }
-    requires rows { KnowsRows table.old fired.old.rows }
-    requires told { KnowsTold table.old fired.old.told }
+    requires entries { KnowsEntries table.old (map entry_seen fired.old.entries) }
     ensures answer { LeavesOne (against (standing scene.now.before.now)) number (gathered table.old letters.old number fired.old)
         (firables_for (map rule_seen scene.now.rules.now) scene.now.before.now.memory.now.elements instance.now)
         (gathered table.new letters.new number fired.new) result }
-    ensures rows { OnOk result (KnowsRows table.new fired.new.rows) }
-    ensures told { OnOk result (KnowsTold table.new fired.new.told) }
+    ensures entries { OnOk result (KnowsEntries table.new (map entry_seen fired.new.entries)) }
     ensures words { Grown table.old table.new }
     ensures letters { LettersKeep letters.old letters.new }
 {
@@ -121,14 +118,12 @@ fn fire_rule(
     requires binds { length instance.now.binds ≡ length (bound_variables (rule_seen rule.now).production.conditions) }
     requires known { IsFirable table.old (rule_seen rule.now) instance.now }
     requires goals { KnowsGoals table.old scene.now.before.now.goals.now }
-    requires rows { KnowsRows table.old fired.old.rows }
-    requires told { KnowsTold table.old fired.old.told }
+    requires entries { KnowsEntries table.old (map entry_seen fired.old.entries) }
     ensures answer { Leaves
         (firing_outcome (against (standing scene.now.before.now)) number (gathered table.old letters.old number fired.old)
         (firable_of scene.now.before.now.memory.now.elements (rule_seen rule.now) instance.now))
         (gathered table.new letters.new number fired.new) result }
-    ensures rows { OnOk result (KnowsRows table.new fired.new.rows) }
-    ensures told { OnOk result (KnowsTold table.new fired.new.told) }
+    ensures entries { OnOk result (KnowsEntries table.new (map entry_seen fired.new.entries)) }
     ensures words { Grown table.old table.new }
     ensures letters { LettersKeep letters.old letters.new }
 {

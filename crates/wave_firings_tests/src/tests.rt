@@ -12,7 +12,9 @@ use soar_settle::Stop;
 use soar_sym::{Letters, List, Sym, SymTable, is_symbol};
 use std::alloc::Global;
 use std::test::Fail;
-use wave_firings::{Fired, Told, fire_all};
+use trace_details::HeldBy;
+use wave_entries::{Heading, Told, made_of};
+use wave_firings::{Fired, fire_all};
 
 /// What the rule makes when it fires twice after the number 7, for an element of S1 and for one of S2.
 fn fired(alloc: Global) -> Result<Fired, Stop> {
@@ -45,13 +47,13 @@ fn fired_after(before: &Before<'_>) -> Result<Fired, Stop>
     )
 }
 
-/// The firings of rows, the states that they are for, and whether they have operator support. A firing of S2 makes a result
-/// for S1. The third row is for an operator of S2.
+/// The firings of rows, the states that they are for, and whether they have operator support. The third row is for an
+/// operator of S2. A firing of S2 makes a result for S1, which it holds as the others before anything is learned.
 const ROWS: [(u64, Sym, bool); 6] = [
     (8, S1, true),
     (8, S2, true),
     (8, S2, false),
-    (9, S1, false),
+    (9, S1, true),
     (9, S2, true),
     (9, S2, false),
 ];
@@ -98,36 +100,49 @@ fn is_recorded(recorded: &Recorded, number: u64, goal: Sym, tag: u32) -> bool {
     firing.number == number && of_goal && used && firing.made.len() == 3 && recorded.operator_kind
 }
 
-/// Whether they are told in turn, each with its three rows and its text.
+/// Whether they are told in turn, each with its three preferences and its text.
 fn are_told(told: &[Told]) -> bool {
     match told {
-        [top, below] => is_told(top, 8, true) && is_told(below, 9, false),
+        [top, below] => is_told(top, 8) && is_told(below, 9),
         _ => false,
     }
 }
 
-fn is_told(told: &Told, number: u64, operator_support: bool) -> bool {
-    let rows = match told.rows.as_slice() {
-        [first, _, _] => { first.firing == number && first.operator_support == operator_support }
+/// Whether the firing of a number is told, with an element for S1, one for S2, and an operator of S2.
+fn is_told(told: &Told, number: u64) -> bool {
+    let fires = match &told.heading {
+        Heading::Fires { number: fired, .. } => *fired == number,
+        Heading::Learns(_) => false,
+    };
+    let held = match told.wishes.as_slice() {
+        [first, second, third] => is_held_so([first.by, second.by, third.by]),
         _ => false,
     };
-    told.number == number && rows && told.dropped.is_empty() && told.text.as_str() == "3"
+    fires && held && told.dropped.is_empty() && told.text.as_str() == "3"
+}
+
+fn is_held_so(held: [HeldBy; 3]) -> bool {
+    match held {
+        [HeldBy::Operator, HeldBy::Operator, HeldBy::Instance] => true,
+        _ => false,
+    }
 }
 
 /// Whether all that the two firings made is as it should be.
 fn is_fired(alloc: Global) -> Result<bool, Stop> {
-    let fired = fired(alloc)?;
+    let Fired { entries, halted } = fired(alloc)?;
+    let made = made_of(alloc, entries)?;
     Ok(
-        are_rows(fired.rows.as_slice())
-            && are_live(fired.live.as_slice())
-            && are_recorded(fired.recorded.as_slice())
-            && are_told(fired.told.as_slice())
-            && !fired.halted,
+        are_rows(made.rows.as_slice())
+            && are_live(made.live.as_slice())
+            && are_recorded(made.recorded.as_slice())
+            && are_told(made.told.as_slice())
+            && !halted,
     )
 }
 
 #[test]
-fn a_firing_of_the_substate_holds_its_result_as_an_instance(rt: HostRuntime) -> Result<(), Fail> {
+fn a_result_is_held_as_the_kind_of_its_firing_has_it(rt: HostRuntime) -> Result<(), Fail> {
     assert!(rt; is_fired(rt.alloc())?);
     Ok(())
 }

@@ -1,65 +1,70 @@
 -- A wave that was carried out to its end, or that settling stopped.
-use Rattle.std.proofs.Common.{◌≡◌, ℕ, ◌+◌, ◌≤◌, ◌∙◌, Bool, ◌||◌, List, [], ◌∷◌, ◌++◌, map, flat_map, drop, length, Err, None, inl, inr, refl, sym, ap, subst, arith}
+use Rattle.std.proofs.Common.{◌≡◌, ℕ, ◌≤◌, ◌∙◌, Bool, ◌||◌, List, [], ◌∷◌, ◌++◌, map, flat_map, drop, length, Err, None, inl, inr, sym, ap, subst, arith}
+use Rattle.soar_sym.specs.Words.{Texts}
+use Rattle.soar_fire.specs.Growth.{LettersKeep}
+use Rattle.soar_record.specs.Recorded.{recorded}
+use Rattle.soar_settle.specs.declared.stop.Stop.{Stop}
+use Rattle.soar_settle.specs.declared.stop.Stop.TheVariants as stop
 use Rattle.defs_soar.specs.declared.firing.Firing.{Firing}
 use Rattle.defs_soar.specs.declared.preference.Preference.{Preference}
-use Rattle.soar_sym.specs.Words.{Texts}
 use Rattle.defs_soar.specs.Agents.{Agent, LiveFiring}
 use Rattle.defs_soar.specs.History.{RecordedFiring}
-use Rattle.defs_soar.specs.Learning.{without_learning}
+use Rattle.defs_soar.specs.Learning.{with_learning}
 use Rattle.defs_soar.specs.Limits.{first_passed}
 use Rattle.defs_soar.specs.Pending.{Work as WorkOf}
 use Rattle.defs_soar.specs.Phases.{halting}
+use Rattle.defs_soar.specs.Preferences.{without_firings}
 use Rattle.defs_soar.specs.Resettling.{resettled}
 use Rattle.defs_soar.specs.Trimming.{numbers_of}
 use Rattle.defs_soar.specs.WaveAtHand.{all_fresh}
-use Rattle.defs_soar.specs.WaveFirings.{first_wave, before_wave}
-use Rattle.defs_soar.specs.Preferences.{without_firings}
-use Rattle.defs_soar.specs.Laws.{IsIn}
+use Rattle.defs_soar.specs.WaveFirings.{before_wave}
 use Rattle.defs_soar.specs.Waves.{entry_events, recorded_firing, retract_event, rows_added, wave_of}
-use Rattle.wave_parts.specs.Carrying.{Carried}
+use Rattle.learning_laws.specs.LawfulAgents.{IsNumbered}
+use Rattle.learning_laws.specs.LawfulWaves.{LearningKeeps, WavesKeep}
+use Rattle.session_laws.specs.Steps.{HaltsKeep}
+use Rattle.agent_laws.specs.Dependence.{GoalsDependOnMore, MakersAreEarlier, each_with, firings_in}
+use Rattle.agent_laws.specs.Records.{AreRisingFrom}
+use Rattle.program_laws.specs.Knowing.{AreNamed}
+use Rattle.firing_records.specs.Recorded.{fresh_seen, recorded_seen}
+use Rattle.firing_records.specs.declared.outcome.Recorded.{Recorded}
+use Rattle.goal_dependence.specs.Remembered.{firings_of, past_by, reach_over, tags_found_from}
 use Rattle.goal_trimming.specs.Living.{live_seen}
 use Rattle.goal_trimming.specs.declared.live.Live.{Live}
+use Rattle.pending_work.specs.declared.work.Work.{Work}
 use Rattle.step_report.specs.Reports.{report_events, settled_events}
 use Rattle.step_report.specs.declared.report.Report.{Report}
 use Rattle.step_report.specs.declared.settled.Settled.{Settled}
 use Rattle.trace_laws.specs.Events.{AreEventsKnown}
-use Rattle.wave_firings.specs.Told.{told_events}
-use Rattle.wave_firings.specs.FiresAll.{HasFired}
-use Rattle.wave_parts.specs.Resettles.{IsResettled, Resettles, resettled_now}
+use Rattle.wave_entries.specs.Entries.{told_events}
+use Rattle.wave_entries.specs.declared.entry.Told.{Told}
+use Rattle.wave_firings.specs.Numbered.{AreGoalsOf, AreMakersUpTo, AreRecordedUpTo}
+use Rattle.wave_parts.specs.Carrying.{Carried, IsPendingIn}
+use Rattle.wave_parts.specs.Changing.{StopsAs}
+use Rattle.wave_parts.specs.Lawful.{IsOfLawful}
 use Rattle.wave_parts.specs.Remembers.{Remembers}
-use Rattle.wave_parts.specs.Seen.{agent_of, AreLiveKnown, IsSound}
-use Rattle.wave_parts.specs.WaveParts.{ended_in, fired_in, rows_in_all, rows_made_in, settled_after, unsettled}
+use Rattle.wave_parts.specs.Resettles.{IsResettled, Resettles, resettled_now}
+use Rattle.wave_parts.specs.Seen.{agent_of, AreLiveKnown, IsSound, pending_of}
+use Rattle.wave_parts.specs.WaveParts.{ended_in, rows_in_all, rows_made_in, settled_after, unsettled}
 use Rattle.wave_parts.specs.declared.parts.Parts.{Parts as PartsKept}
-use Rattle.wave_firings.specs.declared.firing.Fired.{Fired}
-use Rattle.soar_settle.specs.declared.stop.Stop.{Stop}
-use Rattle.soar_settle.specs.declared.stop.Stop.TheVariants as stop
-use Rattle.soar_fire.specs.Growth.{LettersKeep}
-use Rattle.learning_laws.specs.LawfulAgents.{IsNumbered}
-use Rattle.agent_laws.specs.Dependence.{GoalsDependOnMore, MakersAreEarlier, each_with, firings_in}
-use Rattle.soar_record.specs.Recorded.{recorded}
-use Rattle.firing_records.specs.Recorded.{recorded_seen}
-use Rattle.goal_dependence.specs.Remembered.{firings_of, past_by, reach_over, tags_found_from}
-use Rattle.wave_firings.specs.Numbered.{AreGoalsOf, AreMakersUpTo, AreNumberedAfter, AreRecordedUpTo}
-use Rattle.wave_parts.proofs.CarriedLemmas.{StopsAs}
-use Rattle.wave_parts.proofs.EndedLemmas.{ended_map}
+use Rattle.wave_parts.proofs.CarryLemmas.{Counted, history_after, halted_is, past_rows, stands_after, wave_is}
+use Rattle.wave_parts.proofs.CarryingLemmas.{settles_same}
 use Rattle.wave_parts.proofs.GrownLemmas.{numbered_later}
 use Rattle.wave_parts.proofs.RememberedLemmas.{are_later, at_goal, dependencies_joined, firings_append, firings_joined, goal_of_past, in_either, length_each, makers_joined, makers_of_new, pasts_are, recorded_within}
-use Rattle.wave_parts.proofs.CarryLemmas.{Counted, history_after, halted_is, past_rows, quiet_work, stands_after}
 use Rattle.wave_parts.proofs.RemovedLemmas.{known_append}
 use Rattle.wave_parts.proofs.StandsLemmas.{stands_for, state_is}
-use Rattle.wave_parts.proofs.UnsettledLemmas.{settles_same}
+use Rattle.wave_parts.proofs.WorkedLemmas.{lawful_at}
 
 -- ---- what is told
 
 wave_events : (a : Agent) (work : WorkOf)
-    → (wave_of without_learning a work).events
+    → (wave_of with_learning a work).events
     ≡ map retract_event work.retracted ++ (flat_map entry_events (ended_in a work).entries ++ (settled_after a work.retracted (ended_in a work)).events)
-unfolding resettled without_learning
-wave_events a work = ap (λ s. s.events) (quiet_work a work)
+unfolding resettled
+wave_events a work = ap (λ s. s.events) (wave_is a work)
 
--- the report tells what was retracted, what fired, and what settling did
+-- the report tells what was retracted, what fired and was learned, and what settling did
 reported : (a : Agent) (w : WorkOf) (report : Report) → map live_seen report.retracted ≡ w.retracted → flat_map told_events report.fired ≡ flat_map entry_events (ended_in a w).entries
-    → settled_events report.settled ≡ (settled_after a w.retracted (ended_in a w)).events → report_events report ≡ (wave_of without_learning a w).events
+    → settled_events report.settled ≡ (settled_after a w.retracted (ended_in a w)).events → report_events report ≡ (wave_of with_learning a w).events
 reported a w report retracted_are told_are settled_are = (λ k. map retract_event (retracted_are k) ++ (told_are k ++ settled_are k)) ∙ sym (wave_events a w)
 
 retractions_known : (words : Texts) (live : List LiveFiring) → AreLiveKnown words live → AreEventsKnown words (map retract_event live)
@@ -75,9 +80,9 @@ report_known words report retracted fired settled =
 -- ---- where settling stops
 
 pub settling_stop : (old mid new : PartsKept) (history : List RecordedFiring) (w : WorkOf) (why : Stop) → Counted (agent_of old history) w
-    → first_passed (fired_in (agent_of old history) w).totals ≡ None → rows_in_all (agent_of old history) w.retracted (ended_in (agent_of old history) w) ≤ 1000000
+    → first_passed (ended_in (agent_of old history) w).totals ≡ None → rows_in_all (agent_of old history) w.retracted (ended_in (agent_of old history) w) ≤ 1000000
     → agent_of mid history ≡ unsettled (agent_of old history) w.retracted (ended_in (agent_of old history) w)
-    → Resettles new (agent_of mid history) (Err why) → StopsAs (wave_of without_learning (agent_of old history) w) why
+    → Resettles new (agent_of mid history) (Err why) → StopsAs (wave_of with_learning (agent_of old history) w) why
 settling_stop old mid new history w (stop.Limit limit) counted within room stands passed =
     let a = agent_of old history in
     past_rows a w counted within room ∙ ap (λ s. first_passed s.totals) (sym (settles_same mid history a w.retracted (ended_in a w) stands)) ∙ passed
@@ -89,27 +94,29 @@ settling_stop old mid new history w stop.NoMemory counted within room stands pas
 abbrev pub with_wave : PartsKept → List (List ℕ) → List Firing → Bool → PartsKept
 with_wave new depends firings halted = record new { depends = depends; past = firings; halted = new.halted || halted }
 
-pub done : (old mid new : PartsKept) (history : List RecordedFiring) (w : WorkOf) (count : ℕ) (retracted : List Live) (made : Fired) (settled : Settled) (depends : List (List ℕ)) (firings : List Firing)
+pub done : (old mid new : PartsKept) (history : List RecordedFiring) (w : WorkOf) (retracted : List Live) (told : List Told) (halted : Bool) (settled : Settled) (depends : List (List ℕ)) (firings : List Firing)
     → Counted (agent_of old history) w
-    → HasFired (before_wave (agent_of old history)) mid.table mid.letters count made (first_wave (agent_of old history)) (fired_in (agent_of old history) w)
+    → first_passed (ended_in (agent_of old history) w).totals ≡ None
     → rows_in_all (agent_of old history) w.retracted (ended_in (agent_of old history) w) ≤ 1000000
     → agent_of mid history ≡ unsettled (agent_of old history) w.retracted (ended_in (agent_of old history) w)
     → IsResettled new settled (resettled_now (agent_of mid history))
-    → Remembers (with_wave new depends firings made.halted) (history_after (agent_of old history) w)
+    → Remembers (with_wave new depends firings halted) (history_after (agent_of old history) w)
     → map live_seen retracted ≡ w.retracted
-    → Carried (with_wave new depends firings made.halted) (record { retracted = retracted; fired = made.told; settled = settled }) made.halted (wave_of without_learning (agent_of old history) w)
-done old mid new history w count retracted made settled depends firings counted fired room stands settles remembers retracted_are =
+    → flat_map told_events told ≡ flat_map entry_events (ended_in (agent_of old history) w).entries
+    → halted ≡ (ended_in (agent_of old history) w).halted
+    → Carried (with_wave new depends firings halted) (record { retracted = retracted; fired = told; settled = settled }) halted (wave_of with_learning (agent_of old history) w)
+done old mid new history w retracted told halted settled depends firings counted within room stands settles remembers retracted_are told_are halts =
     let a = agent_of old history in
     let same = settles_same mid history a w.retracted (ended_in a w) stands in
     let now = (resettled_now (agent_of mid history)).agent in
     record {
       stepped = record {
-        stands = stands_for (with_wave new depends firings made.halted) (history_after a w) (halting (wave_of without_learning a w)) remembers
-            (stands_after a (agent_of new now.history) w made.halted (sym (state_is new now settles.stands) ∙ ap (λ s. s.agent) same) fired.halted_is);
-        within = past_rows a w counted fired.within room ∙ ap (λ s. first_passed s.totals) (sym same) ∙ settles.within;
+        stands = stands_for (with_wave new depends firings halted) (history_after a w) (halting (wave_of with_learning a w)) remembers
+            (stands_after a (agent_of new now.history) w halted (sym (state_is new now settles.stands) ∙ ap (λ s. s.agent) same) halts);
+        within = past_rows a w counted within room ∙ ap (λ s. first_passed s.totals) (sym same) ∙ settles.within;
       };
-      halted_is = fired.halted_is ∙ sym (halted_is a w);
-      events_are = reported a w (record { retracted = retracted; fired = made.told; settled = settled }) retracted_are fired.told_are (settles.events_are ∙ ap (λ s. s.events) same);
+      halted_is = halts ∙ sym (halted_is a w);
+      events_are = reported a w (record { retracted = retracted; fired = told; settled = settled }) retracted_are told_are (settles.events_are ∙ ap (λ s. s.events) same);
     }
 
 -- ---- what is remembered
@@ -119,46 +126,50 @@ left_remembers : (mid new : PartsKept) (history : List RecordedFiring) (told : S
 unfolding resettled
 left_remembers mid new history told settled = settled.stands.remembers
 
--- the letters and the count of firings after settling
+-- the letters after settling
 left_letters : (mid new : PartsKept) (history : List RecordedFiring) (told : Settled) → IsResettled new told (resettled_now (agent_of mid history)) → new.letters ≡ mid.letters
 unfolding resettled
 left_letters mid new history told settled = settled.stands.letters
 
+-- the history after the wave, by what is recorded
+history_joins : (a : Agent) (w : WorkOf) (added : List Preference) (recorded_now : List Recorded)
+    → added ≡ rows_added (without_firings a.holding.rows (numbers_of w.retracted)) (rows_made_in (ended_in a w))
+    → map recorded_seen recorded_now ≡ map fresh_seen (all_fresh (ended_in a w).entries)
+    → history_after a w ≡ a.history ++ map (past_by (reach_over a.holding.goals a.holding.elements) added) recorded_now
+history_joins a w added recorded_now added_is recorded_are =
+    ap (λ rows. a.history ++ map (recorded_firing (before_wave a) rows) (all_fresh (ended_in a w).entries)) (sym added_is)
+    ∙ ap (λ l. a.history ++ l) (sym (pasts_are (reach_over a.holding.goals a.holding.elements) added recorded_now (all_fresh (ended_in a w).entries) recorded_are))
+
 -- the firings of the wave join the history, and goals depend on what they add
-pub remembers_wave : GoalsDependOnMore → (old mid new : PartsKept) (history : List RecordedFiring) (w : WorkOf) (count : ℕ) (made : Fired) (told : Settled) (added : List Preference) (depends : List (List ℕ)) (firings : List Firing)
+pub remembers_wave : GoalsDependOnMore → (old mid new : PartsKept) (history : List RecordedFiring) (w : WorkOf) (recorded_now : List Recorded) (halted : Bool) (told : Settled) (added : List Preference) (depends : List (List ℕ)) (firings : List Firing)
     → IsSound old → Remembers old history → LettersKeep old.letters mid.letters
-    → HasFired (before_wave (agent_of old history)) mid.table mid.letters count made (first_wave (agent_of old history)) (fired_in (agent_of old history) w)
+    → map recorded_seen recorded_now ≡ map fresh_seen (all_fresh (ended_in (agent_of old history) w).entries)
     → IsResettled new told (resettled_now (agent_of mid history)) → recorded new.past ≡ recorded old.past
-    → AreNumberedAfter old.firings (map recorded_seen made.recorded) → AreGoalsOf old.goals (map recorded_seen made.recorded)
+    → AreRisingFrom old.firings (firings_of recorded_now) → AreGoalsOf old.goals (map recorded_seen recorded_now)
     → added ≡ rows_added (without_firings old.prefs.rows (numbers_of w.retracted)) (rows_made_in (ended_in (agent_of old history) w))
-    → recorded firings ≡ recorded new.past ++ firings_of made.recorded
-    → depends ≡ each_with new.depends (tags_found_from (recorded firings) (map (past_by (reach_over old.goals old.memory.elements) added) made.recorded) 2 (drop 1 new.goals))
-    → Remembers (with_wave new depends firings made.halted) (history_after (agent_of old history) w)
-unfolding without_learning
-remembers_wave law old mid new history w count made told added depends firings sound remembers keep fired settled same_record numbers goals added_is firings_is depends_is =
+    → recorded firings ≡ recorded new.past ++ firings_of recorded_now
+    → depends ≡ each_with new.depends (tags_found_from (recorded firings) (map (past_by (reach_over old.goals old.memory.elements) added) recorded_now) 2 (drop 1 new.goals))
+    → Remembers (with_wave new depends firings halted) (history_after (agent_of old history) w)
+remembers_wave law old mid new history w recorded_now halted told added depends firings sound remembers keep recorded_are settled same_record rising goals added_is firings_is depends_is =
     let a = agent_of old history in
     let reach = reach_over old.goals old.memory.elements in
     let now = left_remembers mid new history told settled in
-    let pasts = map (past_by reach added) made.recorded in
-    let fresh = all_fresh (fired_in a w).entries in
-    let recorded_as : map (recorded_firing (before_wave a) added) (all_fresh (ended_in a w).entries) ≡ pasts =
-    ended_map (recorded_firing (before_wave a) added) (λ x wishes. refl) (before_wave a) (fired_in a w).entries ∙ sym (pasts_are reach added made.recorded fresh fired.recorded_are) in
-    let history_is : history_after a w ≡ history ++ pasts =
-    ap (λ rows. history ++ map (recorded_firing (before_wave a) rows) (all_fresh (ended_in a w).entries)) (sym added_is) ∙ ap (λ l. history ++ l) recorded_as in
+    let pasts = map (past_by reach added) recorded_now in
+    let history_is : history_after a w ≡ history ++ pasts = history_joins a w added recorded_now added_is recorded_are in
     let up_to = subst (AreRecordedUpTo old.firings) remembers.firings_are sound.recorded_up_to in
     let earlier = subst MakersAreEarlier remembers.firings_are sound.makers_earlier in
     let all : recorded firings ≡ firings_in history ++ firings_in pasts =
-    firings_is ∙ (λ k. (same_record ∙ remembers.firings_are) k ++ firings_joined reach added made.recorded k) in
+    firings_is ∙ (λ k. (same_record ∙ remembers.firings_are) k ++ firings_joined reach added recorded_now k) in
     let grown : LettersKeep old.letters new.letters = subst (LettersKeep old.letters) (sym (left_letters mid new history told settled)) keep in
-    subst (Remembers (with_wave new depends firings made.halted)) (sym history_is) (record {
+    subst (Remembers (with_wave new depends firings halted)) (sym history_is) (record {
       firings_are = all ∙ sym (firings_append history pasts);
       depends_are =
           depends_is
           ∙ ap (λ fs. each_with new.depends (tags_found_from fs pasts 2 (drop 1 new.goals))) all
-          ∙ dependencies_joined law history pasts new.depends (drop 1 new.goals) now.depends_are earlier (are_later old.firings history reach added made.recorded up_to numbers);
+          ∙ dependencies_joined law history pasts new.depends (drop 1 new.goals) now.depends_are earlier (are_later old.firings history reach added recorded_now up_to rising);
       goals_numbered = λ p s is of_goal. elim (in_either p history pasts is) [
         | inl past ↦ now.goals_numbered p s past of_goal
-        | inr here ↦ let at = goal_of_past reach added made.recorded p here in
+        | inr here ↦ let at = goal_of_past reach added recorded_now p here in
             let g = at_goal old.goals s (goals at.0 s at.1 (at.2 ∙ of_goal)) in
             subst (IsNumbered new.letters) g.2 (numbered_later old.letters new.letters g.0.id grown (sound.goals_known g.0 g.1).id_numbered)
       ];
@@ -166,36 +177,54 @@ remembers_wave law old mid new history w count made told added depends firings s
 
 -- ---- what is sound
 
-pub wave_sound : (old new : PartsKept) (made : Fired) (depends : List (List ℕ)) (firings : List Firing) (halted : Bool) (tags : List (List ℕ)) → IsSound old → IsSound new
-    → recorded new.past ≡ recorded old.past → old.firings + length made.recorded ≤ new.firings
-    → AreNumberedAfter old.firings (map recorded_seen made.recorded) → AreMakersUpTo old.firings (map recorded_seen made.recorded)
-    → recorded firings ≡ recorded new.past ++ firings_of made.recorded → depends ≡ each_with new.depends tags
+pub wave_sound : (new : PartsKept) (last : ℕ) (recorded_now : List Recorded) (depends : List (List ℕ)) (firings : List Firing) (halted : Bool) (tags : List (List ℕ)) → IsSound new
+    → AreRisingFrom last (firings_of recorded_now) → AreMakersUpTo last (map recorded_seen recorded_now) → AreRecordedUpTo new.firings (firings_of recorded_now) → AreNamed new.table (firings_of recorded_now)
+    → recorded firings ≡ recorded new.past ++ firings_of recorded_now → depends ≡ each_with new.depends tags
     → IsSound (with_wave new depends firings halted)
-wave_sound old new made depends firings halted tags before s same_record more numbers makers firings_is depends_is =
-    let all : recorded firings ≡ recorded old.past ++ firings_of made.recorded = firings_is ∙ ap (λ fs. fs ++ firings_of made.recorded) same_record in
+wave_sound new last recorded_now depends firings halted tags s rising makers up_to named firings_is depends_is = record {
+  goals_some = s.goals_some;
+  goals_few = s.goals_few;
+  goals_known = s.goals_known;
+  depends_fit = omega (arith, ap length depends_is, length_each new.depends tags, s.depends_fit);
+  element_limit = s.element_limit;
+  row_limit = s.row_limit;
+  few_rows = s.few_rows;
+  rows_in_range = s.rows_in_range;
+  rows_of_firings = s.rows_of_firings;
+  makers_of_firings = s.makers_of_firings;
+  recorded_up_to = subst (AreRecordedUpTo new.firings) (sym firings_is) (recorded_within new.firings (recorded new.past) (firings_of recorded_now) s.recorded_up_to up_to);
+  makers_earlier = subst MakersAreEarlier (sym firings_is) (makers_joined (recorded new.past) (firings_of recorded_now) s.makers_earlier (makers_of_new last recorded_now rising makers));
+  first_words = s.first_words;
+  top_numbered = s.top_numbered;
+  numbered = s.numbered;
+  numbers_given = s.numbers_given;
+  rules_known = s.rules_known;
+  elements_known = s.elements_known;
+  rows_known = s.rows_known;
+  inputs_known = s.inputs_known;
+  queue_known = s.queue_known;
+  output_known = s.output_known;
+  live_known = s.live_known;
+  live_given = s.live_given;
+  past_named = subst (AreNamed new.table) (sym firings_is) (λ f is. elim (in_either f (recorded new.past) (firings_of recorded_now) is) [ inl old ↦ s.past_named f old | inr here ↦ named f here ]);
+  chains_known = s.chains_known;
+}
+
+-- ---- what is lawful
+
+pub record StepLaws : Type 0 where
+  pub waves : WavesKeep
+  pub learning : LearningKeeps
+  pub halts : HaltsKeep
+
+-- the state after the wave is lawful
+pub lawful_end : StepLaws → (old new : PartsKept) (work : Work) (report : Report) (halted : Bool) → (lawful : IsOfLawful old) → (pending : IsPendingIn old work)
+    → Carried new report halted (wave_of with_learning (agent_of old lawful.agent.history) (pending_of pending.0 old)) → IsOfLawful new
+lawful_end laws old new work report halted lawful pending carried =
+    let a = agent_of old lawful.agent.history in
+    let s = wave_of with_learning a (pending_of pending.0 old) in
     record {
-      goals_some = s.goals_some;
-      goals_few = s.goals_few;
-      goals_known = s.goals_known;
-      depends_fit = omega (arith, ap length depends_is, length_each new.depends tags, s.depends_fit);
-      element_limit = s.element_limit;
-      row_limit = s.row_limit;
-      few_rows = s.few_rows;
-      rows_in_range = s.rows_in_range;
-      rows_of_firings = s.rows_of_firings;
-      makers_of_firings = s.makers_of_firings;
-      recorded_up_to = λ f is. omega (arith, more, recorded_within old.firings (recorded old.past) made.recorded before.recorded_up_to numbers f (subst (IsIn f) all is));
-      makers_earlier = subst MakersAreEarlier (sym all) (makers_joined (recorded old.past) (firings_of made.recorded) before.makers_earlier (makers_of_new old.firings made.recorded numbers makers));
-      first_words = s.first_words;
-      top_numbered = s.top_numbered;
-      numbered = s.numbered;
-      numbers_given = s.numbers_given;
-      none_learned = s.none_learned;
-      rules_known = s.rules_known;
-      elements_known = s.elements_known;
-      rows_known = s.rows_known;
-      inputs_known = s.inputs_known;
-      queue_known = s.queue_known;
-      output_known = s.output_known;
-      live_known = s.live_known;
+      agent = halting s;
+      stands = carried.stepped.stands;
+      lawful = laws.halts s.agent (s.agent.halted || s.halted) (laws.waves with_learning laws.learning a pending.0 (lawful_at old lawful.agent.history lawful lawful.stands.remembers));
     }

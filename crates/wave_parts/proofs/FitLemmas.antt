@@ -1,92 +1,105 @@
--- The rows of a wave's firings are fit for a decision, and of firings of the wave.
-use Rattle.std.proofs.Common.{◌≡◌, ◌∙◌, ℕ, suc, ◌+◌, Bool, true, false, cond, nat_lt, List, [], ◌∷◌, ◌++◌, map, flat_map, length, append-nil, Ok, inl, inr, sym, ap, subst, arith}
-use Rattle.std.proofs.lemmas.Grind.{flat_map-append}
-use Rattle.std.proofs.lemmas.List.{map-append}
-use Rattle.soar_sym.specs.Words.{Texts}
-use Rattle.defs_match.specs.Rules.{rule_seen}
-use Rattle.defs_match.specs.declared.instance.Instance.{Instance}
+-- What the entries of a wave leave is fit for what comes after: its rows for a decision, and all of it for the table.
+use Rattle.std.proofs.Common.{◌≡◌, ℕ, ℤ, ◌≤◌, ◌&&◌, ◌||◌, Bool, true, false, not, cond, List, [], ◌∷◌, ◌++◌, map, flat_map, Option, Some, Ok, Err, inl, inr, refl, sym, ap, subst, arith}
+use Rattle.std.specs.Bool.{passes}
+use Rattle.std.specs.Int.Signed.{le_z_yes}
+use Rattle.std.specs.Prelude.{int_le, pos, neg_ℤ, ◌≤ℤ◌}
+use Rattle.soar_sym.specs.Words.{Texts, IsKnown}
+use Rattle.soar_sym.specs.declared.symbol.Sym.{Sym}
+use Rattle.soar_sym.specs.declared.symbol.Sym.TheVariants.{Int}
+use Rattle.soar_rule.specs.Symbols.{AreKnown}
+use Rattle.soar_choose.specs.Rows.{AreInRange, IsNumberInRange, IsWithin}
+use Rattle.soar_settle.specs.Known.{AreRowsKnown}
+use Rattle.defs_soar.specs.declared.firing.DropCause.TheVariants as cause
 use Rattle.defs_soar.specs.declared.goal.Goal.{Goal}
+use Rattle.defs_soar.specs.declared.preference.PrefKind.{PrefKind}
+use Rattle.defs_soar.specs.declared.preference.PrefKind.TheVariants as kind
 use Rattle.defs_soar.specs.declared.preference.Preference.{Preference}
 use Rattle.defs_soar.specs.declared.preference.Wish.{Wish}
+use Rattle.defs_soar.specs.Agents.{LiveFiring}
+use Rattle.defs_soar.specs.Dependencies.{symbols_of_wish}
 use Rattle.defs_soar.specs.Events.{WishSupport, by_instance, by_operator, by_learned}
+use Rattle.defs_soar.specs.Firing.{is_for_operator, is_in_range, judged, within_range}
 use Rattle.defs_soar.specs.Laws.{IsIn}
-use Rattle.defs_soar.specs.Learning.{results_by_instance, without_learning}
-use Rattle.defs_soar.specs.LearnedFirings.{with_support_by}
-use Rattle.defs_soar.specs.Pending.{Firable, is_of_operator_kind}
-use Rattle.defs_soar.specs.Results.{is_result}
-use Rattle.defs_soar.specs.WaveAtHand.{SupportedWish, BeforeWave, Entry, Fresh, Wave, all_fresh, fired, fresh_of, support_by_kind, supported_wish}
-use Rattle.defs_soar.specs.WaveFirings.{before_wave, first_wave, firing_of_work, fresh_firing, made_in, with_firing, with_firings}
-use Rattle.defs_soar.specs.Waves.{held_row, rows_of_fresh}
-use Rattle.settling_laws.proofs.MemberLemmas.{in_append}
-use Rattle.soar_choose.specs.Rows.{AreInRange, IsNumberInRange}
-use Rattle.row_laws.specs.Kept.{JoinedKeepRange}
-use Rattle.row_laws.specs.Made.{AreWishesInRange, MadeAreInRange}
-use Rattle.pending_work.specs.Firables.{firables_for}
-use Rattle.wave_firings.specs.FiresAll.{FiresAll}
+use Rattle.defs_soar.specs.Values.{is_kind}
+use Rattle.defs_soar.specs.WaveAtHand.{Fresh, SupportedWish}
+use Rattle.defs_soar.specs.Waves.{held_row, live_of, rows_of_fresh}
+use Rattle.learning_laws.specs.BeforeWave.{CanBeMade}
+use Rattle.learning_laws.proofs.Lists.{in_append, in_flat_map, in_map}
 use Rattle.wave_firings.specs.Numbered.{AreOfFirings}
-use Rattle.wave_firings.specs.declared.firing.Fired.{Fired}
-use Rattle.wave_parts.specs.Firing.{standing_now}
-use Rattle.wave_parts.specs.Seen.{agent_of}
-use Rattle.wave_parts.specs.declared.parts.Parts.{Parts as PartsKept}
-use Rattle.wave_parts.proofs.CarriedLemmas.{begins_now}
-
--- the rows of a wave that learns nothing
-abbrev pub rows_ended : BeforeWave → List Entry → List Preference
-rows_ended m entries = flat_map rows_of_fresh (all_fresh (map (results_by_instance m) entries))
-
-rows_push : (m : BeforeWave) (entries : List Entry) (x : Fresh) → rows_ended m (entries ++ fired x ∷ []) ≡ rows_ended m entries ++ rows_ended m (fired x ∷ [])
-rows_push m entries x =
-    ap (λ es. flat_map rows_of_fresh (flat_map fresh_of es)) (map-append (results_by_instance m) entries (fired x ∷ []))
-    ∙ ap (flat_map rows_of_fresh) (flat_map-append fresh_of (map (results_by_instance m) entries) (map (results_by_instance m) (fired x ∷ [])))
-    ∙ flat_map-append rows_of_fresh (all_fresh (map (results_by_instance m) entries)) (all_fresh (map (results_by_instance m) (fired x ∷ [])))
-
-abbrev fresh_at : BeforeWave → Wave → Firable → Fresh
-fresh_at m w f = fresh_firing m (firing_of_work m w f (made_in w m f)) (is_of_operator_kind m.reach.goals f) (made_in w m f)
+use Rattle.wave_firings.proofs.FiringKnown.{are_rows_append}
+use Rattle.wave_parts.specs.Seen.{AreLiveGiven, AreLiveKnown}
 
 -- ---- rows in range
 
-one_in_range : (n : ℕ) (w : Wish) (how : WishSupport) → IsNumberInRange w.kind w.referent → AreInRange (held_row n (record { wish = w; wish_support = how }))
-one_in_range n w by_instance h = (h, tt)
-one_in_range n w by_operator h = (h, tt)
-one_in_range n w by_learned h = tt
+in_order : (a b : ℤ) → int_le a b ≡ true → a ≤ℤ b
+in_order a b e = le_z_yes (passes (int_le a b) e)
 
-plain_in_range : JoinedKeepRange → (n : ℕ) (goals : List Goal) (kind : Bool) (wishes : List Wish) → AreWishesInRange wishes → AreInRange (flat_map (held_row n) (map (supported_wish goals kind) wishes))
-plain_in_range joined n goals kind [] h = tt
-plain_in_range joined n goals kind (w ∷ wishes) h =
-    joined (held_row n (supported_wish goals kind w)) _ (one_in_range n w (support_by_kind goals kind w) h.0) (plain_in_range joined n goals kind wishes h.1)
-
-results_in_range : JoinedKeepRange → (n : ℕ) (goals : List Goal) (kind : Bool) (p : Wish → Bool) (wishes : List Wish) → AreWishesInRange wishes
-    → AreInRange (flat_map (held_row n) (map (with_support_by p by_instance) (map (supported_wish goals kind) wishes)))
-results_in_range joined n goals kind p [] h = tt
-results_in_range joined n goals kind p (w ∷ wishes) h =
-    joined (held_row n (with_support_by p by_instance (supported_wish goals kind w))) _ (by (p w)) (results_in_range joined n goals kind p wishes h.1)
+within : (most : ℕ) (z : ℤ) → (int_le (neg_ℤ (pos most)) z && int_le z (pos most)) ≡ true → IsWithin most z
+within most z e = by (int_le (neg_ℤ (pos most)) z) (int_le z (pos most)) (in_order (neg_ℤ (pos most)) z) (in_order z (pos most)) e
   where
-    by : (b : Bool) → AreInRange (held_row n (cond b (record { wish = w; wish_support = by_instance }) (supported_wish goals kind w)))
-    by true = one_in_range n w by_instance h.0
-    by false = one_in_range n w (support_by_kind goals kind w) h.0
+    by : (a b : Bool) → (a ≡ true → neg_ℤ (pos most) ≤ℤ z) → (b ≡ true → z ≤ℤ pos most) → (a && b) ≡ true → IsWithin most z
+    by true b low high e = (low refl, high e)
+    by false b low high e = absurd (cc)
 
-fresh_in_range : MadeAreInRange → JoinedKeepRange → (m : BeforeWave) (w : Wave) (f : Firable) → AreInRange (rows_ended m (fired (fresh_at m w f) ∷ []))
-fresh_in_range made joined m w f = by (nat_lt 1 (fresh_at m w f).firing.depth)
+number_in_range : (k : PrefKind) (referent : Option Sym) → (not (is_kind k kind.Numeric) || within_range referent) ≡ true → IsNumberInRange k referent
+number_in_range kind.Numeric (Some (Int z)) e = within 1000000000 z e
+number_in_range other referent e = tt
+
+-- what can be made was judged to be in range
+judged_in_range : (goals : List Goal) (w : Wish) → judged goals w ≡ Ok w → IsNumberInRange w.kind w.referent
+judged_in_range goals w allowed = by (is_for_operator goals w) (is_in_range w) allowed (number_in_range w.kind w.referent)
   where
-    x : Fresh
-    x = fresh_at m w f
+    by : (a b : Bool) → cond a (cond b (Ok w) (Err cause.OutOfRange)) (Err cause.NotAnOperator) ≡ Ok w → (b ≡ true → IsNumberInRange w.kind w.referent) → IsNumberInRange w.kind w.referent
+    by true true e fit = fit refl
+    by true false e fit = absurd (cc)
+    by false b e fit = absurd (cc)
 
-    kind : Bool
-    kind = is_of_operator_kind m.reach.goals f
+range_append : (rows more : List Preference) → AreInRange rows → AreInRange more → AreInRange (rows ++ more)
+range_append [] more h k = k
+range_append (row ∷ rows) more h k = (h.0, range_append rows more h.1 k)
 
-    wishes : AreWishesInRange (made_in w m f).wishes
-    wishes = made m.reach.goals f.rule.production.actions _
+held_in_range : (n : ℕ) (y : SupportedWish) → IsNumberInRange y.wish.kind y.wish.referent → AreInRange (held_row n y)
+held_in_range n y h = by y.wish_support
+  where
+    by : (how : WishSupport) → AreInRange (held_row n (record y { wish_support = how }))
+    by by_instance = (h, tt)
+    by by_operator = (h, tt)
+    by by_learned = tt
 
-    by : (b : Bool) → AreInRange (flat_map rows_of_fresh (fresh_of (cond b (fired (record x { wishes = map (with_support_by (is_result m.reach x.firing.depth) by_instance) x.wishes })) (fired x)) ++ []))
-    by true = subst AreInRange (sym (append-nil _)) (results_in_range joined (suc w.last_firing) m.reach.goals kind (is_result m.reach x.firing.depth) (made_in w m f).wishes wishes)
-    by false = subst AreInRange (sym (append-nil _)) (plain_in_range joined (suc w.last_firing) m.reach.goals kind (made_in w m f).wishes wishes)
+all_in_range : (n : ℕ) (ys : List SupportedWish) → ((y : SupportedWish) → IsIn y ys → IsNumberInRange y.wish.kind y.wish.referent) → AreInRange (flat_map (held_row n) ys)
+all_in_range n [] h = tt
+all_in_range n (y ∷ ys) h = range_append (held_row n y) (flat_map (held_row n) ys) (held_in_range n y (h y (inl refl))) (all_in_range n ys (λ z is. h z (inr is)))
 
-firings_in_range : MadeAreInRange → JoinedKeepRange → (m : BeforeWave) (w : Wave) (firables : List Firable) → AreInRange (rows_ended m w.entries) → AreInRange (rows_ended m (with_firings m w firables).entries)
-unfolding with_firings
-firings_in_range made joined m w [] h = h
-firings_in_range made joined m w (f ∷ firables) h =
-    firings_in_range made joined m (with_firing m w f) firables
-    (subst AreInRange (sym (rows_push m w.entries (fresh_at m w f))) (joined (rows_ended m w.entries) _ h (fresh_in_range made joined m w f)))
+-- what holds of each preference that a firing holds
+abbrev pub EachHeld : (Wish → Type 0) → List Fresh → Type 0
+EachHeld P xs = (x : Fresh) (y : SupportedWish) → IsIn x xs → IsIn y x.wishes → P y.wish
+
+pub rows_in_range : (goals : List Goal) (xs : List Fresh) → EachHeld (CanBeMade goals) xs → AreInRange (flat_map rows_of_fresh xs)
+rows_in_range goals [] h = tt
+rows_in_range goals (x ∷ xs) h =
+    range_append (rows_of_fresh x) (flat_map rows_of_fresh xs)
+    (all_in_range x.firing.number x.wishes (λ y is. judged_in_range goals y.wish (h x y (inl refl) is).allowed))
+    (rows_in_range goals xs (λ z y at is. h z y (inr at) is))
+
+-- ---- rows of known symbols
+
+held_known : (words : Texts) (n : ℕ) (y : SupportedWish) → AreKnown words (symbols_of_wish y.wish) → AreRowsKnown words (held_row n y)
+held_known words n y h = by y.wish_support
+  where
+    by : (how : WishSupport) → AreRowsKnown words (held_row n (record y { wish_support = how }))
+    by by_instance = (h, tt)
+    by by_operator = (h, tt)
+    by by_learned = tt
+
+all_known : (words : Texts) (n : ℕ) (ys : List SupportedWish) → ((y : SupportedWish) → IsIn y ys → AreKnown words (symbols_of_wish y.wish)) → AreRowsKnown words (flat_map (held_row n) ys)
+all_known words n [] h = tt
+all_known words n (y ∷ ys) h = are_rows_append words (held_row n y) (flat_map (held_row n) ys) (held_known words n y (h y (inl refl))) (all_known words n ys (λ z is. h z (inr is)))
+
+pub rows_known : (words : Texts) (xs : List Fresh) → EachHeld (λ w. AreKnown words (symbols_of_wish w)) xs → AreRowsKnown words (flat_map rows_of_fresh xs)
+rows_known words [] h = tt
+rows_known words (x ∷ xs) h =
+    are_rows_append words (rows_of_fresh x) (flat_map rows_of_fresh xs) (all_known words x.firing.number x.wishes (λ y is. h x y (inl refl) is))
+    (rows_known words xs (λ z y at is. h z y (inr at) is))
 
 -- ---- rows of the wave's firings
 
@@ -104,49 +117,20 @@ all_held_of : (n : ℕ) (ys : List SupportedWish) (row : Preference) → IsIn ro
 all_held_of n [] row is = absurd is
 all_held_of n (y ∷ ys) row is = elim (in_append row (held_row n y) (flat_map (held_row n) ys) is) [ inl here ↦ held_of n y row here | inr later ↦ all_held_of n ys row later ]
 
-fresh_of_firing : (m : BeforeWave) (x : Fresh) (row : Preference) → IsIn row (rows_ended m (fired x ∷ [])) → row.firing ≡ x.firing.number
-fresh_of_firing m x row = by (nat_lt 1 x.firing.depth)
-  where
-    by : (b : Bool) → IsIn row (flat_map rows_of_fresh (fresh_of (cond b (fired (record x { wishes = map (with_support_by (is_result m.reach x.firing.depth) by_instance) x.wishes })) (fired x)) ++ []))
-        → row.firing ≡ x.firing.number
-    by true is = all_held_of x.firing.number (map (with_support_by (is_result m.reach x.firing.depth) by_instance) x.wishes) row (subst (IsIn row) (append-nil _) is)
-    by false is = all_held_of x.firing.number x.wishes row (subst (IsIn row) (append-nil _) is)
+pub rows_of_firings : (last : ℕ) (xs : List Fresh) → ((x : Fresh) → IsIn x xs → x.firing.number ≤ last) → AreOfFirings last (flat_map rows_of_fresh xs)
+rows_of_firings last xs h row is =
+    let x = in_flat_map rows_of_fresh row xs is in
+    let low : x.0.firing.number ≤ last = h x.0 x.1 in
+    let same : row.firing ≡ x.0.firing.number = all_held_of x.0.firing.number x.0.wishes row x.2 in
+    omega (arith, low, same)
 
-firings_of_wave : (m : BeforeWave) (w : Wave) (firables : List Firable) → AreOfFirings w.last_firing (rows_ended m w.entries)
-    → AreOfFirings (with_firings m w firables).last_firing (rows_ended m (with_firings m w firables).entries)
-unfolding with_firings
-firings_of_wave m w [] h = h
-firings_of_wave m w (f ∷ firables) h = firings_of_wave m (with_firing m w f) firables next
-  where
-    x : Fresh
-    x = fresh_at m w f
+-- ---- live firings
 
-    next : AreOfFirings (suc w.last_firing) (rows_ended m (w.entries ++ fired x ∷ []))
-    next row is = elim (in_append row (rows_ended m w.entries) (rows_ended m (fired x ∷ [])) (subst (IsIn row) (rows_push m w.entries x) is)) [
-      | inl old ↦ omega (arith, h row old)
-      | inr new ↦ omega (arith, fresh_of_firing m x row new)
-    ]
+pub live_named : (words : Texts) (xs : List Fresh) → ((x : Fresh) → IsIn x xs → IsKnown words x.firing.name) → AreLiveKnown words (map live_of xs)
+live_named words [] h = tt
+live_named words (x ∷ xs) h = (h x (inl refl), live_named words xs (λ z is. h z (inr is)))
 
--- ---- what a wave's firings made
-
-pub record IsFit (last : ℕ) (made : Fired) : Type 0 where
-  pub rows_in_range : AreInRange made.rows
-  pub rows_of_firings : AreOfFirings last made.rows
-
-none_of : (last : ℕ) → AreOfFirings last []
-none_of last row is = absurd is
-
-pub made_fit : (old : PartsKept) (instances : List Instance) (words : Texts) (letters : List ℕ) (made : Fired) → MadeAreInRange → JoinedKeepRange
-    → FiresAll old.table old.letters (standing_now old) (map rule_seen old.rules) instances old.firings words letters (Ok made)
-    → IsFit (old.firings + length instances) made
-unfolding without_learning
-made_fit old instances words letters made in_range joined all =
-    let m = before_wave (agent_of old []) in
-    let w = first_wave (agent_of old []) in
-    let firables = flat_map (firables_for (map rule_seen old.rules) old.memory.elements) instances in
-    let fired = all m w (begins_now old []) in
-    record {
-      rows_in_range = subst AreInRange (sym fired.rows_are) (firings_in_range in_range joined m w firables tt);
-      rows_of_firings = subst (AreOfFirings (old.firings + length instances)) (sym fired.rows_are)
-          (subst (λ last. AreOfFirings last (rows_ended m (with_firings m w firables).entries)) fired.last_is (firings_of_wave m w firables (none_of old.firings)));
-    }
+pub live_rules_given : (last : ℕ) (xs : List Fresh) → ((x : Fresh) → IsIn x xs → x.firing.instance.rule ≤ last) → AreLiveGiven last (map live_of xs)
+live_rules_given last xs h l is =
+    let x = in_map live_of l xs is in
+    subst (λ (k : LiveFiring). k.instance.rule ≤ last) x.2 (h x.0 x.1)

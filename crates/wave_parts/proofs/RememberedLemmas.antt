@@ -1,5 +1,5 @@
 -- The firings of a wave join what is remembered.
-use Rattle.std.proofs.Common.{◌≡◌, ◌∙◌, ℕ, suc, ◌+◌, ◌<◌, ◌≤◌, ◌⊎◌, List, [], ◌∷◌, ◌++◌, map, length, flat_map, inl, inr, refl, sym, ap, subst, arith}
+use Rattle.std.proofs.Common.{◌≡◌, ◌∙◌, ℕ, suc, ◌<◌, ◌≤◌, ◌⊎◌, List, [], ◌∷◌, ◌++◌, map, length, flat_map, inl, inr, refl, sym, ap, subst, arith}
 use Rattle.soar_sym.specs.declared.symbol.Sym.{Sym}
 use Rattle.defs_soar.specs.declared.goal.Goal.{Goal}
 use Rattle.defs_soar.specs.declared.preference.Preference.{Preference}
@@ -14,43 +14,33 @@ use Rattle.agent_laws.specs.Dependence.{AreLater, GoalsDependOnMore, MakersAreEa
 use Rattle.agent_laws.specs.Records.{AreRisingFrom}
 use Rattle.firing_records.specs.Recorded.{RecordedAs, recorded_seen}
 use Rattle.firing_records.specs.declared.outcome.Recorded.{Recorded}
-use Rattle.goal_dependence.specs.Remembered.{CanJoin, firings_of, past_by, tags_found, tags_found_from}
+use Rattle.goal_dependence.specs.Remembered.{firings_of, past_by, tags_found, tags_found_from}
 use Rattle.firing_records.specs.Recorded.{fresh_seen}
-use Rattle.wave_firings.specs.Numbered.{AreMakersUpTo, AreNumberedAfter, AreRecordedUpTo}
+use Rattle.wave_firings.specs.Numbered.{AreMakersUpTo, AreRecordedUpTo}
 
 -- ---- numbers
 
-rising_after : (last : ℕ) (recorded : List Recorded) → AreNumberedAfter last (map recorded_seen recorded) → AreRisingFrom last (firings_of recorded)
-rising_after last [] h = tt
-rising_after last (r ∷ recorded) h = (omega (arith, h.0), subst (λ n. AreRisingFrom n (firings_of recorded)) (sym h.0) (rising_after (suc last) recorded h.1))
+rising_above : (last : ℕ) (firings : List FiringOf) (f : FiringOf) → AreRisingFrom last firings → IsIn f firings → last < f.number
+rising_above last [] f h is = absurd is
+rising_above last (g ∷ firings) f h (inl e) = let same : g.number ≡ f.number = ap (λ (x : FiringOf). x.number) e in omega (arith, h.0, same)
+rising_above last (g ∷ firings) f h (inr is) = omega (arith, h.0, rising_above g.number firings f h.1 is)
 
--- each is above the last one before, and at most so many above it
-pub record IsBetween (last most n : ℕ) : Type 0 where
-  pub above : last < n
-  pub within : n ≤ most
-
-between : (last : ℕ) (recorded : List Recorded) → AreNumberedAfter last (map recorded_seen recorded) → (f : FiringOf) → IsIn f (firings_of recorded) → IsBetween last (last + length recorded) f.number
-between last [] h f is = absurd is
-between last (r ∷ recorded) h f (inl e) = record {
-  above = omega (arith, h.0, ap (λ (g : FiringOf). g.number) e);
-  within = omega (arith, h.0, ap (λ (g : FiringOf). g.number) e);
-}
-between last (r ∷ recorded) h f (inr is) = let b = between (suc last) recorded h.1 f is in record { above = omega (arith, b.above); within = omega (arith, b.within) }
-
-pub can_join : (last : ℕ) (kept : List FiringOf) (recorded : List Recorded) → AreRecordedUpTo last kept → AreNumberedAfter last (map recorded_seen recorded) → CanJoin kept (firings_of recorded)
-can_join last kept recorded up_to h = record { last = last; kept_up_to = up_to; rising = rising_after last recorded h }
+map_twice : {A B C : Type 0} (f : A → B) (g : B → C) (xs : List A) → map g (map f xs) ≡ map (λ x. g (f x)) xs
+map_twice f g [] = refl
+map_twice f g (x ∷ xs) = ap (λ l. g (f x) ∷ l) (map_twice f g xs)
 
 pub in_either : {A : Type 0} (x : A) (xs ys : List A) → IsIn x (xs ++ ys) → IsIn x xs ⊎ IsIn x ys
 in_either x [] ys is = inr is
 in_either x (z ∷ xs) ys (inl e) = inl (inl e)
 in_either x (z ∷ xs) ys (inr is) = elim (in_either x xs ys is) [ inl here ↦ inl (inr here) | inr there ↦ inr there ]
 
-pub recorded_within : (last : ℕ) (kept : List FiringOf) (recorded : List Recorded) → AreRecordedUpTo last kept → AreNumberedAfter last (map recorded_seen recorded)
-    → AreRecordedUpTo (last + length recorded) (kept ++ firings_of recorded)
-recorded_within last kept recorded up_to h f is = elim (in_either f kept (firings_of recorded) is) [
-  | inl old ↦ omega (arith, up_to f old)
-  | inr new ↦ (between last recorded h f new).within
-]
+pub recorded_within : (last : ℕ) (kept new : List FiringOf) → AreRecordedUpTo last kept → AreRecordedUpTo last new → AreRecordedUpTo last (kept ++ new)
+recorded_within last kept new up_to more f is = elim (in_either f kept new is) [ inl old ↦ up_to f old | inr here ↦ more f here ]
+
+-- the firings that are recorded are those of the wave
+pub recorded_firings : (recorded : List Recorded) (fresh : List Fresh) → map recorded_seen recorded ≡ map fresh_seen fresh → firings_of recorded ≡ map (λ (x : Fresh). x.firing) fresh
+recorded_firings recorded fresh same =
+    sym (map_twice recorded_seen (λ (r : RecordedAs). r.firing) recorded) ∙ ap (map (λ (r : RecordedAs). r.firing)) same ∙ map_twice fresh_seen (λ (r : RecordedAs). r.firing) fresh
 
 -- ---- makers
 
@@ -60,11 +50,11 @@ at_firing [] f is = absurd is
 at_firing (r ∷ recorded) f (inl e) = (recorded_seen r, inl refl, e)
 at_firing (r ∷ recorded) f (inr is) = let later = at_firing recorded f is in (later.0, inr later.1, later.2)
 
-pub makers_of_new : (last : ℕ) (recorded : List Recorded) → AreNumberedAfter last (map recorded_seen recorded) → AreMakersUpTo last (map recorded_seen recorded) → MakersAreEarlier (firings_of recorded)
-makers_of_new last recorded numbers makers f is n named =
+pub makers_of_new : (last : ℕ) (recorded : List Recorded) → AreRisingFrom last (firings_of recorded) → AreMakersUpTo last (map recorded_seen recorded) → MakersAreEarlier (firings_of recorded)
+makers_of_new last recorded rising makers f is n named =
     let at = at_firing recorded f is in
     let up_to : n ≤ last = makers at.0 n at.1 (subst (λ (g : FiringOf). IsIn n (flat_map maker_named g.used)) (sym at.2) named) in
-    omega (arith, up_to, (between last recorded numbers f is).above)
+    omega (arith, up_to, rising_above last (firings_of recorded) f rising is)
 
 pub makers_joined : (kept new : List FiringOf) → MakersAreEarlier kept → MakersAreEarlier new → MakersAreEarlier (kept ++ new)
 makers_joined kept new old more f is = elim (in_either f kept new is) [ inl here ↦ old f here | inr there ↦ more f there ]
@@ -73,10 +63,6 @@ makers_joined kept new old more f is = elim (in_either f kept new is) [ inl here
 
 abbrev past_of : Reach → List Preference → RecordedAs → RecordedFiring
 past_of reach added r = record { firing = r.firing; goal = r.goal; operator_kind = r.operator_kind; lasting = lasting_of added r.firing.number; before = reach }
-
-map_twice : {A B C : Type 0} (f : A → B) (g : B → C) (xs : List A) → map g (map f xs) ≡ map (λ x. g (f x)) xs
-map_twice f g [] = refl
-map_twice f g (x ∷ xs) = ap (λ l. g (f x) ∷ l) (map_twice f g xs)
 
 pub pasts_are : (reach : Reach) (added : List Preference) (recorded : List Recorded) (fresh : List Fresh) → map recorded_seen recorded ≡ map fresh_seen fresh
     → map (past_by reach added) recorded ≡ map (λ (x : Fresh). past_of reach added (fresh_seen x)) fresh
@@ -92,9 +78,9 @@ firing_of_past (q ∷ history) p (inl e) = inl (ap (λ (x : RecordedFiring). x.f
 firing_of_past (q ∷ history) p (inr is) = inr (firing_of_past history p is)
 
 pub are_later : (last : ℕ) (history : List RecordedFiring) (reach : Reach) (added : List Preference) (recorded : List Recorded) → AreRecordedUpTo last (firings_in history)
-    → AreNumberedAfter last (map recorded_seen recorded) → AreLater history (map (past_by reach added) recorded)
-are_later last history reach added recorded up_to numbers p q old new =
-    let above = (between last recorded numbers q.firing (subst (IsIn q.firing) (sym (firings_joined reach added recorded)) (firing_of_past (map (past_by reach added) recorded) q new))).above in
+    → AreRisingFrom last (firings_of recorded) → AreLater history (map (past_by reach added) recorded)
+are_later last history reach added recorded up_to rising p q old new =
+    let above = rising_above last (firings_of recorded) q.firing rising (subst (IsIn q.firing) (sym (firings_joined reach added recorded)) (firing_of_past (map (past_by reach added) recorded) q new)) in
     omega (arith, above, up_to p.firing (firing_of_past history p old))
 
 -- the goal of each is one of the goals

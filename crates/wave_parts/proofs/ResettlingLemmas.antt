@@ -214,7 +214,6 @@ left_sound a l kept memory h sound memory_is =
       top_numbered = sound.top_numbered;
       numbered = sound.numbered;
       numbers_given = sound.numbers_given;
-      none_learned = sound.none_learned;
       rules_known = sound.rules_known;
       elements_known = subst (AreElementsKnown a.table) (sym elements)
           (after_known a.table l.goals kept a.memory.last a.memory.elements (kept_sound a l kept h sound) sound.elements_known);
@@ -223,6 +222,9 @@ left_sound a l kept memory h sound memory_is =
       queue_known = sound.queue_known;
       output_known = sound.output_known;
       live_known = live_left a.table (map live_seen a.live) (map live_seen l.live) h.keeps.live_are sound.live_known;
+      live_given = λ x is. sound.live_given x (h.keeps.live_are x is);
+      past_named = sound.past_named;
+      chains_known = sound.chains_known;
     }
 
 -- what is told is known

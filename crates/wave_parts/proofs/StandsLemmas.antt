@@ -4,6 +4,7 @@ use Rattle.defs_soar.specs.Agents.{Agent}
 use Rattle.defs_soar.specs.History.{RecordedFiring}
 use Rattle.defs_soar.specs.Standing.{dependencies_from}
 use Rattle.soar_record.specs.Recorded.{recorded}
+use Rattle.wave_parts.specs.Programs.{program_of}
 use Rattle.wave_parts.specs.Remembers.{PastGoalsAreNumbered, Remembers}
 use Rattle.wave_parts.specs.Seen.{agent_of}
 use Rattle.wave_parts.specs.Stands.{Stands}
@@ -42,19 +43,22 @@ stands_at a history remembers = record {
 pub stands_for : (a : PartsKept) (history : List RecordedFiring) (s : Agent) → Remembers a history → agent_of a history ≡ s → Stands a s
 stands_for a history s remembers is = subst (Stands a) is (stands_at a history remembers)
 
+pub program_is : (a : PartsKept) (s : Agent) → Stands a s → program_of a ≡ s.program
+program_is a s h = λ k. record {
+  rules = h.rules k;
+  last_rule = h.last_rule k;
+  chains = h.chains k;
+  chunks = h.learned_numbers.0 k;
+  justifications = h.learned_numbers.1 k;
+}
+
 -- the parts and the history are the whole state
 whole_state : (a : PartsKept) (s : Agent) → Stands a s → agent_of a s.history ≡ s
 whole_state a s h = λ k. record {
   names = record { words = h.words k; letters = h.letters k; last_tag = h.last_tag k };
   holding = record { elements = h.elements k; goals = h.goals k; rows = h.rows k; inputs = h.inputs k; live = h.live k };
   queues = h.queues k;
-  program = record {
-    rules = h.rules k;
-    last_rule = h.last_rule k;
-    chains = h.chains k;
-    chunks = h.learned_numbers.0 k;
-    justifications = h.learned_numbers.1 k;
-  };
+  program = program_is a s h k;
   counts = h.counts k;
   settings = h.settings k;
   history = s.history;

@@ -1,7 +1,7 @@
 -- Carrying out the work of a wave.
 use Rattle.std.specs.Prelude.{◌≡◌, Bool, map, Some, Result, Ok, Err}
 use Rattle.defs_match.specs.Rules.{rule_seen}
-use Rattle.defs_soar.specs.Learning.{without_learning}
+use Rattle.defs_soar.specs.Learning.{with_learning}
 use Rattle.defs_soar.specs.Limits.{first_passed}
 use Rattle.defs_soar.specs.Agents.{Agent}
 use Rattle.defs_soar.specs.Pending.{Work as WorkOf}
@@ -10,7 +10,7 @@ use Rattle.defs_soar.specs.Waves.{wave_of}
 use Rattle.pending_work.specs.Firables.{IsPending}
 use Rattle.step_report.specs.Reports.{report_events}
 use Rattle.step_report.specs.declared.report.Report.{Report}
-use Rattle.wave_parts.specs.Seen.{Stepped}
+use Rattle.wave_parts.specs.Seen.{pending_of, Stepped}
 use Rattle.wave_parts.specs.Stands.{Stands}
 use Rattle.wave_parts.specs.declared.parts.Parts.{Parts as PartsKept}
 use Rattle.soar_settle.specs.declared.stop.Stop.{Stop}
@@ -30,8 +30,12 @@ Carries new s (Ok done) = Carried new done.report done.halted s
 Carries new s (Err (stop.Limit which)) = first_passed s.totals ≡ Some which
 Carries new s (Err stop.NoMemory) = Unit {0}
 
+-- it is what is pending in these parts, in the proposal phase or not
+abbrev pub IsPendingIn : PartsKept → Work → Type 0
+IsPendingIn old work = (proposing : Bool) × IsPending (map rule_seen old.rules) old.memory.elements work (pending_of proposing old)
+
 -- in each state that the parts stand for, for the work that this stands for
 abbrev pub CarriesOut : PartsKept → PartsKept → Work → Result Done Stop → Type 0
 CarriesOut old new work result =
     (s : Agent) → Stands old s → (w : WorkOf) → IsPending (map rule_seen old.rules) old.memory.elements work w
-    → Carries new (wave_of without_learning s w) result
+    → Carries new (wave_of with_learning s w) result

@@ -1,11 +1,16 @@
 pub mod Carrying
+pub mod Changing
 pub mod Counting
-pub mod Firing
+pub mod Lawful
+pub mod Leaving
 pub mod Living
 pub mod Modes
+pub mod Programs
 pub mod Remembers
 pub mod Resettles
 pub mod Seen
 pub mod Settings
 pub mod Stands
+pub mod Teaching
 pub mod WaveParts
+pub mod Working

@@ -31,6 +31,7 @@ pub record IsLeft (old new : PartsKept) : Type 0 where
   pub table : new.table ≡ old.table
   pub letters : new.letters ≡ old.letters
   pub rules : new.rules ≡ old.rules
+  pub last_rule : new.last_rule ≡ old.last_rule
   pub past : new.past ≡ old.past
   pub firings : new.firings ≡ old.firings
   pub settings : new.settings ≡ old.settings

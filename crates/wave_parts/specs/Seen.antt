@@ -1,5 +1,5 @@
 -- What the parts of an agent keep, the states that they stand for, and a step.
-use Rattle.std.specs.Prelude.{◌≡◌, ℕ, suc, ◌≤◌, Bool, false, List, [], ◌∷◌, map, length, Option, Some, None}
+use Rattle.std.specs.Prelude.{◌≡◌, ℕ, suc, ◌≤◌, Bool, List, [], ◌∷◌, map, length, Option, Some, None}
 use Rattle.soar_sym.specs.Letters.{last_of}
 use Rattle.soar_sym.specs.Words.{Texts, IsKnown}
 use Rattle.defs_match.specs.Rules.{RuleOf, rule_seen}
@@ -10,11 +10,12 @@ use Rattle.defs_soar.specs.Agents.{Agent, LiveFiring}
 use Rattle.defs_soar.specs.History.{RecordedFiring}
 use Rattle.defs_soar.specs.Laws.{IsIn}
 use Rattle.defs_soar.specs.Limits.{first_passed}
-use Rattle.defs_soar.specs.Pending.{Work, pending_in, is_justification}
+use Rattle.defs_soar.specs.Pending.{Work, pending_in}
 use Rattle.defs_soar.specs.Phases.{halting}
 use Rattle.defs_soar.specs.Resettling.{AgentStep}
 use Rattle.learning_laws.specs.LawfulAgents.{IsNumbered}
 use Rattle.agent_laws.specs.Dependence.{MakersAreEarlier}
+use Rattle.program_laws.specs.Knowing.{AreChainsKnown, AreNamed}
 use Rattle.soar_record.specs.Recorded.{recorded}
 use Rattle.soar_choose.specs.Rows.{AreInRange}
 use Rattle.soar_settle.specs.Known.{AreElementsKnown, AreRulesKnown, AreRowsKnown, AreTriplesKnown}
@@ -22,6 +23,7 @@ use Rattle.input_queue.specs.Seen.{triple_queued}
 use Rattle.goal_trimming.specs.Living.{live_seen}
 use Rattle.pending_work.specs.Firables.{AreNumbered}
 use Rattle.wave_firings.specs.Numbered.{AreOfFirings, AreMakersOfFirings, AreRecordedUpTo}
+use Rattle.wave_learning.specs.Hands.{learned_rule_seen}
 use Rattle.wave_parts.specs.Settings.{settings_seen}
 use Rattle.wave_parts.specs.Stands.{Stands, counts_of, queues_of}
 use Rattle.wave_parts.specs.declared.parts.Parts.{Parts as PartsKept}
@@ -32,7 +34,7 @@ agent_of a history = record {
   names = record { words = a.table; letters = a.letters; last_tag = a.memory.last };
   holding = record { elements = a.memory.elements; goals = a.goals; rows = a.prefs.rows; inputs = a.inputs; live = map live_seen a.live };
   queues = queues_of a;
-  program = record { rules = map rule_seen a.rules; last_rule = a.last_rule; chains = []; chunks = 0; justifications = 0 };
+  program = record { rules = map rule_seen a.rules; last_rule = a.last_rule; chains = map learned_rule_seen a.chains; chunks = a.chunks; justifications = a.justifications };
   counts = counts_of a;
   settings = settings_seen a.settings;
   history = history;
@@ -61,11 +63,6 @@ pub record IsGoalKnown (words : Texts) (letters : List ℕ) (g : Goal) : Type 0 
 abbrev pub AreGoalsKnown : Texts → List ℕ → List Goal → Type 0
 AreGoalsKnown words letters goals = (g : Goal) → IsIn g goals → IsGoalKnown words letters g
 
--- no rule is a justification
-abbrev pub AreNoJustifications : List RuleOf → Type 0
-AreNoJustifications [] = Unit {0}
-AreNoJustifications (rule ∷ rules) = (is_justification rule.production.kind ≡ false) × AreNoJustifications rules
-
 -- the numbers of rules are at most the last that was given
 abbrev pub AreUpTo : ℕ → List RuleOf → Type 0
 AreUpTo last [] = Unit {0}
@@ -76,8 +73,12 @@ abbrev pub AreLiveKnown : Texts → List LiveFiring → Type 0
 AreLiveKnown words [] = Unit {0}
 AreLiveKnown words (l ∷ live) = IsKnown words l.name × AreLiveKnown words live
 
+-- the number of the rule of each live firing was given, so that no rule that is learned later has it
+abbrev pub AreLiveGiven : ℕ → List LiveFiring → Type 0
+AreLiveGiven last live = (l : LiveFiring) → IsIn l live → l.instance.rule ≤ last
+
 -- goals that the letters gave, the limits, rules in order of number, rows as decisions ask them, firings numbered up to the last, each of which used what earlier ones
--- made, and words that the table has, those of the architecture among them
+-- made, live firings of rules that were given, and words that the table has, those of the architecture, of firings and of explanations among them
 pub record IsSound (a : PartsKept) : Type 0 where
   pub goals_some : 1 ≤ length a.goals
   pub goals_few : length a.goals ≤ 100
@@ -95,7 +96,6 @@ pub record IsSound (a : PartsKept) : Type 0 where
   pub top_numbered : 1 ≤ last_of a.letters 83
   pub numbered : AreNumbered (map rule_seen a.rules)
   pub numbers_given : AreUpTo a.last_rule (map rule_seen a.rules)
-  pub none_learned : AreNoJustifications (map rule_seen a.rules)
   pub rules_known : AreRulesKnown a.table (map rule_seen a.rules)
   pub elements_known : AreElementsKnown a.table a.memory.elements
   pub rows_known : AreRowsKnown a.table a.prefs.rows
@@ -103,6 +103,9 @@ pub record IsSound (a : PartsKept) : Type 0 where
   pub queue_known : AreTriplesKnown a.table (map triple_queued a.queue)
   pub output_known : AreTriplesKnown a.table a.output
   pub live_known : AreLiveKnown a.table (map live_seen a.live)
+  pub live_given : AreLiveGiven a.last_rule (map live_seen a.live)
+  pub past_named : AreNamed a.table (recorded a.past)
+  pub chains_known : AreChainsKnown a.table (map learned_rule_seen a.chains)
 
 -- ---- a step
 

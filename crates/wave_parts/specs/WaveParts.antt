@@ -2,7 +2,7 @@
 use Rattle.std.specs.Prelude.{ℕ, not, List, [], ◌++◌, map, flat_map, filter, length}
 use Rattle.defs_soar.specs.declared.preference.Preference.{Preference}
 use Rattle.defs_soar.specs.Agents.{LiveFiring, Agent}
-use Rattle.defs_soar.specs.Learning.{without_learning}
+use Rattle.defs_soar.specs.Learning.{with_learning}
 use Rattle.defs_soar.specs.Pending.{Work}
 use Rattle.defs_soar.specs.Preferences.{rows_after, without_firings, with_rows}
 use Rattle.defs_soar.specs.Resettling.{AgentStep, resettled}
@@ -15,9 +15,9 @@ use Rattle.defs_soar.specs.Waves.{live_of, rows_of_fresh, without_spent, counted
 abbrev pub fired_in : Agent → Work → Wave
 fired_in a work = with_firings (before_wave a) (first_wave a) work.fired
 
--- and what it comes to where nothing is learned
+-- and what it comes to with what is learned
 abbrev pub ended_in : Agent → Work → Wave
-ended_in a work = without_learning (before_wave a) (fired_in a work)
+ended_in a work = with_learning (before_wave a) (fired_in a work)
 
 abbrev pub rows_made_in : Wave → List Preference
 rows_made_in w = flat_map rows_of_fresh (all_fresh w.entries)

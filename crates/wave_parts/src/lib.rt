@@ -2,8 +2,9 @@
 #![tactic(auto)]
 
 mod carrying;
+mod changing;
 mod counting;
-mod firing;
+mod leaving;
 mod living;
 mod parts;
 mod pending;
@@ -12,6 +13,8 @@ mod resettling;
 mod restarting;
 mod settings;
 mod start;
+mod teaching;
+mod working;
 
 pub use carrying::Done;
 pub use counting::count_more;

@@ -7,6 +7,7 @@ use soar_prefs::Prefs;
 use soar_record::Record;
 use soar_sym::{Letters, List, SymTable, Triple};
 use soar_wm::Memory;
+use wave_learning::LearnedRule;
 
 /// What an agent keeps: its words, working memory and what holds that up, its goals, its rules, its firings, what waits
 /// for it, how much it did, and how it is set.
@@ -18,6 +19,11 @@ pub struct Parts {
     pub prefs: Prefs,
     pub rules: List<Rule>,
     pub last_rule: u64,
+    /// The explanations of learned rules, which go with their rules.
+    pub chains: List<LearnedRule>,
+    /// The number in the name of the last chunk, and in that of the last justification.
+    pub chunks: u64,
+    pub justifications: u64,
     /// The goals, from the top.
     pub goals: Goals,
     /// The tags on which each goal depends, from the one below the top on. Nothing removes the top goal.
@@ -34,6 +40,8 @@ pub struct Parts {
     pub waves: u64,
     pub firings: u64,
     pub retractions: u64,
+    /// The chunks that were learned in this cycle.
+    pub learned: u32,
     /// What the output link showed in the last output phase.
     pub output: List<Triple>,
     pub halted: bool,

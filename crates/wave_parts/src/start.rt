@@ -2,6 +2,7 @@
 ghost use Rattle.std.specs.Prelude.{◌≡◌, ◌<◌, ◌-◌, ◌^◌, false, [], None, length, IfOk, OnOk};
 ghost use Rattle.defs_soar.specs.Start.{first_agent, first_elements, first_letters, first_settings};
 ghost use Rattle.soar_wm.specs.WorkingMemory.{tag_of, with_triple};
+ghost use Rattle.wave_parts.specs.Lawful.{IsOfLawful};
 ghost use Rattle.wave_parts.specs.Seen.{IsSound};
 ghost use Rattle.wave_parts.specs.Settings.{settings_seen};
 ghost use Rattle.wave_parts.specs.Stands.{Stands};
@@ -9,6 +10,7 @@ ghost use Rattle.wave_parts.specs.Stands.{Stands};
 use crate::parts::Parts;
 use crate::settings::Settings;
 use defs_soar::Mode;
+use learning_laws::agents_stay_lawful;
 use soar_goals::Goals;
 use soar_prefs::Prefs;
 use soar_record::Record;
@@ -46,6 +48,15 @@ impl Parts {
     pub fn new(alloc: Global, watch: u8) -> Result<Parts, NoMemory>
         ensures stands { IfOk result (λ parts. Stands parts (first_agent watch)) }
         ensures sound { IfOk result (λ parts. IsSound parts) }
+        ensures lawful { IfOk result (λ parts. IsOfLawful parts) }
+    {
+        agents_stay_lawful();
+        Parts::first(alloc, watch)
+    }
+
+    fn first(alloc: Global, watch: u8) -> Result<Parts, NoMemory>
+        ensures stands { IfOk result (λ parts. Stands parts (first_agent watch)) }
+        ensures sound { IfOk result (λ parts. IsSound parts) }
     {
         let table = SymTable::new(alloc)?;
         let memory = first_memory(alloc)?;
@@ -59,6 +70,9 @@ impl Parts {
             prefs,
             rules: List::new(alloc),
             last_rule: 0,
+            chains: List::new(alloc),
+            chunks: 0,
+            justifications: 0,
             goals,
             depends: List::new(alloc),
             past,
@@ -70,6 +84,7 @@ impl Parts {
             waves: 0,
             firings: 0,
             retractions: 0,
+            learned: 0,
             output: List::new(alloc),
             halted: false,
             settings: first_settings(watch),

@@ -10,6 +10,7 @@ use Rattle.cycle_phases.proofs.phase.run_waves.Goals as goal
 pub waves-init : goal.waves-init
 waves-init g c = record {
   sound = c.requires.sound;
+  lawful = c.requires.lawful;
   bond = c.requires.bond;
   settings = refl;
   going = λ s stands. starts c.args.engine.now.parts.settings.watch (is_proposing c.args.phase) c.args.engine.now.parts s c.args.mid_line.now c.args.out.now stands;
@@ -31,6 +32,7 @@ returns-in_err-wave-clause-waves g c = λ s stands.
 pub waves-preserved : goal.waves-preserved
 waves-preserved g c = record {
   sound = c.in_ok-wave.ensures.sound;
+  lawful = c.in_ok-wave.ensures.lawful;
   bond = c.in_ok-wave.ensures.bond;
   settings = c.in_ok-wave.ensures.settings ∙ c.waves.invariant.settings;
   going = λ s stands.

@@ -1,4 +1,4 @@
-use Rattle.wave_firings.specs.Told.{told_events}
+use Rattle.wave_entries.specs.Entries.{told_events}
 use Rattle.step_report.proofs.SayingLemmas.{says_flat, says_none}
 use Rattle.step_report.proofs.KnownLemmas.{known_in_flat_map}
 use Rattle.step_report.proofs.report.say_firings.Goals as goal

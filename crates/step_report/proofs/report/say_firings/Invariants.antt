@@ -1,5 +1,5 @@
 use Rattle.std.proofs.Common.{flat_map, take}
-use Rattle.wave_firings.specs.Told.{told_events}
+use Rattle.wave_entries.specs.Entries.{told_events}
 use Rattle.step_report.specs.Saying.{SaysEvents}
 use Rattle.step_report.proofs.report.say_firings.Given as goal
 

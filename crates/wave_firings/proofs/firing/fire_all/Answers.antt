@@ -3,7 +3,7 @@ use Rattle.std.proofs.lemmas.Result.{err_from_is_err_and}
 use Rattle.defs_match.specs.Rules.{rule_seen}
 use Rattle.firing_records.specs.Recorded.{standing}
 use Rattle.wave_firings.specs.FiringOutcome.{Leaves, gathered, instances_outcome}
-use Rattle.wave_firings.specs.Rows.{against}
+use Rattle.wave_firings.specs.Held.{against}
 use Rattle.wave_firings.proofs.FiringAgreement.{fires_all, stops_all}
 use Rattle.wave_firings.proofs.RecordedLemmas.{goals_all, makers_all, numbers_all}
 use Rattle.wave_firings.proofs.firing.fire_all.Goals as goal

@@ -6,7 +6,7 @@ use Rattle.pending_work.specs.Firables.{firables_for}
 use Rattle.wave_firings.specs.FiringOutcome.{gathered, Leaves, LeavesOne}
 use Rattle.soar_fire.specs.Growth.{OnlyGains}
 use Rattle.soar_fire.proofs.GrowthLemmas.{gains_both, gains_none, gains_twice, no_shorter}
-use Rattle.wave_firings.specs.Rows.{against}
+use Rattle.wave_firings.specs.Held.{against}
 use Rattle.wave_firings.proofs.FiringKnown.{goals_grown, instance_bound, instance_known, instances_grown, rules_grown}
 use Rattle.wave_firings.proofs.FiringLemmas.{next_fires, next_over, next_stops}
 use Rattle.wave_firings.proofs.turns.fire_each.Goals as goal
@@ -18,8 +18,7 @@ instances-init c = record {
   rules = c.requires.rules;
   goals = c.requires.goals;
   instances = c.requires.instances;
-  rows = c.requires.rows;
-  told = c.requires.told;
+  entries = c.requires.entries;
   gains = gains_none _ _;
   rest = refl;
 }
@@ -45,8 +44,7 @@ instances-preserved c =
       rules = rules_grown _ _ _ c.instances.invariant.rules longer;
       goals = goals_grown _ _ _ c.instances.invariant.goals longer;
       instances = instances_grown c.instances.table _ _ (record { are_known = known.1 }) longer;
-      rows = c.in_ok-fire_one.ensures.rows;
-      told = c.in_ok-fire_one.ensures.told;
+      entries = c.in_ok-fire_one.ensures.entries;
       gains = gains_twice _ _ _ _ _ _ c.instances.invariant.gains one;
       rest =
           sym (next_fires a c.instances.table c.instances.letters c.instances.fired c.instances.number rules instances place i c.instances-test.true c.instance-item.is

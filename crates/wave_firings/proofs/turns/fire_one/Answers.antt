@@ -4,7 +4,7 @@ use Rattle.defs_soar.specs.Pending.{firable_of}
 use Rattle.firing_records.specs.Recorded.{standing}
 use Rattle.pending_work.specs.Firables.{rules_of}
 use Rattle.wave_firings.specs.FiringOutcome.{first_of, gathered, LeavesOne}
-use Rattle.wave_firings.specs.Rows.{against}
+use Rattle.wave_firings.specs.Held.{against}
 use Rattle.wave_firings.proofs.FiringKnown.{rule_known}
 use Rattle.wave_firings.proofs.FiringLemmas.{rule_alone}
 use Rattle.wave_firings.proofs.turns.fire_one.Goals as goal

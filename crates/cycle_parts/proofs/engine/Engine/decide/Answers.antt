@@ -1,6 +1,7 @@
 use Rattle.std.proofs.lemmas.Result.{err_from_is_err_and}
 use Rattle.defs_soar.specs.Decision.{decided_by}
 use Rattle.cycle_parts.proofs.SteppingLemmas.{stops_alike}
+use Rattle.cycle_parts.proofs.LawfulLemmas.{lawful_decided}
 use Rattle.cycle_parts.proofs.engine.Engine.decide.Goals as goal
 
 pub returns-in_err-decision-clause-step : goal.returns-in_err-decision-clause-step
@@ -12,3 +13,7 @@ returns-in_err-decision-clause-step g c s stands =
 
 pub returns-clause-step : goal.returns-clause-step
 returns-clause-step g c s stands = c.in_ok-decision.ensures.step s stands
+
+pub returns-clause-lawful : goal.returns-clause-lawful
+returns-clause-lawful g c =
+    lawful_decided c.args.self.now.parts c.decide.new.parts c.requires.lawful (λ s stands. (c.in_ok-decision.ensures.step s stands).stepped)

@@ -1,6 +1,7 @@
 use Rattle.std.proofs.Common.{◌∙◌, sym}
 use Rattle.cycle_parts.proofs.OutputLemmas.{gives_output}
 use Rattle.cycle_parts.proofs.SoundLemmas.{sound_with_output}
+use Rattle.cycle_parts.proofs.LawfulLemmas.{lawful_with_output}
 use Rattle.cycle_parts.proofs.engine.Engine.give_output.Goals as goal
 
 pub output_changes-requires-clause-now : goal.output_changes-requires-clause-now
@@ -14,3 +15,8 @@ returns-clause-step g c =
 pub returns-clause-sound : goal.returns-clause-sound
 returns-clause-sound g c =
     sound_with_output c.args.self.now.parts c.in_ok-now.now c.requires.sound (c.in_ok-now.ensures.known c.args.self.now.parts.table c.requires.sound.elements_known)
+
+pub returns-clause-lawful : goal.returns-clause-lawful
+returns-clause-lawful g c =
+    let a = c.args.self.now.parts in
+    lawful_with_output a (record a { output = c.in_ok-now.now }) c.requires.lawful (λ s stands. (returns-clause-step g c s stands).stepped)

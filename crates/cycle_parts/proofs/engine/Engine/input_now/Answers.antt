@@ -5,14 +5,15 @@ use Rattle.step_report.specs.Reports.{settled_events}
 use Rattle.step_report.specs.Saying.{SaysEvents}
 use Rattle.cycle_parts.specs.Calls.{input_step}
 use Rattle.cycle_parts.proofs.InputNowLemmas.{settled_inputs}
-use Rattle.cycle_parts.proofs.SoundLemmas.{input_known, sound_with_inputs}
+use Rattle.cycle_parts.proofs.SoundLemmas.{given_known, input_known, sound_with_inputs}
 use Rattle.cycle_parts.proofs.SteppingLemmas.{goes_not, goes_on}
+use Rattle.cycle_parts.proofs.LawfulLemmas.{lawful_input}
 use Rattle.cycle_parts.proofs.engine.Engine.input_now.Goals as goal
 
 pub resettle-requires-clause-sound : goal.resettle-requires-clause-sound
 resettle-requires-clause-sound g c =
     let a = c.args.self.now.parts in
-    sound_with_inputs a c.in_ok-self.field-0 c.requires.sound (subst (AreTriplesKnown a.table) (sym c.in_ok-self.ensures) (input_known a.table c.args.adds c.args.triple a.inputs c.requires.sound.inputs_known c.requires.known))
+    sound_with_inputs a c.in_ok-self.field-0 c.requires.sound (subst (AreTriplesKnown a.table) (sym c.in_ok-self.ensures) (input_known a.table c.args.adds c.args.triple a.inputs c.requires.sound.inputs_known (given_known a c.args.triple c.requires.given)))
 
 pub returns-in_err-settled-clause-step : goal.returns-in_err-settled-clause-step
 returns-in_err-settled-clause-step g c s stands =
@@ -33,3 +34,7 @@ returns-clause-step g c s stands =
     c.resettle.ensures.settings c.in_ok-say_settled.ensures in
     goes_on a.settings.watch [] (input_step c.args.adds c.args.triple s) new settled c.args.mid_line.now c.say_settled.new.mid_line c.args.out.now c.say_settled.new.out
     (settled_inputs a new c.in_ok-self.field-0 c.args.adds c.args.triple (Ok settled) c.in_ok-self.ensures c.in_ok-settled.ensures.settled s stands) says
+
+pub returns-clause-lawful : goal.returns-clause-lawful
+returns-clause-lawful g c =
+    lawful_input c.args.self.now.parts c.resettle.new.self.parts c.args.adds c.args.triple c.requires.given c.requires.lawful (λ s stands. (returns-clause-step g c s stands).stepped)

@@ -19,12 +19,12 @@ pub resettle-requires-clause-sound : goal.resettle-requires-clause-sound
 resettle-requires-clause-sound g c =
     let a = c.args.self.now.parts in
     let known = c.in_ok-inputs.ensures.known a.table c.requires.sound.inputs_known c.requires.sound.queue_known in
-    subst (λ queue. IsSound (record a { inputs = c.in_ok-inputs.inputs; queue = queue; cycles = c.in_ok-cycles.cycles })) (sym c.new.ensures)
+    subst (λ queue. IsSound (record a { inputs = c.in_ok-inputs.inputs; queue = queue; cycles = c.in_ok-cycles.cycles; learned = 0 })) (sym c.new.ensures)
     (sound_in_cycle a c.in_ok-inputs.inputs c.in_ok-cycles.cycles c.requires.sound known)
 
 pub returns-clause-step : goal.returns-clause-step
 returns-clause-step g c =
     let a = c.args.self.now.parts in
     takes_input a c.resettle.new.self.parts c.in_ok-inputs.inputs c.in_ok-cycles.cycles c.resettle.result c.in_ok-inputs.ensures.changed c.in_ok-cycles.ensures.count
-    (subst (λ queue. (s : Agent) → Stands (record a { inputs = c.in_ok-inputs.inputs; queue = queue; cycles = c.in_ok-cycles.cycles }) s → Settles [] (resettled_now s) c.resettle.new.self.parts c.resettle.result)
+    (subst (λ queue. (s : Agent) → Stands (record a { inputs = c.in_ok-inputs.inputs; queue = queue; cycles = c.in_ok-cycles.cycles; learned = 0 }) s → Settles [] (resettled_now s) c.resettle.new.self.parts c.resettle.result)
     c.new.ensures c.resettle.ensures.settled)

@@ -5,6 +5,7 @@ use Rattle.defs_soar.specs.Events.{begins, input_phase}
 use Rattle.step_report.specs.Reports.{settled_events}
 use Rattle.step_report.specs.Saying.{SaysEvents}
 use Rattle.cycle_parts.proofs.SteppingLemmas.{goes_not, goes_on}
+use Rattle.cycle_parts.proofs.LawfulLemmas.{lawful_with_input}
 use Rattle.cycle_parts.proofs.engine.Engine.take_input.Goals as goal
 
 pub returns-in_err-settled-clause-step : goal.returns-in_err-settled-clause-step
@@ -22,3 +23,7 @@ returns-clause-step g c s stands =
     let says = subst (λ settings. SaysEvents settings.watch new.table (begins input_phase ∷ settled_events settled) c.args.mid_line.now c.args.out.now c.say_input.new.mid_line c.say_input.new.out)
     c.settle_queued.ensures.settings c.in_ok-say_input.ensures in
     goes_on a.settings.watch (begins input_phase ∷ []) (after_input s) new settled c.args.mid_line.now c.say_input.new.mid_line c.args.out.now c.say_input.new.out (c.in_ok-settled.ensures.step s stands) says
+
+pub returns-clause-lawful : goal.returns-clause-lawful
+returns-clause-lawful g c =
+    lawful_with_input c.args.self.now.parts c.settle_queued.new.self.parts c.requires.lawful (λ s stands. (returns-clause-step g c s stands).stepped)

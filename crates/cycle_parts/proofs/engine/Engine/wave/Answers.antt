@@ -1,12 +1,16 @@
 use Rattle.std.proofs.Common.{◌∙◌, Err, Ok, ap, sym, subst}
 use Rattle.std.proofs.lemmas.Result.{err_from_is_err_and}
-use Rattle.wave_parts.specs.Carrying.{CarriesOut}
+use Rattle.wave_parts.specs.Carrying.{CarriesOut, IsPendingIn}
 use Rattle.wave_parts.specs.declared.parts.Parts.{Parts as PartsKept}
 use Rattle.step_report.specs.Reports.{report_events}
 use Rattle.step_report.specs.Saying.{SaysEvents}
 use Rattle.cycle_parts.specs.Waving.{is_proposing}
 use Rattle.cycle_parts.proofs.WavingLemmas.{waves, waves_not}
 use Rattle.cycle_parts.proofs.engine.Engine.wave.Goals as goal
+
+pub carry_out-requires-clause-pending : goal.carry_out-requires-clause-pending
+carry_out-requires-clause-pending g c =
+    subst (λ a. IsPendingIn a c.in_ok-work.work) (sym c.in_ok-work.ensures.parts) (is_proposing c.args.phase, c.in_ok-work.ensures.work)
 
 pub returns-in_err-done-clause-wave : goal.returns-in_err-done-clause-wave
 returns-in_err-done-clause-wave g c =

@@ -1,0 +1,27 @@
+-- Rules of a name that go, with their explanations; no public clause cites this file.
+use Rattle.std.specs.Prelude.{◌≡◌, ℕ, Bool, ◌==◌, ◌&&◌, not, List, filter, map}
+use Rattle.std.specs.List.{list_any}
+use Rattle.soar_sym.specs.declared.symbol.Sym.{Sym}
+use Rattle.defs_match.specs.Rules.{RuleOf, rule_seen}
+use Rattle.defs_run.specs.Carrying.{is_named}
+use Rattle.defs_soar.specs.Agents.{Learnt}
+use Rattle.wave_learning.specs.Hands.{learned_rule_seen}
+use Rattle.wave_parts.specs.declared.parts.Parts.{Parts as PartsKept}
+
+-- the rule of the number has the name
+abbrev pub is_of_name : Sym → List RuleOf → ℕ → Bool
+is_of_name name rules number = list_any (λ rule. (rule.number == number) && is_named name rule) rules
+
+-- those that do not have a name
+abbrev pub unnamed : Sym → List RuleOf → List RuleOf
+unnamed name rules = filter (λ rule. not (is_named name rule)) rules
+
+-- the explanations of those
+abbrev pub unnamed_chains : Sym → List RuleOf → List Learnt → List Learnt
+unnamed_chains name rules chains = filter (λ learnt. not (is_of_name name rules learnt.rule)) chains
+
+-- nothing else of the parts changes
+pub record AreDropped (old new : PartsKept) (name : Sym) : Type 0 where
+  pub rules_are : map rule_seen new.rules ≡ unnamed name (map rule_seen old.rules)
+  pub chains_are : map learned_rule_seen new.chains ≡ unnamed_chains name (map rule_seen old.rules) (map learned_rule_seen old.chains)
+  pub same : new ≡ record old { rules = new.rules; chains = new.chains }

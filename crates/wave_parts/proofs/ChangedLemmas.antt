@@ -1,0 +1,209 @@
+-- What a wave changed, and what carrying it out comes to.
+use Rattle.std.proofs.Common.{◌≡◌, ℕ, ◌+◌, ◌≤◌, ◌∙◌, List, ◌++◌, map, drop, length, Result, Ok, Err, refl, sym, ap, subst}
+use Rattle.std.specs.Prelude.{flat_map}
+use Rattle.soar_choose.specs.Rows.{AreInRange}
+use Rattle.soar_fire.specs.Growth.{LettersKeep}
+use Rattle.soar_fire.proofs.GrowthLemmas.{no_shorter}
+use Rattle.soar_record.specs.Recorded.{recorded}
+use Rattle.soar_settle.specs.Known.{AreRowsKnown}
+use Rattle.soar_settle.specs.Renewal.{Renews}
+use Rattle.soar_settle.specs.declared.stop.Stop.{Stop}
+use Rattle.trace_laws.specs.Events.{AreEventsKnown}
+use Rattle.defs_match.specs.Rules.{rule_seen}
+use Rattle.defs_soar.specs.declared.firing.Firing.{Firing}
+use Rattle.defs_soar.specs.Agents.{Agent}
+use Rattle.defs_soar.specs.History.{RecordedFiring}
+use Rattle.defs_soar.specs.Learning.{with_learning}
+use Rattle.defs_soar.specs.Pending.{Work as WorkOf}
+use Rattle.defs_soar.specs.Preferences.{without_firings}
+use Rattle.defs_soar.specs.Trimming.{numbers_of}
+use Rattle.defs_soar.specs.WaveAtHand.{Entry as EntryOf, all_fresh}
+use Rattle.defs_soar.specs.Waves.{live_of, rows_added, wave_of}
+use Rattle.agent_laws.specs.Dependence.{GoalsDependOnMore, MakersAreEarlier, each_with}
+use Rattle.agent_laws.specs.Records.{AreRisingFrom}
+use Rattle.firing_records.specs.Recorded.{recorded_seen}
+use Rattle.goal_dependence.specs.Remembered.{CanJoin, firings_of, past_by, reach_over, tags_found_from}
+use Rattle.goal_trimming.specs.Living.{live_seen}
+use Rattle.pending_work.specs.Firables.{IsPending}
+use Rattle.pending_work.specs.declared.work.Work.{Work}
+use Rattle.program_laws.specs.Knowing.{AreNamed}
+use Rattle.step_report.specs.Reports.{report_events, settled_events}
+use Rattle.step_report.specs.declared.settled.Settled.{Settled}
+use Rattle.wave_entries.specs.Entries.{entry_seen, told_events}
+use Rattle.wave_entries.specs.declared.ending.WaveMade.{WaveMade}
+use Rattle.wave_firings.specs.Listed.{events_in, recorded_in, rows_in}
+use Rattle.wave_firings.specs.Numbered.{AreGoalsOf, AreMakersUpTo, AreOfFirings, AreRecordedUpTo}
+use Rattle.wave_parts.specs.Carrying.{Carried}
+use Rattle.wave_parts.specs.Changing.{Changes, HasChanged, StopsAs}
+use Rattle.wave_parts.specs.Counting.{Counts}
+use Rattle.wave_parts.specs.Leaving.{IsMadeFit}
+use Rattle.wave_parts.specs.Remembers.{Remembers}
+use Rattle.wave_parts.specs.Resettles.{IsLeft, IsResettled, Resettles, resettled_now}
+use Rattle.wave_parts.specs.Seen.{AreLiveGiven, AreLiveKnown, IsSound, agent_of}
+use Rattle.wave_parts.specs.Stands.{Stands}
+use Rattle.wave_parts.specs.Teaching.{AreRetaught}
+use Rattle.wave_parts.specs.WaveParts.{ended_in, rows_in_all, rows_made_in, unsettled}
+use Rattle.wave_parts.specs.Working.{HoldsWave, IsWorkedFrom, IsWorkedOut, WorksOut, firings_at}
+use Rattle.wave_parts.specs.declared.changing.WaveChange.{WaveChange}
+use Rattle.wave_parts.specs.declared.parts.Parts.{Parts as PartsKept}
+use Rattle.wave_parts.specs.declared.working.WaveWorked.{WaveWorked}
+use Rattle.wave_parts.proofs.CarriedLemmas.{counted_now, retracted_length, retractions_stop, rows_fit, rows_stop, waves_stop, work_stops}
+use Rattle.wave_parts.proofs.CarryLemmas.{Counted}
+use Rattle.wave_parts.proofs.CarryingLemmas.{IsMidOf, mid_is, mid_remembers, mid_stands, renews_old, rows_old, waves_more}
+use Rattle.wave_parts.proofs.DoneLemmas.{done, remembers_wave, report_known, settling_stop, wave_sound, with_wave}
+use Rattle.wave_parts.proofs.NamedLemmas.{live_grown}
+use Rattle.wave_parts.proofs.RememberedLemmas.{makers_joined, makers_of_new, recorded_firings}
+use Rattle.wave_parts.proofs.RetaughtLemmas.{retaught, retracted_given}
+use Rattle.wave_parts.proofs.StandsLemmas.{stands_at}
+
+-- ---- up to settling
+
+-- the entries taken apart
+pub record IsMadeOf (entries : List EntryOf) (made : WaveMade) : Type 0 where
+  pub rows_are : made.rows ≡ rows_in entries
+  pub live_are : map live_seen made.live ≡ map live_of (all_fresh entries)
+
+pub made_fit : (old worked : PartsKept) (entries : List EntryOf) (made : WaveMade) → IsWorkedOut old worked entries → IsMadeOf entries made → IsMadeFit worked made.rows (map live_seen made.live)
+made_fit old worked entries made out is = record {
+  rows_known = subst (AreRowsKnown worked.table) (sym is.rows_are) out.fit.rows_known;
+  rows_in_range = subst AreInRange (sym is.rows_are) out.fit.rows_in_range;
+  rows_of_firings = subst (AreOfFirings worked.firings) (sym is.rows_are) out.fit.rows_of_firings;
+  live_known = subst (AreLiveKnown worked.table) (sym is.live_are) out.fit.live_known;
+  live_given = subst (AreLiveGiven worked.last_rule) (sym is.live_are) out.fit.live_given;
+}
+
+-- ---- where the code stops before it settles
+
+change_not : (old mid : PartsKept) (work : Work) (r : Result WaveChange Stop) (why : Stop) → r ≡ Err why → Changes old mid work (Err why) → Changes old mid work r
+change_not old mid work r why is = subst (Changes old mid work) (sym is)
+
+pub waves_stop_change : (old mid : PartsKept) (work : Work) (r : Result WaveChange Stop) (why : Stop) → r ≡ Err why → IsSound old → Counts (old.waves + 1) (Err why) → Changes old mid work r
+waves_stop_change old mid work r why is sound c = change_not old mid work r why is (λ history remembers w pend. waves_stop old history w why sound c)
+
+pub retractions_stop_change : (old mid : PartsKept) (work : Work) (n : ℕ) (r : Result WaveChange Stop) (why : Stop) → r ≡ Err why → IsSound old → old.waves + 1 ≤ 18446744073709551615 → n ≡ length work.retracted
+    → Counts (old.retractions + n) (Err why) → Changes old mid work r
+retractions_stop_change old mid work n r why is sound few same c =
+    change_not old mid work r why is (λ history remembers w pend. retractions_stop old history work w n why sound pend few same c)
+
+-- the counts are within their limits
+pub record AreFew (old : PartsKept) (work : Work) : Type 0 where
+  pub waves : old.waves + 1 ≤ 18446744073709551615
+  pub retractions : old.retractions + length work.retracted ≤ 18446744073709551615
+
+pub work_stops_change : (old worked mid : PartsKept) (work : Work) (r : Result WaveChange Stop) (why : Stop) → r ≡ Err why → AreFew old work → WorksOut old worked work (Err why) → Changes old mid work r
+work_stops_change old worked mid work r why is few answer =
+    change_not old mid work r why is
+    (λ history remembers w pend. work_stops old worked history w why (counted_now old history work w (length work.retracted) pend few.waves refl few.retractions) (answer history remembers w pend))
+
+pub leave_stops_change : (old worked left mid : PartsKept) (work : Work) (came : WaveWorked) (made : WaveMade) (r : Result WaveChange Stop) (why : Stop) → r ≡ Err why → IsSound old → AreFew old work
+    → WorksOut old worked work (Ok came) → IsWorkedFrom old worked → IsMadeOf (map entry_seen came.entries) made
+    → Renews worked.prefs left.prefs (numbers_of (map live_seen work.retracted)) made.rows (Err why) → Changes old mid work r
+leave_stops_change old worked left mid work came made r why is sound few answer from made_is renews =
+    change_not old mid work r why is (λ history remembers w pend.
+    let holds = answer history remembers w pend in
+    rows_stop old history w left.prefs (numbers_of (map live_seen work.retracted)) made.rows why sound (ap numbers_of pend.retracted_are)
+    (counted_now old history work w (length work.retracted) pend few.waves refl few.retractions) (made_is.rows_are ∙ ap rows_in holds.entries_are) holds.within
+    (renews_old old worked left.prefs (numbers_of (map live_seen work.retracted)) made.rows (Err why) from renews))
+
+-- ---- what it changed
+
+module _ (old mid : PartsKept) (work : Work) (change : WaveChange) (sound : IsSound old) (x : HasChanged old mid work change) where
+  is_mid : IsMidOf x.worked mid
+  is_mid = record { same = x.same }
+
+  firings_are : firings_of change.recorded ≡ firings_at (map entry_seen x.entries)
+  firings_are = recorded_firings change.recorded (all_fresh (map entry_seen x.entries)) x.recorded_are
+
+  rising : AreRisingFrom old.firings (firings_of change.recorded)
+  rising = subst (AreRisingFrom old.firings) (sym firings_are) x.out.fit.rising
+
+  makers : AreMakersUpTo old.firings (map recorded_seen change.recorded)
+  makers = subst (AreMakersUpTo old.firings) (sym x.recorded_are) x.out.fit.makers
+
+  pub memory_is : mid.memory ≡ old.memory
+  memory_is = ap (λ (a : PartsKept). a.memory) (mid_is old x.worked mid x.from is_mid)
+
+  -- ---- with one history
+
+  module _ (history : List RecordedFiring) (remembers : Remembers old history) (w : WorkOf) (pend : IsPending (map rule_seen old.rules) old.memory.elements work w) where
+    counted : Counted (agent_of old history) w
+    counted = counted_now old history work w (length work.retracted) pend x.few_waves refl x.few_retractions
+
+    holds : HoldsWave old x.worked x.entries change.halted (ended_in (agent_of old history) w)
+    holds = x.answer history remembers w pend
+
+    rows_are : x.rows ≡ rows_made_in (ended_in (agent_of old history) w)
+    rows_are = x.rows_are ∙ ap rows_in holds.entries_are
+
+    room : rows_in_all (agent_of old history) w.retracted (ended_in (agent_of old history) w) ≤ 1000000
+    room =
+        rows_fit old history w mid.prefs (numbers_of (map live_seen work.retracted)) x.rows sound (ap numbers_of pend.retracted_are) rows_are
+        (rows_old old x.worked mid.prefs (numbers_of (map live_seen work.retracted)) x.rows x.from x.renews)
+
+    stands : agent_of mid history ≡ unsettled (agent_of old history) w.retracted (ended_in (agent_of old history) w)
+    stands =
+        mid_stands old mid work change history w x pend.retracted_are holds (waves_more mid.waves old.waves x.waves_are)
+        (x.retractions_are ∙ ap (λ n. old.retractions + n) (retracted_length (map rule_seen old.rules) old.memory.elements work w pend))
+
+    stands_now : Stands mid (agent_of mid history)
+    stands_now = stands_at mid history (mid_remembers old x.worked mid history x.from is_mid remembers)
+
+    pub settling_stops : (new : PartsKept) (why : Stop) → ((s : Agent) → Stands mid s → Resettles new s (Err why)) → StopsAs (wave_of with_learning (agent_of old history) w) why
+    settling_stops new why stops = settling_stop old mid new history w why counted holds.within room stands (stops (agent_of mid history) stands_now)
+
+    pub is_carried : GoalsDependOnMore → (new : PartsKept) (settled : Settled) (depends : List (List ℕ)) (firings : List Firing)
+        → ((s : Agent) → Stands mid s → IsResettled new settled (resettled_now s)) → recorded new.past ≡ recorded old.past
+        → recorded firings ≡ recorded new.past ++ firings_of change.recorded
+        → depends ≡ each_with new.depends (tags_found_from (recorded firings) (map (past_by (reach_over old.goals old.memory.elements) change.added) change.recorded) 2 (drop 1 new.goals))
+        → Carried (with_wave new depends firings change.halted) (record { retracted = work.retracted; fired = change.told; settled = settled }) change.halted (wave_of with_learning (agent_of old history) w)
+    is_carried law new settled depends firings settles same_record firings_is depends_is =
+        let settles_here = settles (agent_of mid history) stands_now in
+        done old mid new history w work.retracted change.told change.halted settled depends firings counted holds.within room stands settles_here
+        (remembers_wave law old mid new history w change.recorded change.halted settled change.added depends firings sound remembers
+        (subst (LettersKeep old.letters) (sym (ap (λ (a : PartsKept). a.letters) (mid_is old x.worked mid x.from is_mid))) x.from.letters)
+        (x.recorded_are ∙ ap recorded_in holds.entries_are) settles_here same_record rising (subst (AreGoalsOf old.goals) (sym x.recorded_are) x.out.fit.goals)
+        (x.added_is ∙ (λ k. rows_added (without_firings (x.from.same k).prefs.rows (numbers_of (pend.retracted_are k))) (rows_are k))) firings_is depends_is)
+        pend.retracted_are (x.told_are ∙ ap events_in holds.entries_are) holds.halted_is
+
+  -- ---- behind settling
+
+  module _ (new : PartsKept) (remains : IsLeft mid new) where
+    -- the parts that are as the work left them
+    table_is : new.table ≡ x.worked.table
+    table_is = remains.table ∙ ap (λ (a : PartsKept). a.table) (mid_is old x.worked mid x.from is_mid)
+
+    firings_is : new.firings ≡ x.worked.firings
+    firings_is = remains.firings ∙ ap (λ (a : PartsKept). a.firings) (mid_is old x.worked mid x.from is_mid)
+
+    pub past_is : new.past ≡ old.past
+    past_is = remains.past ∙ ap (λ (a : PartsKept). a.past) (mid_is old x.worked mid x.from is_mid)
+
+    pub can_join : CanJoin (recorded new.past) (firings_of change.recorded)
+    can_join = record { last = old.firings; kept_up_to = subst (λ past. AreRecordedUpTo old.firings (recorded past)) (sym past_is) sound.recorded_up_to; rising = rising }
+
+    pub are_earlier : MakersAreEarlier (recorded new.past ++ firings_of change.recorded)
+    are_earlier =
+        makers_joined (recorded new.past) (firings_of change.recorded) (subst (λ past. MakersAreEarlier (recorded past)) (sym past_is) sound.makers_earlier)
+        (makers_of_new old.firings change.recorded rising makers)
+
+    pub end_is_sound : (depends : List (List ℕ)) (firings : List Firing) (tags : List (List ℕ)) → IsSound new
+        → recorded firings ≡ recorded new.past ++ firings_of change.recorded → depends ≡ each_with new.depends tags → IsSound (with_wave new depends firings change.halted)
+    end_is_sound depends firings tags s firings_join depends_is =
+        wave_sound new old.firings change.recorded depends firings change.halted tags s rising makers
+        (subst (λ n. AreRecordedUpTo n (firings_of change.recorded)) (sym firings_is) (subst (AreRecordedUpTo x.worked.firings) (sym firings_are) x.out.fit.recorded_up_to))
+        (subst (λ words. AreNamed words (firings_of change.recorded)) (sym table_is) (subst (AreNamed x.worked.table) (sym firings_are) x.out.fit.named))
+        firings_join depends_is
+
+    pub is_retaught : (depends : List (List ℕ)) (firings : List Firing) → AreRetaught old (with_wave new depends firings change.halted) change.spent
+    is_retaught depends firings =
+        retaught old x.worked (map live_seen work.retracted) sound x.out.joined (retracted_given old work sound x.pending) mid (with_wave new depends firings change.halted) change.spent
+        x.spent_is x.program_is remains.rules remains.last_rule
+
+    pub is_known : (settled : Settled) → AreLiveKnown old.table (map live_seen work.retracted) → AreEventsKnown new.table (settled_events settled)
+        → AreEventsKnown new.table (report_events (record { retracted = work.retracted; fired = change.told; settled = settled }))
+    is_known settled names settled_known =
+        report_known new.table (record { retracted = work.retracted; fired = change.told; settled = settled })
+        (subst (λ words. AreLiveKnown words (map live_seen work.retracted)) (sym table_is)
+        (live_grown old.table x.worked.table (map live_seen work.retracted) (no_shorter old.table x.worked.table (record { grown = x.from.words })) names))
+        (subst (λ words. AreEventsKnown words (flat_map told_events change.told)) (sym table_is) (subst (AreEventsKnown x.worked.table) (sym x.told_are) x.out.fit.events_known))
+        settled_known
