@@ -1,12 +1,12 @@
 -- As many elements as have a tag up to the last; and chunks among rules as they are kept.
-use Rattle.std.proofs.Common.{◌≡◌, ℕ, zero, suc, ◌+◌, ◌<◌, ◌≤◌, ◌∙◌, Bool, true, false, cond, List, [], ◌∷◌, length, map, filter, Option, Some, None, inl, inr, refl, sym, ap, ap₂, subst, arith}
+use Rattle.std.proofs.Common.{◌≡◌, ℕ, zero, suc, ◌+◌, ◌<◌, ◌≤◌, ◌∙◌, Bool, true, false, cond, List, [], ◌∷◌, length, map, Some, None, inl, inr, refl, sym, ap, ap₂, subst, arith}
 use Rattle.std.proofs.lemmas.Bool.{eq-eqb, ne_eqb}
 use Rattle.std.proofs.lemmas.Bool.Decides.{eqb_tells}
 use Rattle.std.proofs.lemmas.List.Recursion.{is_count_by}
 use Rattle.std.specs.List.{count_by}
 use Rattle.soar_wm.specs.WorkingMemory.{IsBelow, IsGiven, IsRising, element_of}
 use Rattle.soar_wm.specs.declared.element.Element.{Element}
-use Rattle.defs_match.specs.Rules.{RuleOf, rule_seen}
+use Rattle.defs_match.specs.Rules.{rule_seen}
 use Rattle.defs_match.specs.declared.rule.Rule.{Rule}
 use Rattle.defs_run.specs.Listing.{is_chunk}
 use Rattle.soar_cycle.specs.Counting.{chunks_among, count_at}

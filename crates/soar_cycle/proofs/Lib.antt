@@ -1,2 +1,4 @@
+pub mod ChunkLemmas
 pub mod CountLemmas
+pub mod TableLemmas
 pub mod ToldLemmas

@@ -5,6 +5,7 @@ use Rattle.soar_wm.specs.declared.element.Element.{Element}
 use Rattle.defs_match.specs.Rules.{RuleOf}
 use Rattle.soar_settle.specs.declared.stop.Stop.{Stop}
 use Rattle.soar_settle.specs.declared.stop.Stop.TheVariants as stop
+use Rattle.wave_parts.specs.Lawful.{IsOfLawful}
 use Rattle.wave_parts.specs.Seen.{IsSound}
 use Rattle.wave_parts.specs.declared.parts.Parts.{Parts as PartsKept}
 use Rattle.cycle_parts.specs.Bonds.{Bond}
@@ -23,9 +24,9 @@ agent_seen parts mid_line standing = record { parts = parts; mid_line = mid_line
 abbrev pub IsBound : List RuleOf → List Element → Bool → PartsKept → Standing → Type 0
 IsBound rules elements failed parts s = s ≡ standing.Stands → Bond rules elements failed parts
 
--- while it stands for a state, its parts are sound
+-- while it stands for a state, its parts are sound, and stand for a lawful one
 abbrev pub IsSoundAgent : AgentSeen → Type 0
-IsSoundAgent a = a.standing ≡ standing.Stands → IsSound a.parts
+IsSoundAgent a = a.standing ≡ standing.Stands → IsSound a.parts × IsOfLawful a.parts
 
 -- ---- the answers of an agent that stands for no state
 

@@ -1,3 +1,4 @@
 pub mod Agents
+pub mod Chunks
 pub mod Counting
 pub mod Telling

@@ -1,18 +1,23 @@
-ghost use Rattle.std.specs.Prelude.{◌≡◌, false, [], IfOk};
+ghost use Rattle.std.specs.Prelude.{◌≡◌, false, [], map, IfOk};
 ghost use Rattle.std.specs.Borrow.{Lends, sem};
+ghost use Rattle.std.specs.Option.{option_copied, option_map};
 ghost use Rattle.soar_sym.specs.contracts.table.SymTable as table;
+ghost use Rattle.defs_run.specs.Carrying.{chain_of_rule};
+ghost use Rattle.defs_soar.specs.History.{chain_seen};
 ghost use Rattle.defs_soar.specs.Start.{first_agent};
 ghost use Rattle.defs_soar.specs.Values.{has_triple_among};
 ghost use Rattle.soar_cycle.specs.Agents.{IsSoundAgent, with_table};
 ghost use Rattle.soar_cycle.specs.Counting.{counts_in};
 ghost use Rattle.soar_cycle.specs.contracts.agent.Agent as agent;
+ghost use Rattle.wave_learning.specs.Hands.{learned_rule_seen};
 ghost use Rattle.wave_parts.specs.Stands.{Stands};
 
 use crate::counts::{Counts, counts_in};
+use crate::explaining::chain_of_rule;
 use crate::standing::Standing;
 use cycle_parts::Engine;
 use defs_match::{Matcher, Rule};
-use defs_soar::Goal;
+use defs_soar::{Chain, Goal};
 use soar_prefs::Prefs;
 use soar_sym::{Letters, List, NoMemory, SymTable, Triple, is_triple};
 use soar_wm::Memory;
@@ -107,6 +112,13 @@ impl<M: Matcher> Agent<M> {
         ensures { result.now ≡ self.now.parts.rules }
     {
         &self.engine.parts.rules
+    }
+
+    /// The explanation of the learned rule of a number. Any other rule has none.
+    pub fn chain(&self, rule: u64) -> Option<&Chain>
+        ensures { option_map chain_seen (option_copied result) ≡ chain_of_rule (map learned_rule_seen self.now.parts.chains) rule }
+    {
+        chain_of_rule(self.engine.parts.chains.as_slice(), rule)
     }
 
     /// The goals, from the top.

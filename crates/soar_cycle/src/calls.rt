@@ -5,7 +5,7 @@ ghost use Rattle.soar_cycle.specs.Agents.{IsSoundAgent, IsStopped, standing_afte
 ghost use Rattle.wave_parts.specs.Stands.{Stands};
 ghost use Rattle.soar_sym.specs.Letters.{last_of};
 ghost use Rattle.soar_sym.specs.Words.{IsKnown};
-ghost use Rattle.cycle_parts.specs.Calls.{GivesFresh, IsTripleKnown, input_step, queue_step, random_step, restart_step};
+ghost use Rattle.cycle_parts.specs.Calls.{GivesFresh, IsTripleGiven, input_step, queue_step, random_step, restart_step};
 ghost use Rattle.decision_parts.specs.Stepping.{GoesStep, QuietStep};
 
 use crate::agent::Agent;
@@ -20,7 +20,7 @@ impl<M: Matcher> Agent<M> {
     /// memory is wanting.
     pub fn input_now(&mut self, adds: bool, triple: Triple, text: &mut Text) -> Result<(), Stop>
         requires sound { IsSoundAgent self.old }
-        requires known { self.old.standing ≡ Standing.Stands → IsTripleKnown self.old.parts.table triple }
+        requires given { self.old.standing ≡ Standing.Stands → IsTripleGiven self.old.parts triple }
         ensures step { self.old.standing ≡ Standing.Stands → (s : AgentOf) → Stands self.old.parts s → GoesStep self.old.parts.settings.watch self.old.mid_line (input_step adds triple s) self.new.parts self.new.mid_line text.old text.new result }
         ensures table { self.new.parts.table ≡ self.old.parts.table }
         ensures settings { self.new.parts.settings ≡ self.old.parts.settings }
@@ -44,7 +44,7 @@ impl<M: Matcher> Agent<M> {
     /// Queues a change of the inputs for the next input phase: the triple joins them, or leaves.
     pub fn queue(&mut self, adds: bool, triple: Triple) -> Result<(), Stop>
         requires sound { IsSoundAgent self.old }
-        requires known { self.old.standing ≡ Standing.Stands → IsTripleKnown self.old.parts.table triple }
+        requires given { self.old.standing ≡ Standing.Stands → IsTripleGiven self.old.parts triple }
         ensures step { self.old.standing ≡ Standing.Stands → (s : AgentOf) → Stands self.old.parts s → QuietStep (queue_step adds triple s) self.new.parts result }
         ensures settings { self.new.parts.settings ≡ self.old.parts.settings }
         ensures standing { self.new.standing ≡ standing_after self.old.standing result }
@@ -101,7 +101,8 @@ impl<M: Matcher> Agent<M> {
         answer
     }
 
-    /// Starts anew: all is as at the start but words, rules and settings (Soar manual, chapter 9, init-soar).
+    /// Starts anew: all is as at the start but words, settings and all rules but justifications (Soar manual, chapter 9,
+    /// init-soar).
     pub fn restart(&mut self) -> Result<(), Stop>
         requires sound { IsSoundAgent self.old }
         ensures step { self.old.standing ≡ Standing.Stands → (s : AgentOf) → Stands self.old.parts s → QuietStep (restart_step s) self.new.parts result }

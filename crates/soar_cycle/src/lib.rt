@@ -4,6 +4,7 @@
 mod agent;
 mod calls;
 mod counts;
+mod explaining;
 mod program;
 mod running;
 mod standing;

@@ -9,7 +9,7 @@ ghost use Rattle.soar_rule.specs.Symbols.{AreKnown, symbols_of};
 ghost use Rattle.defs_match.specs.Conflict.{conflict};
 ghost use Rattle.defs_match.specs.Rules.{rule_seen};
 ghost use Rattle.defs_soar.specs.Pending.{is_justification};
-ghost use Rattle.cycle_parts.specs.Calls.{excised_agent, load_step};
+ghost use Rattle.cycle_parts.specs.Calls.{MayBeLoaded, excised_agent, load_step};
 ghost use Rattle.decision_parts.specs.Stepping.{QuietStep};
 
 use crate::agent::Agent;
@@ -20,12 +20,13 @@ use soar_sym::{List, NoMemory, Sym};
 use wave_parts::Stop;
 
 impl<M: Matcher> Agent<M> {
-    /// Loads a production under the next rule number, in the place of that of its name.
+    /// Loads a production under the next rule number, in the place of that of its name, whose explanation goes too.
     pub fn load(&mut self, production: Production) -> Result<(), Stop>
         requires sound { IsSoundAgent self.old }
         requires known { self.old.standing ≡ Standing.Stands → AreKnown self.old.parts.table (symbols_of (production_seen production)) }
         requires unlearned { is_justification production.kind ≡ false }
         requires matchable { can_be_matched (production_seen production) ≡ true }
+        requires may_be_loaded { self.old.standing ≡ Standing.Stands → MayBeLoaded self.old.parts.table (production_seen production) }
         ensures step { self.old.standing ≡ Standing.Stands → (s : AgentOf) → Stands self.old.parts s → QuietStep (load_step (production_seen production) s) self.new.parts result }
         ensures settings { self.new.parts.settings ≡ self.old.parts.settings }
         ensures standing { self.new.standing ≡ standing_after self.old.standing result }
@@ -41,8 +42,8 @@ impl<M: Matcher> Agent<M> {
         answer
     }
 
-    /// Takes the productions of a name away. Their firings are retracted in the next wave. Where it stands for no state it
-    /// does nothing.
+    /// Takes the productions of a name away, with their explanations. Their firings are retracted in the next wave. Where
+    /// it stands for no state it does nothing.
     pub fn excise(&mut self, name: Sym)
         requires sound { IsSoundAgent self.old }
         ensures step { self.old.standing ≡ Standing.Stands → (s : AgentOf) → Stands self.old.parts s → Stands self.new.parts (excised_agent name s) }

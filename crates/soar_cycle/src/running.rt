@@ -2,10 +2,11 @@
 ghost use Rattle.std.specs.Prelude.{◌≡◌, false, Err, IfOk};
 ghost use Rattle.defs_soar.specs.Agents.{Agent as AgentOf};
 ghost use Rattle.soar_cycle.specs.Agents.{IsSoundAgent, IsStopped, standing_after};
+ghost use Rattle.soar_cycle.specs.Chunks.{LearnsWell};
 ghost use Rattle.wave_parts.specs.Stands.{Stands};
 ghost use Rattle.defs_soar.specs.Cycle.{cycle};
 ghost use Rattle.defs_soar.specs.Decision.{decided_by};
-ghost use Rattle.defs_soar.specs.Learning.{without_learning};
+ghost use Rattle.defs_soar.specs.Learning.{with_learning};
 ghost use Rattle.decision_parts.specs.Stepping.{GoesStep};
 ghost use Rattle.cycle_parts.specs.Waving.{WavesFrom, is_proposing};
 ghost use Rattle.cycle_phases.specs.Courses.{Goes, IsEndOf, phase_course, phased};
@@ -21,10 +22,12 @@ use trace_lines::Phase;
 use wave_parts::Stop;
 
 impl<M: Matcher> Agent<M> {
-    /// Runs a wave of a phase, and appends what is told of it. Nothing is appended where memory is wanting.
+    /// Runs a wave of a phase, and appends what is told of it. Nothing is appended where memory is wanting. What it
+    /// learns can be trusted: each of its chunks goes again where it was learned.
     pub fn wave(&mut self, phase: Phase, text: &mut Text) -> Result<Waved, Stop>
         requires sound { IsSoundAgent self.old }
         ensures step { self.old.standing ≡ Standing.Stands → (s : AgentOf) → Stands self.old.parts s → WavesFrom self.old.parts.settings.watch (is_proposing phase) s self.old.parts self.new.parts self.old.mid_line self.new.mid_line text.old text.new result }
+        ensures chunks { self.old.standing ≡ Standing.Stands → LearnsWell self.old.parts phase }
         ensures settings { self.new.parts.settings ≡ self.old.parts.settings }
         ensures standing { self.new.standing ≡ standing_after self.old.standing result }
         ensures stopped { IsStopped self.old.standing result }
@@ -96,7 +99,7 @@ impl<M: Matcher> Agent<M> {
     /// Runs a cycle: input, proposal, decision, application, output. True exactly where the agent is halted in the end.
     pub fn cycle(&mut self, text: &mut Text) -> Result<bool, Stop>
         requires sound { IsSoundAgent self.old }
-        ensures step { self.old.standing ≡ Standing.Stands → (s : AgentOf) → Stands self.old.parts s → Goes self.old.parts.settings.watch self.old.mid_line (cycle decided_by without_learning s) self.new.parts self.new.mid_line text.old text.new result }
+        ensures step { self.old.standing ≡ Standing.Stands → (s : AgentOf) → Stands self.old.parts s → Goes self.old.parts.settings.watch self.old.mid_line (cycle decided_by with_learning s) self.new.parts self.new.mid_line text.old text.new result }
         ensures halted { IfOk result (λ halted. halted ≡ self.new.parts.halted) }
         ensures settings { self.new.parts.settings ≡ self.old.parts.settings }
         ensures standing { self.new.standing ≡ standing_after self.old.standing result }

@@ -1,10 +1,10 @@
 // Settings, rules that go, and starting anew.
 ghost use Rattle.soar_cycle.specs.Agents.{IsSoundAgent};
 
-use super::parts::input;
+use super::parts::{NAME, input};
 use match_direct::Direct;
 use soar_cycle::{Agent, Phase, Stop};
-use soar_sym::{Sym, Text};
+use soar_sym::Text;
 use std::alloc::Global;
 
 /// Whether a rule goes, all but the settings is as at the start then, and level 4 tells of an input and of a phase.
@@ -30,7 +30,7 @@ fn excises(agent: &mut Agent<Direct>) -> Result<bool, Stop>
     ensures { IsSoundAgent agent.new }
 {
     let before = agent.counts();
-    agent.excise(Sym::Int(1));
+    agent.excise(NAME);
     let after = agent.counts();
     let counted = after.firings == 1 && after.live == 1 && after.cycles == 1;
     Ok(before.productions == 1 && after.productions == 0 && counted)

@@ -45,14 +45,14 @@ fn takes_inputs(alloc: Global, agent: &mut Agent<Direct>) -> Result<bool, Stop>
     )
 }
 
-/// Whether a rule without conditions has one instance.
+/// Whether a rule that matches the top state has one instance, and no explanation.
 fn loads(alloc: Global, agent: &mut Agent<Direct>) -> Result<bool, Stop>
     requires { IsSoundAgent agent.old }
     ensures { IsSoundAgent agent.new }
 {
-    agent.load(production(alloc))?;
+    agent.load(production(alloc)?)?;
     let instances = agent.conflict()?;
-    Ok(instances.len() == 1)
+    Ok(instances.len() == 1 && agent.chain(1).is_none())
 }
 
 /// Whether there is a wave to do, and then none.

@@ -1,16 +1,16 @@
 // An agent over the matcher by enumeration, inputs, and a rule.
-ghost use Rattle.std.specs.Prelude.{◌≡◌, false, true, IfOk};
-ghost use Rattle.soar_sym.specs.Words.{Texts};
-ghost use Rattle.soar_rule.specs.AsItStands.{can_be_matched};
+ghost use Rattle.std.specs.Prelude.{◌≡◌, ◌∷◌, [], IfOk};
 ghost use Rattle.soar_rule.specs.Productions.{production_seen};
-ghost use Rattle.soar_rule.specs.Symbols.{AreKnown, symbols_of};
-ghost use Rattle.defs_soar.specs.Pending.{is_justification};
-ghost use Rattle.cycle_parts.specs.Calls.{IsTripleKnown};
+ghost use Rattle.cycle_parts.specs.Calls.{IsTripleGiven};
 ghost use Rattle.soar_cycle.specs.Agents.{IsSoundAgent};
+ghost use Rattle.soar_cycle_tests.specs.Idle.{idle_pattern, idle_production, plain_field};
+ghost use Rattle.wave_parts.specs.Lawful.{IsOfLawful};
+ghost use Rattle.wave_parts.specs.declared.parts.Parts.{Parts as PartsKept};
 
 use match_direct::Direct;
 use soar_cycle::Agent;
-use soar_rule::{Kind, Production, Support};
+use soar_rule::{Atom, Cond, Field, Kind, Pattern, Production, Support, Test};
+use soar_sym::architecture::{NIL, SUPERSTATE};
 use soar_sym::{List, NoMemory, Sym, Triple};
 use std::alloc::Global;
 
@@ -23,7 +23,7 @@ pub fn new_agent(alloc: Global) -> Result<Agent<Direct>, NoMemory>
 
 /// An element of the input link, with an integer as attribute and value.
 pub fn input(number: i64) -> Triple
-    ensures { (words : Texts) → IsTripleKnown words result }
+    ensures { (p : PartsKept) → IsOfLawful p → IsTripleGiven p result }
 {
     Triple {
         id: Sym::Ident {
@@ -36,19 +36,45 @@ pub fn input(number: i64) -> Triple
     }
 }
 
-/// A rule without conditions and actions. Its name is an integer, which needs no table.
-pub fn production(alloc: Global) -> Production
-    ensures known { (words : Texts) → AreKnown words (symbols_of (production_seen result)) }
-    ensures unlearned { is_justification result.kind ≡ false }
-    ensures matchable { can_be_matched (production_seen result) ≡ true }
+/// The name of the rule.
+pub const NAME: Sym = Sym::Word(1);
+
+/// A rule that matches the top state alone, and does nothing. It needs the words of the architecture alone.
+pub fn production(alloc: Global) -> Result<Production, NoMemory>
+    ensures { IfOk result (λ production. production_seen production ≡ idle_production) }
 {
-    Production {
-        name: Sym::Int(1),
+    let mut vars = List::new(alloc);
+    vars.push(Sym::Word(2))?;
+    let mut conds = List::new(alloc);
+    conds.push(Cond::Pos(pattern(alloc)?))?;
+    Ok(Production {
+        name: NAME,
         doc: None,
         kind: Kind::User,
         support: Support::Unset,
-        vars: List::new(alloc),
-        conds: List::new(alloc),
+        vars,
+        conds,
         actions: List::new(alloc),
-    }
+    })
+}
+
+/// `(state <s> ^superstate nil)`
+fn pattern(alloc: Global) -> Result<Pattern, NoMemory>
+    ensures { IfOk result (λ pattern. pattern ≡ idle_pattern) }
+{
+    Ok(Pattern {
+        state: true,
+        id: field(alloc, Atom::Var(0))?,
+        attr: field(alloc, Atom::Const(SUPERSTATE))?,
+        value: field(alloc, Atom::Const(NIL))?,
+        accept: false,
+    })
+}
+
+fn field(alloc: Global, atom: Atom) -> Result<Field, NoMemory>
+    ensures { IfOk result (λ field. field ≡ plain_field atom) }
+{
+    let mut tests = List::new(alloc);
+    tests.push(Test::Plain(atom))?;
+    Ok(Field { tests })
 }

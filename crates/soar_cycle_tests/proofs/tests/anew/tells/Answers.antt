@@ -1,4 +1,4 @@
 use Rattle.soar_cycle_tests.proofs.tests.anew.tells.Goals as goal
 
-pub input_now-requires-clause-known : goal.input_now-requires-clause-known
-input_now-requires-clause-known c = λ standing. c.input.ensures _
+pub input_now-requires-clause-given : goal.input_now-requires-clause-given
+input_now-requires-clause-given c = λ standing. c.input.ensures _ (c.requires standing).1
