@@ -1,7 +1,7 @@
 -- The files of the command line, one after another.
 use Rattle.std.proofs.Common.{◌≡◌, ℕ, Bool, true, List, [], ◌∷◌, Option, Some, None, Result, Ok, Err, refl, sym, ap, subst, ◌∙◌}
 use Rattle.soar_edge.specs.declared.filed.Filed.{Filed}
-use Rattle.defs_run.specs.Present.{present_stage}
+use Rattle.defs_run.specs.Whole.{whole_stage}
 use Rattle.defs_run.specs.Runs.{Run, Ran, behind_text, ran, then_run}
 use Rattle.defs_run.specs.Sessions.{Session}
 use Rattle.defs_run.specs.Sources.{Obeying, obeying, sourced}
@@ -48,19 +48,19 @@ unfolding file_of
 file_breaks_so n old now fails stock name r e broke = broke
 
 -- it is one that is read
-inside_of : (fails : Option ℕ) (stock : List Filed) (o : Obeying) → inner_of fails stock 16 ≡ Some o → o ≡ obeying present_stage fails stock 15
-inside_of fails stock o is = let same : Some (obeying present_stage fails stock 15) ≡ Some o = is in sym (cc same)
+inside_of : (fails : Option ℕ) (stock : List Filed) (o : Obeying) → inner_of fails stock 16 ≡ Some o → o ≡ obeying whole_stage fails stock 15
+inside_of fails stock o is = let same : Some (obeying whole_stage fails stock 15) ≡ Some o = is in sym (cc same)
 
 pub file_opens_so : {C : Type 0} (stands held : Session → Type 0) (p q : Progress C) (old mid now : Option (List ℕ)) (fails : Option ℕ) (stock : List Filed) (name : List ℕ) (r : Run) (s : Step) (file : Opened) (result : Result Flow Fault) → s ≡ step.Opens file
     → Steps stands p old mid fails (inner_of fails stock 16) (sourced (inner_of fails stock 16) fails stock standard_input 0 name r) (Ok s)
-    → ((run : Run) → IsAt stands p run → Flows held q mid now fails (obeying present_stage fails stock 15 file.name true file.bytes run) result)
+    → ((run : Run) → IsAt stands p run → Flows held q mid now fails (obeying whole_stage fails stock 15 file.name true file.bytes run) result)
     → Flows held q old now fails (file_of fails stock name r) result
 unfolding file_of
 file_opens_so stands held p q old mid now fails stock name r s file result is steps later =
     let o = subst (λ t. Steps stands p old mid fails (inner_of fails stock 16) (sourced (inner_of fails stock 16) fails stock standard_input 0 name r) (Ok t)) is steps in
     subst (λ x. Flows held q old now fails x result)
     (sym (o.comes ∙ ap (λ (f : Obeying). behind_text o.text (f file.name true file.bytes o.run)) (inside_of fails stock o.obeying o.inside)))
-    (flows_behind held q old mid now fails o.text (obeying present_stage fails stock 15 file.name true file.bytes o.run) result o.appended (later o.run o.at_run))
+    (flows_behind held q old mid now fails o.text (obeying whole_stage fails stock 15 file.name true file.bytes o.run) result o.appended (later o.run o.at_run))
 
 -- ---- one file after another
 

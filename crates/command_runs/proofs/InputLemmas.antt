@@ -5,7 +5,7 @@ use Rattle.std.proofs.lemmas.List.{append-nil}
 use Rattle.soar_edge.specs.Outside.{Appends}
 use Rattle.soar_edge.specs.declared.filed.Filed.{Filed}
 use Rattle.soar_edge.specs.declared.status.Status.TheVariants as status
-use Rattle.defs_run.specs.Present.{present_stage}
+use Rattle.defs_run.specs.Whole.{whole_stage}
 use Rattle.defs_run.specs.Runs.{Run, Ran, ended_as, ran, then_run}
 use Rattle.defs_run.specs.Sessions.{Session}
 use Rattle.defs_run.specs.Sources.{obeying}
@@ -83,6 +83,6 @@ input_breaks n old now fails stock input slice s r e front same broke =
 
 -- the commands of standard input are those of a stream
 pub commands_flows : {C : Type 0} (held : Session → Type 0) (q : Progress C) (old now : Option (List ℕ)) (fails : Option ℕ) (stock : List Filed) (closed : Bool) (bytes : List ℕ) (r : Run) (result : Result Flow Fault)
-    → Flows held q old now fails (obeying present_stage fails stock 16 standard_input closed bytes r) result → Flows held q old now fails (commands_of fails stock closed bytes r) result
+    → Flows held q old now fails (obeying whole_stage fails stock 16 standard_input closed bytes r) result → Flows held q old now fails (commands_of fails stock closed bytes r) result
 unfolding commands_of
 commands_flows held q old now fails stock closed bytes r result flows = flows

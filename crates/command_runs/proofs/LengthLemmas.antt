@@ -10,7 +10,7 @@ use Rattle.soar_edge.specs.declared.status.Status.TheVariants as status
 use Rattle.defs_soar.specs.declared.limit.Which.{Which}
 use Rattle.defs_run.specs.CommandLine.{script_of}
 use Rattle.defs_run.specs.Orders.{Refusal, no_file, sources_too_deep, too_many_files, unfinished_command}
-use Rattle.defs_run.specs.Present.{present_stage}
+use Rattle.defs_run.specs.Whole.{whole_stage}
 use Rattle.defs_run.specs.Runs.{Run, Ran, after_reply, ended_as, limited, obeyed, ran, told_written, then_run, behind_text}
 use Rattle.defs_run.specs.Sessions.{Reply, Sequel, goes_on, quits, sources, refused_by}
 use Rattle.defs_run.specs.Sources.{Obeying, after_sequel, cut_run, cuts_run, fetched, file_named, file_run, obeying, refused_run, sourced}
@@ -154,10 +154,10 @@ command_long stock inner from r reply number safe goes long = by (then_long (aft
     by (inl over) = absurd (reply_not r reply goes over)
     by (inr later) = sequel_long stock inner from number reply.sequel (after_reply r reply).run safe later.0 later.1
 
-cut_long : (stock : List Filed) (inner : Option Obeying) (from : List ℕ) (c : Cut) (r : Run) → Safe stock inner → Goes r → IsLong (cut_run present_stage inner None stock from c r) → HasLongFile stock ⊎ HasLong (c ∷ [])
+cut_long : (stock : List Filed) (inner : Option Obeying) (from : List ℕ) (c : Cut) (r : Run) → Safe stock inner → Goes r → IsLong (cut_run whole_stage inner None stock from c r) → HasLongFile stock ⊎ HasLong (c ∷ [])
 cut_long stock inner from too_long r safe goes long = inr tt
 cut_long stock inner from (unfinished number) r safe goes long = absurd (refused_not unfinished_command from number r goes long)
-cut_long stock inner from (whole number text) r safe goes long = inl (command_long stock inner from r (obeyed present_stage from number text r.session) number safe goes long)
+cut_long stock inner from (whole number text) r safe goes long = inl (command_long stock inner from r (obeyed whole_stage from number text r.session) number safe goes long)
 
 first_long : (c : Cut) (cuts : List Cut) → HasLong (c ∷ []) → HasLong (c ∷ cuts)
 first_long too_long cuts long = tt
@@ -169,19 +169,19 @@ later_long too_long cuts long = tt
 later_long (whole number text) cuts long = long
 later_long (unfinished number) cuts long = long
 
-commands_long : (stock : List Filed) (inner : Option Obeying) (from : List ℕ) (cuts : List Cut) (r : Run) → Safe stock inner → Goes r → IsLong (cuts_run present_stage inner None stock from cuts r) → HasLongFile stock ⊎ HasLong cuts
+commands_long : (stock : List Filed) (inner : Option Obeying) (from : List ℕ) (cuts : List Cut) (r : Run) → Safe stock inner → Goes r → IsLong (cuts_run whole_stage inner None stock from cuts r) → HasLongFile stock ⊎ HasLong cuts
 commands_long stock inner from [] r safe goes long = absurd (goes_not r goes long)
 commands_long stock inner from (c ∷ cuts) r safe goes long =
-    by (then_long (cut_run present_stage inner None stock from c r) (cuts_run present_stage inner None stock from cuts) long) (λ next again over. commands_long stock inner from cuts next safe again over)
+    by (then_long (cut_run whole_stage inner None stock from c r) (cuts_run whole_stage inner None stock from cuts) long) (λ next again over. commands_long stock inner from cuts next safe again over)
   where
-    by : IsLong (cut_run present_stage inner None stock from c r) ⊎ (Goes (cut_run present_stage inner None stock from c r).run × IsLong (cuts_run present_stage inner None stock from cuts (cut_run present_stage inner None stock from c r).run))
-        → ((next : Run) → Goes next → IsLong (cuts_run present_stage inner None stock from cuts next) → HasLongFile stock ⊎ HasLong cuts) → HasLongFile stock ⊎ HasLong (c ∷ cuts)
+    by : IsLong (cut_run whole_stage inner None stock from c r) ⊎ (Goes (cut_run whole_stage inner None stock from c r).run × IsLong (cuts_run whole_stage inner None stock from cuts (cut_run whole_stage inner None stock from c r).run))
+        → ((next : Run) → Goes next → IsLong (cuts_run whole_stage inner None stock from cuts next) → HasLongFile stock ⊎ HasLong cuts) → HasLongFile stock ⊎ HasLong (c ∷ cuts)
     by (inl over) later = at (cut_long stock inner from c r safe goes over)
       where
         at : HasLongFile stock ⊎ HasLong (c ∷ []) → HasLongFile stock ⊎ HasLong (c ∷ cuts)
         at (inl there) = inl there
         at (inr so) = inr (first_long c cuts so)
-    by (inr next) later = at (later (cut_run present_stage inner None stock from c r).run next.0 next.1)
+    by (inr next) later = at (later (cut_run whole_stage inner None stock from c r).run next.0 next.1)
       where
         at : HasLongFile stock ⊎ HasLong cuts → HasLongFile stock ⊎ HasLong (c ∷ cuts)
         at (inl there) = inl there
@@ -190,7 +190,7 @@ commands_long stock inner from (c ∷ cuts) r safe goes long =
 -- ---- streams
 
 stream_by : (stock : List Filed) (depth : ℕ) (from : List ℕ) (closed : Bool) (bytes : List ℕ) (r : Run) → Safe stock (inner_of None stock depth) → Goes r
-    → IsLong (obeying present_stage None stock depth from closed bytes r) → HasLongFile stock ⊎ HasLong (cuts_of closed bytes)
+    → IsLong (obeying whole_stage None stock depth from closed bytes r) → HasLongFile stock ⊎ HasLong (cuts_of closed bytes)
 stream_by stock depth from closed bytes r safe goes long =
     commands_long stock (inner_of None stock depth) from (cuts_of closed bytes) r safe goes (subst IsLong (stream_run None stock depth from closed bytes r) long)
 

@@ -9,7 +9,7 @@ use Rattle.soar_edge.specs.declared.fault.Fetch.TheVariants as fetch
 use Rattle.soar_edge.specs.declared.filed.Filed.{Filed}
 use Rattle.soar_edge.specs.declared.status.Status.TheVariants as status
 use Rattle.defs_run.specs.Orders.{no_file, sources_too_deep, too_many_files}
-use Rattle.defs_run.specs.Present.{present_stage}
+use Rattle.defs_run.specs.Whole.{whole_stage}
 use Rattle.defs_run.specs.Runs.{Run, Ran, ran, ended_as}
 use Rattle.defs_run.specs.Sessions.{Session}
 use Rattle.defs_run.specs.Sources.{Obeying, fetched, file_named, file_run, is_failing, obeying, refused_run, sourced}
@@ -175,7 +175,7 @@ pub within : {C : Type 0} (held : Session → Type 0) (q : Progress C) (old now 
     → 0 < depth → ((inside : Obeying) → Steps held q old now fails (Some inside) (fetched inside fails stock from number name r) result)
     → Steps held q old now fails (inner_of fails stock depth) (sourced (inner_of fails stock depth) fails stock from number name r) result
 within held q old now fails zero stock from number name r result some steps = absurd (omega (arith, some))
-within held q old now fails (suc depth) stock from number name r result some steps = steps (obeying present_stage fails stock depth)
+within held q old now fails (suc depth) stock from number name r result some steps = steps (obeying whole_stage fails stock depth)
 
 pub opens_within : (depth : ℕ) (result : Result Step Fault) → 0 < depth → OpensWithin depth result
 opens_within depth (Ok step.Goes) some = tt

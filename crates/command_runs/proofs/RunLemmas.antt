@@ -4,7 +4,7 @@ use Rattle.std.proofs.lemmas.List.{append-nil}
 use Rattle.soar_edge.specs.declared.status.Status.{Status}
 use Rattle.soar_edge.specs.declared.filed.Filed.{Filed}
 use Rattle.soar_edge.specs.Cutting.{cuts_of}
-use Rattle.defs_run.specs.Present.{present_stage}
+use Rattle.defs_run.specs.Whole.{whole_stage}
 use Rattle.defs_run.specs.Runs.{Run, Ran, ran, behind_text, then_run}
 use Rattle.defs_run.specs.Sources.{cuts_run, obeying}
 use Rattle.command_runs.specs.Following.{inner_of}
@@ -48,6 +48,6 @@ front_of_then x f = by x.run.ended
 
 -- the commands of a stream, with those inside
 pub stream_run : (fails : Option ℕ) (stock : List Filed) (depth : ℕ) (from : List ℕ) (closed : Bool) (bytes : List ℕ) (r : Run)
-    → obeying present_stage fails stock depth from closed bytes r ≡ cuts_run present_stage (inner_of fails stock depth) fails stock from (cuts_of closed bytes) r
+    → obeying whole_stage fails stock depth from closed bytes r ≡ cuts_run whole_stage (inner_of fails stock depth) fails stock from (cuts_of closed bytes) r
 stream_run fails stock zero from closed bytes r = refl
 stream_run fails stock (suc depth) from closed bytes r = refl

@@ -7,7 +7,7 @@ use Rattle.soar_edge.specs.declared.status.Status.{Status}
 use Rattle.soar_edge.specs.declared.status.Status.TheVariants as status
 use Rattle.soar_edge.proofs.CallerLemmas.{appends_then}
 use Rattle.defs_run.specs.Orders.{unfinished_command}
-use Rattle.defs_run.specs.Present.{present_stage}
+use Rattle.defs_run.specs.Whole.{whole_stage}
 use Rattle.defs_run.specs.Runs.{Run, Ran, after_reply, behind_text, obeyed, ran, then_run}
 use Rattle.defs_run.specs.Sessions.{Reply, Sequel, Session}
 use Rattle.defs_run.specs.Sources.{Obeying, after_sequel, command_run, cut_run, cuts_run, refused_run}
@@ -52,18 +52,18 @@ steps_next stands held p q old mid now fails inner x f result on later =
 pub command_steps : {C : Type 0} (stands held : Session → Type 0) (p q : Progress C) (old mid now : Option (List ℕ)) (fails : Option ℕ) (inner : Option Obeying) (stock : List Filed) (from : List ℕ) (number : ℕ) (text : List ℕ) (r : Run) (o : Option Next) (n : Next) (result : Result Step Fault)
     → o ≡ Some n → CarriesOut stands p old mid fails from number text r (Ok o)
     → ((after : Run) → IsAt stands p after → Steps held q mid now fails inner (after_sequel inner fails stock from number (sequel_of n) after) result)
-    → Steps held q old now fails inner (command_run present_stage inner fails stock from number text r) result
+    → Steps held q old now fails inner (command_run whole_stage inner fails stock from number text r) result
 command_steps stands held p q old mid now fails inner stock from number text r o n result is carries later =
-    let x : Ran = after_reply r (obeyed present_stage from number text r.session) in
+    let x : Ran = after_reply r (obeyed whole_stage from number text r.session) in
     let carried = subst (λ m. CarriesOut stands p old mid fails from number text r (Ok m)) is carries in
-    steps_next stands held p q old mid now fails inner x (after_sequel inner fails stock from number (obeyed present_stage from number text r.session).sequel) result carried.0
+    steps_next stands held p q old mid now fails inner x (after_sequel inner fails stock from number (obeyed whole_stage from number text r.session).sequel) result carried.0
     (subst (λ s. Steps held q mid now fails inner (after_sequel inner fails stock from number s x.run) result) (sym carried.1) (later x.run carried.0.at_run))
 
 -- one that passes a limit
 pub command_over : {C : Type 0} (stands : Session → Type 0) (p : Progress C) (old now : Option (List ℕ)) (fails : Option ℕ) (inner : Option Obeying) (stock : List Filed) (from : List ℕ) (number : ℕ) (text : List ℕ) (r : Run) (o : Option Next)
-    → o ≡ None → CarriesOut stands p old now fails from number text r (Ok o) → IsOver old now status.Limit (command_run present_stage inner fails stock from number text r)
+    → o ≡ None → CarriesOut stands p old now fails from number text r (Ok o) → IsOver old now status.Limit (command_run whole_stage inner fails stock from number text r)
 command_over stands p old now fails inner stock from number text r o is carries =
-    over_then old now status.Limit _ (after_sequel inner fails stock from number (obeyed present_stage from number text r.session).sequel)
+    over_then old now status.Limit _ (after_sequel inner fails stock from number (obeyed whole_stage from number text r.session).sequel)
     (subst (λ m. CarriesOut stands p old now fails from number text r (Ok m)) is carries)
 
 -- what follows, told otherwise
@@ -73,8 +73,8 @@ follows_so held q old now fails inner stock from number n m r result is steps =
     subst (λ k. Steps held q old now fails inner (after_sequel inner fails stock from number (sequel_of k) r) result) (sym is) steps
 
 pub command_breaks : (n : ℕ) (old now : Option (List ℕ)) (fails : Option ℕ) (inner : Option Obeying) (stock : List Filed) (from : List ℕ) (number : ℕ) (text : List ℕ) (r : Run) (e : Fault)
-    → Breaks n old now fails (after_reply r (obeyed present_stage from number text r.session)) e → Breaks n old now fails (command_run present_stage inner fails stock from number text r) e
-command_breaks n old now fails inner stock from number text r e broke = breaks_then n old now fails _ (after_sequel inner fails stock from number (obeyed present_stage from number text r.session).sequel) e broke
+    → Breaks n old now fails (after_reply r (obeyed whole_stage from number text r.session)) e → Breaks n old now fails (command_run whole_stage inner fails stock from number text r) e
+command_breaks n old now fails inner stock from number text r e broke = breaks_then n old now fails _ (after_sequel inner fails stock from number (obeyed whole_stage from number text r.session).sequel) e broke
 
 -- ---- the next command of a stream
 
@@ -83,27 +83,27 @@ same_first : (c d : Cut) (left other : List Cut) → c ∷ left ≡ d ∷ other 
 same_first c d left other is = cc
 
 pub took_whole : {C : Type 0} (held : Session → Type 0) (q : Progress C) (old now : Option (List ℕ)) (fails : Option ℕ) (inner : Option Obeying) (stock : List Filed) (from : List ℕ) (number : ℕ) (text : List ℕ) (cuts left : List Cut) (r : Run) (s : Step)
-    → cuts ≡ whole number text ∷ left → Steps held q old now fails inner (command_run present_stage inner fails stock from number text r) (Ok s)
-    → (c : Cut) → cuts ≡ c ∷ left → Steps held q old now fails inner (cut_run present_stage inner fails stock from c r) (Ok s)
+    → cuts ≡ whole number text ∷ left → Steps held q old now fails inner (command_run whole_stage inner fails stock from number text r) (Ok s)
+    → (c : Cut) → cuts ≡ c ∷ left → Steps held q old now fails inner (cut_run whole_stage inner fails stock from c r) (Ok s)
 took_whole held q old now fails inner stock from number text cuts left r s first steps c taken =
-    subst (λ d. Steps held q old now fails inner (cut_run present_stage inner fails stock from d r) (Ok s)) (same_first (whole number text) c left left (sym first ∙ taken)) steps
+    subst (λ d. Steps held q old now fails inner (cut_run whole_stage inner fails stock from d r) (Ok s)) (same_first (whole number text) c left left (sym first ∙ taken)) steps
 
 pub whole_breaks : (n : ℕ) (old now : Option (List ℕ)) (fails : Option ℕ) (inner : Option Obeying) (stock : List Filed) (from : List ℕ) (number : ℕ) (text : List ℕ) (cuts left : List Cut) (r : Run) (e : Fault)
-    → cuts ≡ whole number text ∷ left → Breaks n old now fails (command_run present_stage inner fails stock from number text r) e
-    → Breaks n old now fails (cuts_run present_stage inner fails stock from cuts r) e
+    → cuts ≡ whole number text ∷ left → Breaks n old now fails (command_run whole_stage inner fails stock from number text r) e
+    → Breaks n old now fails (cuts_run whole_stage inner fails stock from cuts r) e
 whole_breaks n old now fails inner stock from number text cuts left r e first broke =
-    subst (λ cs. Breaks n old now fails (cuts_run present_stage inner fails stock from cs r) e) (sym first)
-    (breaks_then n old now fails (command_run present_stage inner fails stock from number text r) (cuts_run present_stage inner fails stock from left) e broke)
+    subst (λ cs. Breaks n old now fails (cuts_run whole_stage inner fails stock from cs r) e) (sym first)
+    (breaks_then n old now fails (command_run whole_stage inner fails stock from number text r) (cuts_run whole_stage inner fails stock from left) e broke)
 
 -- one that has no end is the last
 pub last_refused : {C : Type 0} (held : Session → Type 0) (q : Progress C) (old now : Option (List ℕ)) (fails : Option ℕ) (inner : Option Obeying) (stock : List Filed) (from : List ℕ) (line : ℕ) (cuts : List Cut) (r : Run)
-    → cuts ≡ unfinished line ∷ [] → IsOn held q old now (refused_run unfinished_command from line r) → IsOn held q old now (cuts_run present_stage inner fails stock from cuts r)
+    → cuts ≡ unfinished line ∷ [] → IsOn held q old now (refused_run unfinished_command from line r) → IsOn held q old now (cuts_run whole_stage inner fails stock from cuts r)
 last_refused held q old now fails inner stock from line cuts r is on =
-    subst (λ cs. IsOn held q old now (cuts_run present_stage inner fails stock from cs r)) (sym is)
+    subst (λ cs. IsOn held q old now (cuts_run whole_stage inner fails stock from cs r)) (sym is)
     (subst (IsOn held q old now) (sym (then_nothing (refused_run unfinished_command from line r))) on)
 
 pub last_breaks : (n : ℕ) (old now : Option (List ℕ)) (fails : Option ℕ) (inner : Option Obeying) (stock : List Filed) (from : List ℕ) (line : ℕ) (cuts : List Cut) (r : Run) (e : Fault)
-    → cuts ≡ unfinished line ∷ [] → Breaks n old now fails (refused_run unfinished_command from line r) e → Breaks n old now fails (cuts_run present_stage inner fails stock from cuts r) e
+    → cuts ≡ unfinished line ∷ [] → Breaks n old now fails (refused_run unfinished_command from line r) e → Breaks n old now fails (cuts_run whole_stage inner fails stock from cuts r) e
 last_breaks n old now fails inner stock from line cuts r e is broke =
-    subst (λ cs. Breaks n old now fails (cuts_run present_stage inner fails stock from cs r) e) (sym is)
-    (breaks_then n old now fails (refused_run unfinished_command from line r) (cuts_run present_stage inner fails stock from []) e broke)
+    subst (λ cs. Breaks n old now fails (cuts_run whole_stage inner fails stock from cs r) e) (sym is)
+    (breaks_then n old now fails (refused_run unfinished_command from line r) (cuts_run whole_stage inner fails stock from []) e broke)

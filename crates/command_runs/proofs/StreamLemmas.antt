@@ -2,7 +2,7 @@
 use Rattle.std.proofs.Common.{◌≡◌, ℕ, zero, suc, ◌-◌, ◌<◌, ◌++◌, Bool, true, List, [], ◌∷◌, length, Option, Some, None, Result, Ok, Err, refl, sym, ap, subst, ◌∙◌, arith}
 use Rattle.soar_edge.specs.Cutting.{Cut, cuts_of}
 use Rattle.soar_edge.specs.declared.filed.Filed.{Filed}
-use Rattle.defs_run.specs.Present.{present_stage}
+use Rattle.defs_run.specs.Whole.{whole_stage}
 use Rattle.defs_run.specs.Runs.{Run, Ran, then_run}
 use Rattle.defs_run.specs.Sessions.{Session}
 use Rattle.defs_run.specs.Sources.{Obeying, cut_run, cuts_run, obeying}
@@ -25,10 +25,10 @@ use Rattle.defs_run.specs.Runs.{behind_text}
 
 -- the commands behind the first
 abbrev pub rest_of : Option ℕ → List Filed → ℕ → List ℕ → List Cut → Run → Ran
-rest_of fails stock depth from cuts r = cuts_run present_stage (inner_of fails stock depth) fails stock from cuts r
+rest_of fails stock depth from cuts r = cuts_run whole_stage (inner_of fails stock depth) fails stock from cuts r
 
 abbrev pub first_of : Option ℕ → List Filed → ℕ → List ℕ → Cut → Run → Ran
-first_of fails stock depth from c r = cut_run present_stage (inner_of fails stock depth) fails stock from c r
+first_of fails stock depth from c r = cut_run whole_stage (inner_of fails stock depth) fails stock from c r
 
 -- the first of the commands that are left, and those behind it
 pub at_first : {C : Type 0} (stands : Session → Type 0) (p : Progress C) (old now : Option (List ℕ)) (fails : Option ℕ) (stock : List Filed) (depth : ℕ) (from : List ℕ) (c : Cut) (cuts left : List Cut) (whole : Ran)
@@ -37,18 +37,18 @@ pub at_first : {C : Type 0} (stands : Session → Type 0) (p : Progress C) (old 
 at_first stands p old now fails stock depth from c cuts left whole is b = subst (λ cs. IsBehind stands p old now (rest_of fails stock depth from cs) whole) is b
 
 -- the file that is read runs one deeper
-inside_is : (fails : Option ℕ) (stock : List Filed) (depth : ℕ) (o : Obeying) → inner_of fails stock depth ≡ Some o → o ≡ obeying present_stage fails stock (depth - 1)
+inside_is : (fails : Option ℕ) (stock : List Filed) (depth : ℕ) (o : Obeying) → inner_of fails stock depth ≡ Some o → o ≡ obeying whole_stage fails stock (depth - 1)
 inside_is fails stock zero o is = absurd (cc)
 inside_is fails stock (suc depth) o is =
-    let same : obeying present_stage fails stock depth ≡ o = cc in
+    let same : obeying whole_stage fails stock depth ≡ o = cc in
     let less : suc depth - 1 ≡ depth = omega arith in
-    sym same ∙ ap (λ d. obeying present_stage fails stock d) (sym less)
+    sym same ∙ ap (λ d. obeying whole_stage fails stock d) (sym less)
 
 -- a command that asks for a file: its commands come before the rest
 pub opens_stream : {C : Type 0} (stands held : Session → Type 0) (p q : Progress C) (old mid now : Option (List ℕ)) (fails : Option ℕ) (stock : List Filed) (depth : ℕ) (from : List ℕ) (c : Cut) (left : List Cut) (whole : Ran) (file : Opened)
     → (b : IsBehind stands p old mid (λ r. then_run (first_of fails stock depth from c r) (rest_of fails stock depth from left)) whole)
     → OpensFile held q mid now (inner_of fails stock depth) (first_of fails stock depth from c b.run) file
-    → IsBehind held q old now (λ r. then_run (obeying present_stage fails stock (depth - 1) file.name true file.bytes r) (rest_of fails stock depth from left)) whole
+    → IsBehind held q old now (λ r. then_run (obeying whole_stage fails stock (depth - 1) file.name true file.bytes r) (rest_of fails stock depth from left)) whole
 opens_stream stands held p q old mid now fails stock depth from c left whole file b o =
     let later : Run → Ran = rest_of fails stock depth from left in
     record {
@@ -58,7 +58,7 @@ opens_stream stands held p q old mid now fails stock depth from c left whole fil
       at_run = o.at_run;
       comes = b.comes
           ∙ ap (λ x. behind_text b.done (then_run x later)) (o.comes ∙ ap (λ (f : Obeying). behind_text o.text (f file.name true file.bytes o.run)) (inside_is fails stock depth o.obeying o.inside))
-          ∙ ap (behind_text b.done) (then_behind o.text (obeying present_stage fails stock (depth - 1) file.name true file.bytes o.run) later)
+          ∙ ap (behind_text b.done) (then_behind o.text (obeying whole_stage fails stock (depth - 1) file.name true file.bytes o.run) later)
           ∙ behind_behind b.done o.text _;
     }
 
@@ -68,7 +68,7 @@ fewer c cuts left is = let more : length cuts ≡ suc (length left) = ap length 
 
 -- what holds of the commands of a stream holds of the stream
 pub stream_flows : {C : Type 0} (held : Session → Type 0) (q : Progress C) (old now : Option (List ℕ)) (fails : Option ℕ) (stock : List Filed) (depth : ℕ) (from : List ℕ) (closed : Bool) (bytes : List ℕ) (cuts : List Cut) (r : Run) (result : Result Flow Fault)
-    → cuts ≡ cuts_of closed bytes → Flows held q old now fails (rest_of fails stock depth from cuts r) result → Flows held q old now fails (obeying present_stage fails stock depth from closed bytes r) result
+    → cuts ≡ cuts_of closed bytes → Flows held q old now fails (rest_of fails stock depth from cuts r) result → Flows held q old now fails (obeying whole_stage fails stock depth from closed bytes r) result
 stream_flows held q old now fails stock depth from closed bytes cuts r result is flows =
     subst (λ x. Flows held q old now fails x result) (ap (λ cs. rest_of fails stock depth from cs r) is ∙ sym (stream_run fails stock depth from closed bytes r)) flows
 
@@ -105,7 +105,7 @@ turn_ends stands held p q old mid now fails stock depth from cuts left whole t e
 
 pub turn_opens : {C : Type 0} (stands held : Session → Type 0) (p q : Progress C) (old mid now : Option (List ℕ)) (fails : Option ℕ) (stock : List Filed) (depth : ℕ) (from : List ℕ) (cuts left : List Cut) (whole : Ran) (t : Turn) (file : Opened)
     → t ≡ turn.Took (step.Opens file) → TakesCommand cuts left (Ok t) → IsBehind stands p old mid (rest_of fails stock depth from cuts) whole → TurnTold stands held p q mid now fails stock depth from cuts left (Ok t)
-    → IsBehind held q old now (λ r. then_run (obeying present_stage fails stock (depth - 1) file.name true file.bytes r) (rest_of fails stock depth from left)) whole
+    → IsBehind held q old now (λ r. then_run (obeying whole_stage fails stock (depth - 1) file.name true file.bytes r) (rest_of fails stock depth from left)) whole
 turn_opens stands held p q old mid now fails stock depth from cuts left whole t file is takes b tells =
     let took = subst (λ u. TakesCommand cuts left (Ok u)) is takes in
     let a = at_first stands p old mid fails stock depth from took.0 cuts left whole took.1 b in
@@ -121,7 +121,7 @@ turn_breaks stands held p q old mid now fails stock depth from cuts left whole e
 
 -- what the run of a file tells
 abbrev pub FileTold : {C : Type 0} → (Session → Type 0) → (Session → Type 0) → Progress C → Progress C → Option (List ℕ) → Option (List ℕ) → Option ℕ → List Filed → ℕ → List ℕ → List ℕ → Result Flow Fault → Type 0
-FileTold stands held p q mid now fails stock depth name bytes result = (r : Run) → IsAt stands p r → Flows held q mid now fails (obeying present_stage fails stock depth name true bytes r) result
+FileTold stands held p q mid now fails stock depth name bytes result = (r : Run) → IsAt stands p r → Flows held q mid now fails (obeying whole_stage fails stock depth name true bytes r) result
 
 -- of the file's name and bytes, told otherwise
 pub file_told : {C : Type 0} (stands held : Session → Type 0) (p q : Progress C) (mid now : Option (List ℕ)) (fails : Option ℕ) (stock : List Filed) (depth : ℕ) (name name_of bytes bytes_of : List ℕ) (result : Result Flow Fault)
@@ -130,34 +130,34 @@ file_told stands held p q mid now fails stock depth name name_of bytes bytes_of 
     subst (λ n. FileTold stands held p q mid now fails stock depth n bytes_of result) same (subst (λ bs. FileTold stands held p q mid now fails stock depth name bs result) all tells)
 
 pub file_goes : {C : Type 0} (stands held : Session → Type 0) (p q : Progress C) (old mid now : Option (List ℕ)) (fails : Option ℕ) (stock : List Filed) (depth : ℕ) (name bytes : List ℕ) (later : Run → Ran) (whole : Ran) (f : Flow)
-    → f ≡ flow.Goes → IsBehind stands p old mid (λ r. then_run (obeying present_stage fails stock depth name true bytes r) later) whole → FileTold stands held p q mid now fails stock depth name bytes (Ok f)
+    → f ≡ flow.Goes → IsBehind stands p old mid (λ r. then_run (obeying whole_stage fails stock depth name true bytes r) later) whole → FileTold stands held p q mid now fails stock depth name bytes (Ok f)
     → IsBehind held q old now later whole
 file_goes stands held p q old mid now fails stock depth name bytes later whole f is b tells =
-    goes_behind stands held p q old mid now (obeying present_stage fails stock depth name true bytes) later whole b
-    (subst (λ g. Flows held q mid now fails (obeying present_stage fails stock depth name true bytes b.run) (Ok g)) is (tells b.run b.at_run))
+    goes_behind stands held p q old mid now (obeying whole_stage fails stock depth name true bytes) later whole b
+    (subst (λ g. Flows held q mid now fails (obeying whole_stage fails stock depth name true bytes b.run) (Ok g)) is (tells b.run b.at_run))
 
 pub file_ends : {C : Type 0} (stands held : Session → Type 0) (p q : Progress C) (old mid now : Option (List ℕ)) (fails : Option ℕ) (stock : List Filed) (depth : ℕ) (name bytes : List ℕ) (later : Run → Ran) (whole : Ran) (f : Flow) (e : End)
-    → f ≡ flow.Ends e → IsBehind stands p old mid (λ r. then_run (obeying present_stage fails stock depth name true bytes r) later) whole → FileTold stands held p q mid now fails stock depth name bytes (Ok f)
+    → f ≡ flow.Ends e → IsBehind stands p old mid (λ r. then_run (obeying whole_stage fails stock depth name true bytes r) later) whole → FileTold stands held p q mid now fails stock depth name bytes (Ok f)
     → IsOver old now (status_of_end e) whole
 file_ends stands held p q old mid now fails stock depth name bytes later whole f e is b tells =
-    ends_behind stands p old mid now (status_of_end e) (obeying present_stage fails stock depth name true bytes) later whole b
-    (subst (λ g. Flows held q mid now fails (obeying present_stage fails stock depth name true bytes b.run) (Ok g)) is (tells b.run b.at_run))
+    ends_behind stands p old mid now (status_of_end e) (obeying whole_stage fails stock depth name true bytes) later whole b
+    (subst (λ g. Flows held q mid now fails (obeying whole_stage fails stock depth name true bytes b.run) (Ok g)) is (tells b.run b.at_run))
 
 pub file_breaks : {C : Type 0} (stands held : Session → Type 0) (p q : Progress C) (old mid now : Option (List ℕ)) (fails : Option ℕ) (stock : List Filed) (depth : ℕ) (name bytes : List ℕ) (later : Run → Ran) (whole : Ran) (e : Fault)
-    → IsBehind stands p old mid (λ r. then_run (obeying present_stage fails stock depth name true bytes r) later) whole → FileTold stands held p q mid now fails stock depth name bytes (Err e)
+    → IsBehind stands p old mid (λ r. then_run (obeying whole_stage fails stock depth name true bytes r) later) whole → FileTold stands held p q mid now fails stock depth name bytes (Err e)
     → Breaks q.fetched old now fails whole e
 file_breaks stands held p q old mid now fails stock depth name bytes later whole e b tells =
-    breaks_off stands p q.fetched old mid now fails (obeying present_stage fails stock depth name true bytes) later whole e b (tells b.run b.at_run)
+    breaks_off stands p q.fetched old mid now fails (obeying whole_stage fails stock depth name true bytes) later whole e b (tells b.run b.at_run)
 
 -- ---- the stream
 
 pub over_stream : (old now : Option (List ℕ)) (s : Status) (fails : Option ℕ) (stock : List Filed) (depth : ℕ) (from : List ℕ) (closed : Bool) (bytes : List ℕ) (cuts : List Cut) (r : Run)
-    → cuts ≡ cuts_of closed bytes → IsOver old now s (rest_of fails stock depth from cuts r) → IsOver old now s (obeying present_stage fails stock depth from closed bytes r)
+    → cuts ≡ cuts_of closed bytes → IsOver old now s (rest_of fails stock depth from cuts r) → IsOver old now s (obeying whole_stage fails stock depth from closed bytes r)
 over_stream old now s fails stock depth from closed bytes cuts r is over =
     subst (IsOver old now s) (ap (λ cs. rest_of fails stock depth from cs r) is ∙ sym (stream_run fails stock depth from closed bytes r)) over
 
 pub breaks_stream : (n : ℕ) (old now : Option (List ℕ)) (fails : Option ℕ) (stock : List Filed) (depth : ℕ) (from : List ℕ) (closed : Bool) (bytes : List ℕ) (cuts : List Cut) (r : Run) (e : Fault)
-    → cuts ≡ cuts_of closed bytes → Breaks n old now fails (rest_of fails stock depth from cuts r) e → Breaks n old now fails (obeying present_stage fails stock depth from closed bytes r) e
+    → cuts ≡ cuts_of closed bytes → Breaks n old now fails (rest_of fails stock depth from cuts r) e → Breaks n old now fails (obeying whole_stage fails stock depth from closed bytes r) e
 breaks_stream n old now fails stock depth from closed bytes cuts r e is broke =
     subst (λ x. Breaks n old now fails x e) (ap (λ cs. rest_of fails stock depth from cs r) is ∙ sym (stream_run fails stock depth from closed bytes r)) broke
 

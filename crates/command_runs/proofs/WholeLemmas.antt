@@ -7,7 +7,7 @@ use Rattle.soar_edge.specs.declared.filed.Filed.{Filed}
 use Rattle.soar_edge.specs.declared.status.Status.{Status}
 use Rattle.soar_edge.specs.declared.status.Status.TheVariants as status
 use Rattle.defs_run.specs.CommandLine.{Options, script_of}
-use Rattle.defs_run.specs.Present.{present_stage}
+use Rattle.defs_run.specs.Whole.{whole_stage}
 use Rattle.defs_run.specs.Runs.{Run, Ran, then_run}
 use Rattle.defs_run.specs.Sessions.{Session}
 use Rattle.defs_run.specs.Sources.{obeying}
@@ -39,8 +39,8 @@ asked_run fails stock input o = whole_run fails stock input o.generate o.files (
 transcribed_by : (fails : Option ℕ) (stock : List Filed) (input : List ℕ) (names : List (List ℕ)) (w g : Option ℕ)
     → (let start = first_run (elim w as (λ _. ℕ) [ None ↦ 1 | Some n ↦ n ]) in
     elim g as (λ _. Transcript) [
-      | Some n ↦ transcribed (obeying present_stage fails stock 16 standard_input true (script_of n) start)
-      | None ↦ transcribed (then_run (files_run present_stage fails stock names start) (input_run present_stage fails stock input))
+      | Some n ↦ transcribed (obeying whole_stage fails stock 16 standard_input true (script_of n) start)
+      | None ↦ transcribed (then_run (files_run whole_stage fails stock names start) (input_run whole_stage fails stock input))
     ]) ≡ transcribed (whole_run fails stock input g names (first_run (level_of w)))
 unfolding commands_of files_of input_of
 transcribed_by fails stock input names None None = refl

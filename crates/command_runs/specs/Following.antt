@@ -6,7 +6,7 @@ use Rattle.soar_edge.specs.declared.fault.PutFault.TheVariants as put
 use Rattle.soar_edge.specs.declared.filed.Filed.{Filed}
 use Rattle.soar_edge.specs.declared.status.Status.{Status}
 use Rattle.soar_edge.specs.declared.status.Status.TheVariants as status
-use Rattle.defs_run.specs.Present.{present_stage}
+use Rattle.defs_run.specs.Whole.{whole_stage}
 use Rattle.defs_run.specs.Runs.{Run, Ran, behind_text, after_reply, obeyed}
 use Rattle.defs_run.specs.Sessions.{Session}
 use Rattle.defs_run.specs.Sources.{Obeying, obeying}
@@ -101,7 +101,7 @@ Passes stands p before now fails x (Err e) = Breaks p.fetched before now fails x
 -- how the commands of a file run inside a stream in which files may be read so many deep
 abbrev pub inner_of : Option ℕ → List Filed → ℕ → Option Obeying
 inner_of fails stock zero = None
-inner_of fails stock (suc depth) = Some (obeying present_stage fails stock depth)
+inner_of fails stock (suc depth) = Some (obeying whole_stage fails stock depth)
 
 -- some was written, and the rest of this part of the run is that of the file
 pub record OpensFile {C : Type 0} (stands : Session → Type 0) (p : Progress C) (before now : Option (List ℕ)) (inner : Option Obeying) (x : Ran) (file : Opened) : Type 0 where
@@ -137,10 +137,10 @@ IsReadyStep ready (Err e) = Unit {0}
 -- a command passed no limit, and this follows it; or it passed one, and ended the run
 abbrev pub CarriesOut : {C : Type 0} → (Session → Type 0) → Progress C → Option (List ℕ) → Option (List ℕ) → Option ℕ → List ℕ → ℕ → List ℕ → Run → Result (Option Next) Fault → Type 0
 CarriesOut stands p before now fails from number text r (Ok (Some following)) =
-    let reply = obeyed present_stage from number text r.session in
+    let reply = obeyed whole_stage from number text r.session in
     IsOn stands p before now (after_reply r reply) × (reply.sequel ≡ sequel_of following)
-CarriesOut stands p before now fails from number text r (Ok None) = IsOver before now status.Limit (after_reply r (obeyed present_stage from number text r.session))
-CarriesOut stands p before now fails from number text r (Err e) = Breaks p.fetched before now fails (after_reply r (obeyed present_stage from number text r.session)) e
+CarriesOut stands p before now fails from number text r (Ok None) = IsOver before now status.Limit (after_reply r (obeyed whole_stage from number text r.session))
+CarriesOut stands p before now fails from number text r (Err e) = Breaks p.fetched before now fails (after_reply r (obeyed whole_stage from number text r.session)) e
 
 abbrev pub IsReadyCarried : Type 0 → Result (Option Next) Fault → Type 0
 IsReadyCarried ready (Ok (Some following)) = ready

@@ -2,7 +2,7 @@
 use Rattle.std.specs.Prelude.{◌≡◌, ℕ, List, ◌∷◌, Option, Result, Ok, Err}
 use Rattle.soar_edge.specs.Cutting.{Cut}
 use Rattle.soar_edge.specs.declared.filed.Filed.{Filed}
-use Rattle.defs_run.specs.Present.{present_stage}
+use Rattle.defs_run.specs.Whole.{whole_stage}
 use Rattle.defs_run.specs.Runs.{Run}
 use Rattle.defs_run.specs.Sessions.{Session}
 use Rattle.defs_run.specs.Sources.{Obeying, cut_run, cuts_run}
@@ -15,9 +15,9 @@ use Rattle.command_runs.specs.declared.turn.Turn.TheVariants as turn
 -- of the commands that were left the first was taken, and led to this; or all ended so
 abbrev pub Turns : {C : Type 0} → (Session → Type 0) → Progress C → Option (List ℕ) → Option (List ℕ) → Option ℕ → Option Obeying → List Filed → List ℕ → List Cut → List Cut → Run → Result Turn Fault → Type 0
 Turns stands p before now fails inner stock from cuts left r (Ok (turn.Took step)) =
-    (c : Cut) → cuts ≡ c ∷ left → Steps stands p before now fails inner (cut_run present_stage inner fails stock from c r) (Ok step)
-Turns stands p before now fails inner stock from cuts left r (Ok (turn.Last flow)) = Flows stands p before now fails (cuts_run present_stage inner fails stock from cuts r) (Ok flow)
-Turns stands p before now fails inner stock from cuts left r (Err e) = Breaks p.fetched before now fails (cuts_run present_stage inner fails stock from cuts r) e
+    (c : Cut) → cuts ≡ c ∷ left → Steps stands p before now fails inner (cut_run whole_stage inner fails stock from c r) (Ok step)
+Turns stands p before now fails inner stock from cuts left r (Ok (turn.Last flow)) = Flows stands p before now fails (cuts_run whole_stage inner fails stock from cuts r) (Ok flow)
+Turns stands p before now fails inner stock from cuts left r (Err e) = Breaks p.fetched before now fails (cuts_run whole_stage inner fails stock from cuts r) e
 
 -- one command was taken off
 abbrev pub TakesCommand : List Cut → List Cut → Result Turn Fault → Type 0

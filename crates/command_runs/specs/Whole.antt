@@ -2,7 +2,7 @@
 use Rattle.std.specs.Prelude.{◌≡◌, ℕ, ◌^◌, Bool, true, false, nat_lt, List, [], ◌∷◌, take, length, Option, Some, None, if◌then◌else◌}
 use Rattle.soar_edge.specs.declared.filed.Filed.{Filed}
 use Rattle.defs_run.specs.CommandLine.{Options, script_of}
-use Rattle.defs_run.specs.Present.{present_stage}
+use Rattle.defs_run.specs.Whole.{whole_stage}
 use Rattle.defs_run.specs.Runs.{Run, Ran, then_run}
 use Rattle.defs_run.specs.Sessions.{Session, first_session}
 use Rattle.defs_run.specs.Sources.{obeying, sourced}
@@ -18,14 +18,14 @@ unfoldable pub file_of : Option ℕ → List Filed → List ℕ → Run → Ran
 file_of fails stock name r = sourced (inner_of fails stock 16) fails stock standard_input 0 name r
 
 unfoldable pub files_of : Option ℕ → List Filed → List (List ℕ) → Run → Ran
-files_of fails stock names r = files_run present_stage fails stock names r
+files_of fails stock names r = files_run whole_stage fails stock names r
 
 unfoldable pub input_of : Option ℕ → List Filed → List ℕ → Run → Ran
-input_of fails stock input r = input_run present_stage fails stock input r
+input_of fails stock input r = input_run whole_stage fails stock input r
 
 -- the commands of standard input, of which there are more or not
 unfoldable pub commands_of : Option ℕ → List Filed → Bool → List ℕ → Run → Ran
-commands_of fails stock closed bytes r = obeying present_stage fails stock 16 standard_input closed bytes r
+commands_of fails stock closed bytes r = obeying whole_stage fails stock 16 standard_input closed bytes r
 
 -- a script of so many items, or the files and the input
 abbrev pub whole_run : Option ℕ → List Filed → List ℕ → Option ℕ → List (List ℕ) → Run → Ran
@@ -39,7 +39,7 @@ level_of (Some n) = n
 
 -- the transcript of what the words ask for
 unfoldable pub whole_transcript : Option ℕ → List Filed → List ℕ → Options → Transcript
-whole_transcript fails stock input o = with_options present_stage fails stock input o
+whole_transcript fails stock input o = with_options whole_stage fails stock input o
 
 -- what is asked for, and what carries commands out stands for the first session
 pub record IsAsked (stands : Session → Type 0) (o : Options) (generate : Option ℕ) (names : List (List ℕ)) : Type 0 where

@@ -1,6 +1,6 @@
 ghost use Rattle.std.specs.Prelude.{◌≡◌, ◌-◌, ◌^◌, ◌<◌, ◌≤◌, length, IfOk};
 ghost use Rattle.soar_edge.specs.Outside.{HasPutCause};
-ghost use Rattle.defs_run.specs.Present.{present_stage};
+ghost use Rattle.defs_run.specs.Whole.{whole_stage};
 ghost use Rattle.defs_run.specs.Runs.{obeyed};
 ghost use Rattle.defs_run.specs.Sessions.{Session, refused_by};
 ghost use Rattle.command_runs.specs.Carrying.{IsReadyAfter, Refuses, Speaks, refusal_of};
@@ -57,7 +57,7 @@ pub trait Carrier {
         requires ready { ready self.old }
         requires sink { O.faults out.old < 2 ^ 64 - 1 }
         ensures answer { (s : Session) → stands self.old s →
-            Speaks (stands self.new) s (obeyed present_stage source.now command.now.line command.now.text s) (O.written out.old) (O.written out.new) result }
+            Speaks (stands self.new) s (obeyed whole_stage source.now command.now.line command.now.text s) (O.written out.old) (O.written out.new) result }
         ensures ready { IsReadyAfter (ready self.new) result }
         ensures cause { HasPutCause (O.faults out.old) (O.faults out.new) result };
 

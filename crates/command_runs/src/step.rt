@@ -1,7 +1,7 @@
 // One command, and what follows it.
 ghost use Rattle.std.specs.Prelude.{◌≡◌, ◌||◌, ◌-◌, ◌^◌, ◌<◌, ◌≤◌, List as ListOf, ℕ, Option, Some, length, IfOk};
 ghost use Rattle.soar_edge.specs.declared.filed.Filed.{Filed};
-ghost use Rattle.defs_run.specs.Present.{present_stage};
+ghost use Rattle.defs_run.specs.Whole.{whole_stage};
 ghost use Rattle.defs_run.specs.Runs.{Run};
 ghost use Rattle.defs_run.specs.Sources.{after_sequel, command_run};
 ghost use Rattle.command_runs.specs.Carrying.{sequel_of};
@@ -33,7 +33,7 @@ pub fn obey_command<C: Carrier + Drop, F: Shelf, O: Sink>(
     requires sink { O.faults out.old < 2 ^ 64 - 1 }
     ensures step { (stock : ListOf Filed) → F.files files.old ≡ Some stock → (fails : Option ℕ) → Comes fails progress.new.fetched → (r : Run) → IsAt (C.stands progress.old.carrier) progress.old r →
         Steps (C.stands progress.new.carrier) progress.new (O.written out.old) (O.written out.new) fails (inner_of fails stock depth)
-        (command_run present_stage (inner_of fails stock depth) fails stock source.now command.now.line command.now.text r) result }
+        (command_run whole_stage (inner_of fails stock depth) fails stock source.now command.now.line command.now.text r) result }
     ensures within { OpensWithin depth result }
     ensures ready { IsReadyStep (C.ready progress.new.carrier) result }
     ensures fetched { Fetched progress.old.fetched progress.new.fetched (F.fetched files.old) (F.fetched files.new) }

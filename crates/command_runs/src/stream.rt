@@ -3,7 +3,7 @@ ghost use Rattle.std.specs.Prelude.{◌≡◌, ◌-◌, ◌^◌, ◌<◌, ◌≤
 ghost use Rattle.soar_edge.specs.Cuts.{cuts_with};
 ghost use Rattle.soar_edge.specs.Cutting.{cuts_of};
 ghost use Rattle.soar_edge.specs.declared.filed.Filed.{Filed};
-ghost use Rattle.defs_run.specs.Present.{present_stage};
+ghost use Rattle.defs_run.specs.Whole.{whole_stage};
 ghost use Rattle.defs_run.specs.Runs.{Run};
 ghost use Rattle.defs_run.specs.Sources.{obeying};
 ghost use Rattle.command_runs.specs.Causes.{Fetched, ShelfCause, SinkCause};
@@ -35,7 +35,7 @@ pub fn obey_stream<C: Carrier + Drop, F: Shelf, O: Sink>(
     requires shelf { F.faults files.old < 2 ^ 64 - 1 }
     requires sink { O.faults out.old < 2 ^ 64 - 1 }
     ensures flow { (stock : ListOf Filed) → F.files files.old ≡ Some stock → (fails : Option ℕ) → Comes fails progress.new.fetched → (r : Run) → IsAt (C.stands progress.old.carrier) progress.old r →
-        Flows (C.stands progress.new.carrier) progress.new (O.written out.old) (O.written out.new) fails (obeying present_stage fails stock depth source.now closed bytes.now r) result }
+        Flows (C.stands progress.new.carrier) progress.new (O.written out.old) (O.written out.new) fails (obeying whole_stage fails stock depth source.now closed bytes.now r) result }
     ensures ready { IsReadyFlow (C.ready progress.new.carrier) result }
     ensures fetched { Fetched progress.old.fetched progress.new.fetched (F.fetched files.old) (F.fetched files.new) }
     ensures stock { F.files files.new ≡ F.files files.old }

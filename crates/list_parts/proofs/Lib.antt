@@ -1,3 +1,5 @@
 pub mod Agreeing
+pub mod ChainLemmas
+pub mod ChunkLemmas
 pub mod MatchLemmas
 pub mod OrderLemmas

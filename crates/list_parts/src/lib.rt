@@ -1,6 +1,9 @@
-//! What commands that look at an agent list: preferences, productions, elements, matches and counts, as lines of text.
+//! What commands that look at an agent list: preferences, productions, explanations, elements,
+//! matches and counts, as lines of text.
 #![tactic(auto)]
 
+mod chain;
+mod chunks;
 mod elements;
 mod line;
 mod matches;
@@ -11,6 +14,8 @@ mod stats;
 mod texts;
 mod wish;
 
+pub use chain::list_chain;
+pub use chunks::list_chunks;
 pub use elements::list_elements;
 pub use matches::list_matches_of;
 pub use preferences::list_preferences;

@@ -1,21 +1,18 @@
 -- The words of a command join the table before it is carried out, and what was said is appended.
-use Rattle.std.proofs.Common.{◌≡◌, ℕ, ◌-◌, ◌^◌, ◌<◌, Bool, true, false, List, [], ◌∷◌, ◌++◌, length, Result, Ok, Err, IfOk, refl, sym, ap, subst, ◌∙◌, append-nil}
-use Rattle.std.specs.Prelude.{if◌then◌else◌}
+use Rattle.std.proofs.Common.{◌≡◌, ℕ, ◌-◌, ◌^◌, ◌<◌, Bool, true, false, List, [], ◌∷◌, ◌++◌, length, Result, Ok, Err, IfOk, sym, ap, subst, ◌∙◌, append-nil}
 use Rattle.soar_sym.specs.Words.{Texts}
 use Rattle.defs_soar.specs.declared.limit.Which.TheVariants as which
 use Rattle.defs_soar.specs.History.{RecordedFiring}
 use Rattle.defs_soar.specs.Limits.{limit_text, words_to}
 use Rattle.defs_soar.specs.Trace.{Written, line_text}
-use Rattle.defs_run.specs.Carrying.{carried_out}
-use Rattle.defs_run.specs.Inputs.{Carried, refuses}
-use Rattle.defs_run.specs.Orders.{Order, Refusal, unknown_command}
-use Rattle.defs_run.specs.Present.{built_order, is_built, present_stage, run_present}
+use Rattle.defs_run.specs.Inputs.{Carried}
+use Rattle.defs_run.specs.Orders.{Order, Refusal}
+use Rattle.defs_run.specs.Whole.{whole_stage}
 use Rattle.defs_run.specs.Runs.{after_reading, ordered_by, replied_by}
 use Rattle.defs_run.specs.Sessions.{Session, Reply, draws, goes_on}
 use Rattle.defs_run.specs.Stages.{Reading}
 use Rattle.soar_settle.specs.declared.stop.Stop.{Stop}
 use Rattle.soar_settle.specs.declared.stop.Stop.TheVariants as stop
-use Rattle.soar_agent.specs.Built.{carried_built}
 use Rattle.soar_agent.specs.Carries.{Carries, with_table}
 use Rattle.soar_cycle.specs.declared.standing.Standing.{Standing}
 use Rattle.session_parts.specs.Stopping.{SaysStop}
@@ -71,11 +68,11 @@ pub comes_as : {M : Type 0} (watch : ℕ) (mid : Bool) (reply : Reply) (new : Se
 comes_as watch mid reply new before after answer result is sequel obeys =
     subst (λ (r : Result Outcome Stop). Outcomes watch mid reply new before after r) (sym is) (outcomes_by watch mid reply new before after answer sequel obeys)
 
-pub outcome_ready : {M : Type 0} (new : SessionKept M) (answer : Result Bool Stop) (result : Result Outcome Stop) → result ≡ outcome_by answer → IfOk answer (λ _. IsReady new.agent)
-    → IfOk result (λ _. IsReady new.agent)
-outcome_ready new answer result is ready = subst (λ (r : Result Outcome Stop). IfOk r (λ _. IsReady new.agent)) (sym is) (by answer ready)
+pub outcome_ready : {M : Type 0} (new : SessionKept M) (answer : Result Bool Stop) (result : Result Outcome Stop) → result ≡ outcome_by answer → IfOk answer (λ _. IsReady new)
+    → IfOk result (λ _. IsReady new)
+outcome_ready new answer result is ready = subst (λ (r : Result Outcome Stop). IfOk r (λ _. IsReady new)) (sym is) (by answer ready)
   where
-    by : (a : Result Bool Stop) → IfOk a (λ _. IsReady new.agent) → IfOk (outcome_by a) (λ _. IsReady new.agent)
+    by : (a : Result Bool Stop) → IfOk a (λ _. IsReady new) → IfOk (outcome_by a) (λ _. IsReady new)
     by (Ok true) h = h
     by (Ok false) h = h
     by (Err why) h = tt
@@ -90,21 +87,13 @@ carries_as old new from line carried before after answer result is sequel carrie
 
 -- ---- what was read, carried out
 
--- what is not built is refused
-pub ordered_built : (from : List ℕ) (line : ℕ) (s : Session) (order : Order) → ordered_by present_stage from line s (built_order (Ok order)) ≡ replied_by from line s (carried_built order s)
-ordered_built from line s order = by (is_built order)
-  where
-    by : (b : Bool) → ordered_by present_stage from line s (if b then Ok order else Err unknown_command) ≡ replied_by from line s (if b then carried_out run_present order s else refuses unknown_command)
-    by true = refl
-    by false = refl
-
 -- a table that holds the words draws nothing that is told
 pub reads_as : {M : Type 0} (s new : SessionKept M) (from : List ℕ) (line : ℕ) (r : Reading) (words : Texts) (order : Result Order Refusal) (history : List RecordedFiring) (before after : List ℕ) (result : Result Outcome Stop)
     → r.words ≡ words → r.order ≡ order → length words < 2 ^ 32
-    → Outcomes (watch_of s) s.agent.mid_line (ordered_by present_stage from line (session_of (with_table words s) history) order) new before after result
-    → Outcomes (watch_of s) s.agent.mid_line (after_reading present_stage from line (session_of s history) r) new before after result
+    → Outcomes (watch_of s) s.agent.mid_line (ordered_by whole_stage from line (session_of (with_table words s) history) order) new before after result
+    → Outcomes (watch_of s) s.agent.mid_line (after_reading whole_stage from line (session_of s history) r) new before after result
 reads_as s new from line r words order history before after result read is small outcomes =
-    let reply : Texts → Result Order Refusal → Reply = λ w o. ordered_by present_stage from line (session_of (with_table w s) history) o in
+    let reply : Texts → Result Order Refusal → Reply = λ w o. ordered_by whole_stage from line (session_of (with_table w s) history) o in
     let few : length r.words < 2 ^ 32 = subst (λ (w : Texts). length w < 2 ^ 32) (sym read) small in
     outcomes_same (watch_of s) s.agent.mid_line (draws (words_to (length r.words) ∷ []) (reply r.words r.order)) (reply r.words r.order) new before after result
     (drawn_same (watch_of s) (words_to (length r.words) ∷ []) (reply r.words r.order) (words_fit (length r.words) few))
@@ -113,9 +102,9 @@ reads_as s new from line r words order history before after result read is small
 
 -- more words than a table holds stop the session
 pub reads_spent : {M : Type 0} (s new : SessionKept M) (from : List ℕ) (line : ℕ) (r : Reading) (history : List RecordedFiring) (said : List ℕ) → 2 ^ 32 - 1 < length r.words → new.agent.mid_line ≡ s.agent.mid_line
-    → Outcomes (watch_of s) s.agent.mid_line (after_reading present_stage from line (session_of s history) r) new said said (Err (stop.Limit which.Words))
+    → Outcomes (watch_of s) s.agent.mid_line (after_reading whole_stage from line (session_of s history) r) new said said (Err (stop.Limit which.Words))
 reads_spent s new from line r history said many same =
-    drawn_stops (watch_of s) s.agent.mid_line (words_to (length r.words) ∷ []) (ordered_by present_stage from line (session_of (with_table r.words s) history) r.order)
+    drawn_stops (watch_of s) s.agent.mid_line (words_to (length r.words) ∷ []) (ordered_by whole_stage from line (session_of (with_table r.words s) history) r.order)
     new said which.Words (words_spent (length r.words) many) same
 
 -- ---- what was said, appended

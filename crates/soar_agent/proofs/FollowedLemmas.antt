@@ -41,7 +41,7 @@ front_of_steps watch mid (s ∷ steps) = by (first_passed s.totals) (λ m. front
 -- ---- the session behind a course
 
 pub follows : {M : Type 0} (s new : SessionKept M) (c : Course) (history : List RecordedFiring) (before after : List ℕ)
-    → Went (watch_of s) s.agent.mid_line c new.agent.parts new.agent.mid_line before after → new.labels ≡ s.labels → IsReady new.agent
+    → Went (watch_of s) s.agent.mid_line c new.agent.parts new.agent.mid_line before after → new.labels ≡ s.labels → IsReady new
     → Obeys (watch_of s) s.agent.mid_line (followed (session_of s history) c) new before after (Ok false)
 follows s new c history before after went same ready =
     let front : front_told (watch_of s) s.agent.mid_line (map told_of c.steps) ≡ front_said (watch_of s) s.agent.mid_line c.steps = front_of_steps (watch_of s) s.agent.mid_line c.steps in

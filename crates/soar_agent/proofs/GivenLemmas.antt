@@ -1,24 +1,32 @@
 -- An addition whose identifiers there are, the first of them reached.
-use Rattle.std.proofs.Common.{◌≡◌, ℕ, ◌==◌, Bool, true, false, not, List, [], ◌++◌, map, Option, Some, None, Result, refl, sym, ap, subst, ◌∙◌}
+use Rattle.std.proofs.Common.{◌≡◌, ℕ, ◌==◌, Bool, true, false, not, List, [], ◌++◌, map, Option, Some, None, Result, refl, sym, ap, subst, ◌∙◌, arith}
 use Rattle.std.specs.Prelude.{if◌then◌else◌}
+use Rattle.std.proofs.lemmas.Bool.Decides.{nat_tests}
 use Rattle.soar_sym.specs.Words.{Texts}
 use Rattle.soar_sym.specs.declared.symbol.Sym.{Sym}
+use Rattle.soar_sym.specs.declared.symbol.Sym.TheVariants.{Ident, Word, Int}
 use Rattle.soar_wm.specs.WorkingMemory.{triple_of}
-use Rattle.defs_soar.specs.Agents.{Holding}
+use Rattle.defs_text.specs.Symbols.{symbol_text}
+use Rattle.defs_soar.specs.Agents.{Agent, Holding}
 use Rattle.defs_soar.specs.Goals.{is_operator_slot, plain_triple}
 use Rattle.defs_soar.specs.History.{RecordedFiring}
 use Rattle.defs_soar.specs.Levels.{level}
 use Rattle.defs_run.specs.Inputs.{Carried, refuses, Spelled, spelled, or_else, added, first_unknown, unreached_in, unreached_label}
 use Rattle.defs_run.specs.Orders.{Operand, is_symbol, is_label, not_of_the_top_state, reserved_attribute}
 use Rattle.defs_run.specs.Runs.{replied_by}
-use Rattle.defs_run.specs.Sessions.{Label, Resolved, Session, label_in, labelled, resolved, unknown_in}
+use Rattle.defs_run.specs.Sessions.{Label, Resolved, Session, is_given, label_in, labelled, resolved, unknown_in}
+use Rattle.defs_run.specs.declared.form.Addition.{Addition}
 use Rattle.defs_run.specs.declared.form.Operand.{Operand as OperandRead}
 use Rattle.defs_run.specs.declared.form.Operand.TheVariants as operand
+use Rattle.learning_laws.specs.LawfulAgents.{IsNumbered}
+use Rattle.letter_laws.specs.Grows.{LettersGrow}
+use Rattle.letter_laws.proofs.GrowthLaws.{given_stay_given}
 use Rattle.soar_settle.specs.declared.stop.Stop.{Stop}
 use Rattle.soar_agent.specs.Adding.{adds_at_top, spelled_by, unless_twice}
 use Rattle.soar_cmd.specs.Asked.{operand_seen}
 use Rattle.soar_cmd.specs.Known.{IsAttributeKnown}
 use Rattle.session_parts.specs.Labels.{label_seen, symbol_in}
+use Rattle.soar_agent.specs.Numbered.{IsAdditionNumbered, IsOperandNumbered}
 use Rattle.soar_agent.specs.States.{session_of}
 use Rattle.soar_agent.specs.Steps.{Obeys}
 use Rattle.soar_agent.specs.declared.state.Session.{Session as SessionKept}
@@ -59,6 +67,39 @@ unreached_stands s (is_label name) is = by (label_in s.labels name) refl is
 -- a reached operand stands for a symbol
 pub id_stands : (s : Session) (id attr value : Operand) → first_unknown true s id attr value ≡ None → (symbol : Sym) × (symbol_in s.labels id ≡ Some symbol)
 id_stands s id attr value is = unreached_stands s id (reached_first s id attr value is)
+
+-- ---- what the letters gave
+
+given_numbered : (a : Agent) (s : Sym) → is_given a s ≡ true → IsNumbered a.names.letters s
+given_numbered a (Ident letter number) is = grind (arith, nat_tests, is)
+given_numbered a (Word word) is = tt
+given_numbered a (Int value) is = tt
+
+unknown_numbered : (s : Session) (o : OperandRead) → unknown_in s (operand_seen o) ≡ None → IsOperandNumbered s.agent.names.letters o
+unknown_numbered s (operand.Label name) is = tt
+unknown_numbered s (operand.Symbol symbol) is = by (is_given s.agent symbol) refl is
+  where
+    by : (b : Bool) → is_given s.agent symbol ≡ b → (if b then None else Some (symbol_text s.agent.names.words symbol)) ≡ None → IsNumbered s.agent.names.letters symbol
+    by true given e = given_numbered s.agent symbol given
+    by false given e = absurd (cc)
+
+pub addition_numbered : (s : Session) (reached : Bool) (addition : Addition) → first_unknown reached s (operand_seen addition.id) (operand_seen addition.attr) (operand_seen addition.value) ≡ None
+    → IsAdditionNumbered s.agent.names.letters addition
+addition_numbered s reached addition is =
+    let id : Option (List ℕ) = unknown_in s (operand_seen addition.id) in
+    let attr : Option (List ℕ) = unknown_in s (operand_seen addition.attr) in
+    let value : Option (List ℕ) = unknown_in s (operand_seen addition.value) in
+    let unreached : Option (List ℕ) = if reached then unreached_in s (operand_seen addition.id) else None in
+    let behind : or_else attr value ≡ None = none_later unreached (or_else attr value) (none_later id (or_else unreached (or_else attr value)) is) in
+    record {
+      id_numbered = unknown_numbered s addition.id (none_first id (or_else unreached (or_else attr value)) is);
+      attr_numbered = unknown_numbered s addition.attr (none_first attr value behind);
+      value_numbered = unknown_numbered s addition.value (none_later attr value behind);
+    }
+
+pub operand_stays : (old new : List ℕ) (o : OperandRead) → LettersGrow old new → IsOperandNumbered old o → IsOperandNumbered new o
+operand_stays old new (operand.Symbol symbol) grows numbered = given_stay_given old new symbol grows numbered
+operand_stays old new (operand.Label name) grows numbered = tt
 
 -- ---- what is done
 

@@ -2,10 +2,12 @@ pub mod AddingLemmas
 pub mod CommandLemmas
 pub mod CountLemmas
 pub mod CycleLemmas
+pub mod ExplainLemmas
 pub mod FollowedLemmas
 pub mod GivenLemmas
 pub mod LabelLemmas
 pub mod NamedLemmas
+pub mod ReadyLemmas
 pub mod ReplyLemmas
 pub mod SequelLemmas
 pub mod SessionLemmas

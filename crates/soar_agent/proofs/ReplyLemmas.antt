@@ -50,7 +50,7 @@ lines_at watch mid (text ∷ lines) =
     ∙ ap (followed_by one) (lines_at watch false lines)
 
 lines_said : {M : Type 0} (s : SessionKept M) (b : AgentSeen) (lines : List (List ℕ)) (new_mid : Bool) (history : List RecordedFiring) (before after : List ℕ)
-    → Remembers s.agent.parts history → IsReady s.agent → b ≡ record s.agent { mid_line = new_mid } → Says lines s.agent.mid_line before new_mid after
+    → Remembers s.agent.parts history → IsReady s → b ≡ record s.agent { mid_line = new_mid } → Says lines s.agent.mid_line before new_mid after
     → Obeys (watch_of s) s.agent.mid_line (says (session_of s history) lines) (with_kept b s) before after (Ok false)
 lines_said s b lines new_mid history before after remembers ready is said =
     let at : rendered 1 s.agent.mid_line (as_lines lines) ≡ rendered (watch_of s) s.agent.mid_line (as_lines lines) = sym (lines_at (watch_of s) s.agent.mid_line lines) in
@@ -62,11 +62,11 @@ lines_said s b lines new_mid history before after remembers ready is said =
       within = refl;
       text = said.0 ∙ ap (λ t. before ++ t) (ap (λ (w : Written). w.text) at ∙ sym (append-nil (rendered (watch_of s) s.agent.mid_line (as_lines lines)).text));
       refused = refl;
-      kept = subst IsReady (sym is) ready;
+      kept = subst (λ (c : AgentSeen). IsReady (with_kept c s)) (sym is) ready;
     }
 
 pub says_lines : {M : Type 0} (s : SessionKept M) (b : AgentSeen) (spoken lines : List (List ℕ)) (mid new_mid : Bool) (history : List RecordedFiring) (before after : List ℕ)
-    → Remembers s.agent.parts history → IsReady s.agent → b ≡ record s.agent { mid_line = new_mid } → spoken ≡ lines → mid ≡ s.agent.mid_line → Says spoken mid before new_mid after
+    → Remembers s.agent.parts history → IsReady s → b ≡ record s.agent { mid_line = new_mid } → spoken ≡ lines → mid ≡ s.agent.mid_line → Says spoken mid before new_mid after
     → Obeys (watch_of s) s.agent.mid_line (says (session_of s history) lines) (with_kept b s) before after (Ok false)
 says_lines s b spoken lines mid new_mid history before after remembers ready is same ends said =
     lines_said s b lines new_mid history before after remembers ready is
@@ -74,7 +74,7 @@ says_lines s b spoken lines mid new_mid history before after remembers ready is 
 
 -- the line of a refusal
 pub refuses : {M : Type 0} (s : SessionKept M) (b : AgentSeen) (r : Refusal) (from : List ℕ) (line : ℕ) (history : List RecordedFiring) (before after : List ℕ)
-    → Remembers s.agent.parts history → IsReady s.agent → b ≡ record s.agent { mid_line = false } → after ≡ before ++ line_text s.agent.mid_line (refusal_text r from line)
+    → Remembers s.agent.parts history → IsReady s → b ≡ record s.agent { mid_line = false } → after ≡ before ++ line_text s.agent.mid_line (refusal_text r from line)
     → Obeys (watch_of s) s.agent.mid_line (refused_by r from line (session_of s history)) (with_kept b s) before after (Ok true)
 refuses s b r from line history before after remembers ready is text =
     let told : List ℕ = refusal_text r from line in
@@ -107,7 +107,7 @@ arrives : {M : Type 0} (s : SessionKept M) (b : AgentSeen) (step : AgentStep) (h
 arrives s b step history none stepped = ap (λ (a : Agent). record (session_of s history) { agent = a; mid_line = b.mid_line }) (sym (state_is b.parts (halting step) stepped.stands) ∙ goes_on step none)
 
 pub quiet_done : {M : Type 0} (s : SessionKept M) (b : AgentSeen) (to : Agent) (totals : List Total) (history : List RecordedFiring) (said : List ℕ)
-    → IsReady b → b.mid_line ≡ s.agent.mid_line → Stepped b.parts (drawn to totals)
+    → IsReady (with_kept b s) → b.mid_line ≡ s.agent.mid_line → Stepped b.parts (drawn to totals)
     → Obeys (watch_of s) s.agent.mid_line (quiet (with_agent (session_of s history) to)) (with_kept b s) said said (Ok false)
 quiet_done s b to totals history said ready same stepped = record {
   history = to.history;
@@ -120,7 +120,7 @@ quiet_done s b to totals history said ready same stepped = record {
 }
 
 -- the same where nothing is drawn
-pub quiet_stands : {M : Type 0} (s : SessionKept M) (b : AgentSeen) (to : Agent) (history : List RecordedFiring) (said : List ℕ) → IsReady b → b.mid_line ≡ s.agent.mid_line → Stands b.parts to
+pub quiet_stands : {M : Type 0} (s : SessionKept M) (b : AgentSeen) (to : Agent) (history : List RecordedFiring) (said : List ℕ) → IsReady (with_kept b s) → b.mid_line ≡ s.agent.mid_line → Stands b.parts to
     → Obeys (watch_of s) s.agent.mid_line (quiet (with_agent (session_of s history) to)) (with_kept b s) said said (Ok false)
 quiet_stands s b to history said ready same stands = record {
   history = to.history;
@@ -135,7 +135,7 @@ quiet_stands s b to history said ready same stands = record {
 
 -- with what the step draws
 pub drawn_done : {M : Type 0} (s : SessionKept M) (b : AgentSeen) (to : Agent) (totals : List Total) (history : List RecordedFiring) (said : List ℕ)
-    → IsReady b → b.mid_line ≡ s.agent.mid_line → Stepped b.parts (drawn to totals)
+    → IsReady (with_kept b s) → b.mid_line ≡ s.agent.mid_line → Stepped b.parts (drawn to totals)
     → Obeys (watch_of s) s.agent.mid_line (draws totals (quiet (with_agent (session_of s history) to))) (with_kept b s) said said (Ok false)
 drawn_done s b to totals history said ready same stepped =
     let reply : Reply = quiet (with_agent (session_of s history) to) in
@@ -161,7 +161,7 @@ settling_goes_on a held = refl
 
 -- what settling tells is written where it passes no limit
 pub settles : {M : Type 0} (s : SessionKept M) (b : AgentSeen) (inputs : List Triple) (history : List RecordedFiring) (before after : List ℕ)
-    → IsReady b → (let a = agent_of s.agent.parts history in WentStep (watch_of s) s.agent.mid_line (resettled a (held_with a inputs)) b.parts b.mid_line before after)
+    → IsReady (with_kept b s) → (let a = agent_of s.agent.parts history in WentStep (watch_of s) s.agent.mid_line (resettled a (held_with a inputs)) b.parts b.mid_line before after)
     → Obeys (watch_of s) s.agent.mid_line (with_inputs inputs (session_of s history)) (with_kept b s) before after (Ok false)
 settles s b inputs history before after ready went =
     let old : Agent = agent_of s.agent.parts history in
@@ -199,7 +199,7 @@ settles_none s new inputs history before after stop.NoMemory stops = tt
 -- ---- what the caller does
 
 -- nothing is done but that it is asked for
-pub asks : {M : Type 0} (s : SessionKept M) (sequel : Sequel) (history : List RecordedFiring) (said : List ℕ) → Remembers s.agent.parts history → IsReady s.agent
+pub asks : {M : Type 0} (s : SessionKept M) (sequel : Sequel) (history : List RecordedFiring) (said : List ℕ) → Remembers s.agent.parts history → IsReady s
     → Obeys (watch_of s) s.agent.mid_line (record (quiet (session_of s history)) { sequel = sequel }) s said said (Ok false)
 asks s sequel history said remembers ready = record {
   history = history;

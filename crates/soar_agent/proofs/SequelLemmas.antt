@@ -5,8 +5,9 @@ use Rattle.soar_sym.specs.declared.symbol.Sym.{Sym}
 use Rattle.soar_wm.specs.declared.element.Element.{Element}
 use Rattle.soar_wm.specs.WorkingMemory.{element_of, tag_of, triple_of}
 use Rattle.defs_match.specs.Rules.{RuleOf}
+use Rattle.defs_soar.specs.History.{ChainOf}
 use Rattle.defs_soar.specs.Values.{has_triple_among, triple_eq}
-use Rattle.defs_run.specs.Carrying.{if_named, rule_named}
+use Rattle.defs_run.specs.Carrying.{carried_out, chain_of_rule, explained, if_named, rule_named}
 use Rattle.defs_run.specs.Inputs.{Carried, Spelled, added, does, first_unknown, is_reserved, is_top_level, or_else, queued, refuses, removed, spelled, unless_there, unless_unknown, with_inputs, with_queued}
 use Rattle.defs_run.specs.Orders.{Order, add_wme, chunk, excise, explain, init_soar, load, local_negations, matches, matches_of, max_elaborations, no_element, no_production, not_an_input, not_of_the_top_state, preferences, print_chunks, print_id, print_memory, print_name, print_rules, queue, quit, random, remove_wme, reserved_attribute, run_cycles, select_by, source, stats, watch}
 use Rattle.defs_run.specs.Runs.{replied_by}
@@ -14,7 +15,8 @@ use Rattle.defs_run.specs.Sessions.{Session, Sequel, goes_on, unknown_in}
 use Rattle.defs_run.specs.declared.form.Order.{Order as OrderRead}
 use Rattle.defs_run.specs.declared.form.Order.TheVariants as read
 use Rattle.soar_cmd.specs.Asked.{order_seen}
-use Rattle.soar_agent.specs.Built.{IsAlone, carried_built}
+use Rattle.soar_agent.specs.Alone.{IsAlone}
+use Rattle.soar_agent.specs.Running.{run_learning}
 
 -- what follows what an order does; behind a refusal the next command
 abbrev sequel_of : Carried → Sequel
@@ -61,7 +63,11 @@ remove_goes s tag (Some e) = removed_goes s e
 queued_goes : (adds : Bool) (t : Spelled) → sequel_of (queued adds t) ≡ goes_on
 queued_goes adds t = if_goes (is_reserved t.session t.triple) (refuses reserved_attribute) (does (with_queued adds t)) refl refl
 
-carried_goes : (order : Order) (s : Session) → IsAlone order → sequel_of (carried_built order s) ≡ goes_on
+explained_goes : (s : Session) (name : Sym) (o : Option ChainOf) → sequel_of (explained s name o) ≡ goes_on
+explained_goes s name None = refl
+explained_goes s name (Some c) = refl
+
+carried_goes : (order : Order) (s : Session) → IsAlone order → sequel_of (carried_out run_learning order s) ≡ goes_on
 carried_goes (load production) s alone = refl
 carried_goes (excise name) s alone = if_named_goes s name _ (λ rule. refl)
 carried_goes (source name) s alone = absurd alone
@@ -83,14 +89,14 @@ carried_goes (chunk on) s alone = refl
 carried_goes (local_negations on) s alone = refl
 carried_goes (select_by m) s alone = refl
 carried_goes (max_elaborations n) s alone = refl
-carried_goes (explain name) s alone = refl
+carried_goes (explain name) s alone = if_named_goes s name _ (λ rule. explained_goes s name (chain_of_rule s.agent.program.chains rule.number))
 carried_goes stats s alone = refl
 carried_goes init_soar s alone = refl
 carried_goes quit s alone = absurd alone
 
 -- behind the reply to it comes the next command
-pub next_follows : (from : List ℕ) (line : ℕ) (order : Order) (s : Session) → IsAlone order → (replied_by from line s (carried_built order s)).sequel ≡ goes_on
-next_follows from line order s alone = sequel_is from line s (carried_built order s) (carried_goes order s alone)
+pub next_follows : (from : List ℕ) (line : ℕ) (order : Order) (s : Session) → IsAlone order → (replied_by from line s (carried_out run_learning order s)).sequel ≡ goes_on
+next_follows from line order s alone = sequel_is from line s (carried_out run_learning order s) (carried_goes order s alone)
 
 -- ---- orders as they are read
 

@@ -8,9 +8,7 @@ use Rattle.defs_run.specs.Sessions.{Session, Reply, draws}
 use Rattle.soar_settle.specs.declared.stop.Stop.{Stop}
 use Rattle.soar_settle.specs.declared.stop.Stop.TheVariants as stop
 use Rattle.wave_parts.proofs.LimitLemmas.{passes_not, passes_over}
-use Rattle.soar_cycle.specs.Agents.{AgentSeen, IsSoundAgent}
 use Rattle.soar_agent.specs.Commands.{IsSame}
-use Rattle.soar_agent.specs.States.{IsReady}
 use Rattle.soar_agent.specs.Steps.{Obeys}
 use Rattle.soar_agent.specs.Telling.{limit_told, front_told}
 use Rattle.soar_agent.specs.declared.state.Session.{Session as SessionKept}
@@ -22,10 +20,6 @@ nothing mid = record { text = []; mid_line = mid }
 -- the watch level that is set
 abbrev pub watch_of : {M : Type 0} → SessionKept M → ℕ
 watch_of s = s.agent.parts.settings.watch
-
--- an agent stays ready
-pub ready_after : (old new : AgentSeen) → IsReady old → new.standing ≡ old.standing → IsSoundAgent new → IsReady new
-ready_after old new ready same sound = let stands = same ∙ ready.0 in (stands, sound stands)
 
 -- ---- replies that come to the same
 

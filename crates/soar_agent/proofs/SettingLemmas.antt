@@ -9,7 +9,7 @@ use Rattle.wave_parts.specs.Remembers.{Remembers}
 use Rattle.wave_parts.specs.Seen.{Stepped, agent_of}
 use Rattle.wave_parts.specs.Settings.{settings_seen}
 use Rattle.wave_parts.specs.declared.settings.Settings.{Settings}
-use Rattle.wave_parts.proofs.StandsLemmas.{state_is}
+use Rattle.wave_parts.proofs.StandsLemmas.{remembers_same, state_is}
 use Rattle.cycle_parts.specs.Calls.{restart_step}
 use Rattle.soar_cycle.specs.Agents.{AgentSeen}
 use Rattle.session_parts.specs.declared.label.Label.{Label as LabelKept}
@@ -26,9 +26,9 @@ abbrev pub with_set : Settings → AgentSeen → AgentSeen
 with_set settings a = record a { parts = record a.parts { settings = settings } }
 
 remembers_set : (settings : Settings) (a : AgentSeen) (history : List RecordedFiring) → Remembers a.parts history → Remembers (with_set settings a).parts history
-remembers_set settings a history r = record { firings_are = r.firings_are; depends_are = r.depends_are; goals_numbered = r.goals_numbered }
+remembers_set settings a history r = remembers_same a.parts (with_set settings a).parts history refl refl refl refl r
 
-pub sets : {M : Type 0} (s : SessionKept M) (b : AgentSeen) (settings : Settings) (history : List RecordedFiring) (said : List ℕ) → Remembers s.agent.parts history → b ≡ with_set settings s.agent → IsReady b
+pub sets : {M : Type 0} (s : SessionKept M) (b : AgentSeen) (settings : Settings) (history : List RecordedFiring) (said : List ℕ) → Remembers s.agent.parts history → b ≡ with_set settings s.agent → IsReady (with_kept b s)
     → Obeys (watch_of s) s.agent.mid_line (with_settings (session_of s history) (settings_seen settings)) (with_kept b s) said said (Ok false)
 sets s b settings history said remembers is ready =
     subst (λ (a : AgentSeen). Obeys (watch_of s) s.agent.mid_line (with_settings (session_of s history) (settings_seen settings)) (with_kept a s) said said (Ok false)) (sym is) (record {
@@ -38,13 +38,13 @@ sets s b settings history said remembers is ready =
       within = refl;
       text = sym (append-nil said);
       refused = refl;
-      kept = subst IsReady is ready;
+      kept = subst (λ (a : AgentSeen). IsReady (with_kept a s)) is ready;
     })
 
 -- ---- starting anew
 
 pub starts_anew : {M : Type 0} (s : SessionKept M) (b : AgentSeen) (labels : List LabelKept) (history : List RecordedFiring) (said : List ℕ)
-    → IsReady b → b.mid_line ≡ s.agent.mid_line → labels ≡ [] → Stepped b.parts (restart_step (agent_of s.agent.parts history))
+    → IsReady (with_labels b labels s) → b.mid_line ≡ s.agent.mid_line → labels ≡ [] → Stepped b.parts (restart_step (agent_of s.agent.parts history))
     → Obeys (watch_of s) s.agent.mid_line (restarts (session_of s history)) (with_labels b labels s) said said (Ok false)
 starts_anew s b labels history said ready same none stepped =
     let a : Agent = agent_of s.agent.parts history in

@@ -1,79 +1,60 @@
--- An agent stays sound and remembers when its table gains words, and words of what it holds.
-use Rattle.std.proofs.Common.{◌≡◌, ℕ, ◌==◌, ◌≤◌, Bool, true, false, cond, List, [], ◌∷◌, length, map, Some, subst, arith}
+-- A session stays ready when its table gains the words of a command, and orders that were read are lawful. The words of what an agent holds.
+use Rattle.std.proofs.Common.{◌≡◌, ℕ, ◌==◌, ◌≤◌, Bool, true, false, cond, List, [], ◌∷◌, length, Some, Ok, refl, sym, subst}
 use Rattle.soar_sym.specs.Words.{Texts}
-use Rattle.soar_sym.specs.declared.symbol.Sym.{Sym}
-use Rattle.soar_rule.specs.Symbols.{AreKnown, symbols_of}
+use Rattle.soar_rule.specs.Productions.{production_seen}
+use Rattle.soar_rule.specs.declared.production.Production.{Production}
 use Rattle.soar_wm.specs.declared.element.Element.{Element}
 use Rattle.soar_wm.specs.WorkingMemory.{element_of, triple_of}
-use Rattle.defs_match.specs.Rules.{RuleOf, rule_seen}
-use Rattle.defs_soar.specs.declared.preference.Preference.{Preference}
-use Rattle.defs_soar.specs.Agents.{LiveFiring}
-use Rattle.defs_soar.specs.Dependencies.{symbols_of_wish}
 use Rattle.defs_soar.specs.History.{RecordedFiring}
-use Rattle.soar_settle.specs.Known.{AreElementsKnown, AreRulesKnown, AreRowsKnown}
-use Rattle.input_queue.specs.Seen.{triple_queued}
-use Rattle.soar_cmd.proofs.WordLemmas.{symbol_stays}
+use Rattle.defs_run.specs.Orders.{Order}
+use Rattle.defs_run.specs.WholeReading.{read_whole}
+use Rattle.defs_run.specs.declared.form.Order.{Order as OrderRead}
+use Rattle.defs_run.specs.declared.form.Order.TheVariants as read
+use Rattle.learning_laws.specs.Lawful.{Grown}
+use Rattle.learning_laws.specs.LawfulAgents.{EachOnce}
+use Rattle.loading_laws.specs.Orders.{IsLawfulOrder, ReadsLawfully}
+use Rattle.soar_settle.specs.Known.{AreElementsKnown}
+use Rattle.soar_cmd.specs.Asked.{order_seen}
+use Rattle.wave_parts.specs.Lawful.{IsOfLawful}
 use Rattle.wave_parts.specs.Remembers.{Remembers}
-use Rattle.goal_trimming.specs.Living.{live_seen}
-use Rattle.wave_parts.specs.Seen.{AreLiveKnown, IsSound}
-use Rattle.wave_parts.proofs.GrownLemmas.{elements_grown, goals_grown, triples_grown}
-use Rattle.cycle_parts.specs.Calls.{IsTripleKnown}
-use Rattle.soar_cycle.specs.Agents.{AgentSeen, with_table}
+use Rattle.wave_parts.specs.Seen.{IsSound}
+use Rattle.wave_parts.specs.declared.parts.Parts.{Parts as PartsKept}
+use Rattle.wave_parts.proofs.StandsLemmas.{remembers_same}
+use Rattle.cycle_parts.specs.Calls.{IsTripleKnown, MayBeLoaded}
+use Rattle.soar_cycle.specs.Agents.{AgentSeen, with_table as agent_with_table}
+use Rattle.soar_cycle.proofs.TableLemmas.{sound_with_table}
+use Rattle.soar_agent.specs.Carries.{with_table}
 use Rattle.soar_agent.specs.States.{IsReady}
+use Rattle.soar_agent.specs.declared.state.Session.{Session as SessionKept}
 
--- ---- a table with more words
+-- ---- words join the table, each text once
 
-symbols_stay : (old new : Texts) (symbols : List Sym) → length old ≤ length new → AreKnown old symbols → AreKnown new symbols
-symbols_stay old new [] more known = tt
-symbols_stay old new (s ∷ symbols) more known = (symbol_stays old new s more known.0, symbols_stay old new symbols more known.1)
+once_there : (p : PartsKept) → IsOfLawful p → EachOnce p.table
+once_there p lawful = subst EachOnce (sym lawful.stands.words) lawful.lawful.founded.symbols.once
 
-rules_stay : (old new : Texts) (rules : List RuleOf) → length old ≤ length new → AreRulesKnown old rules → AreRulesKnown new rules
-rules_stay old new [] more known = tt
-rules_stay old new (rule ∷ rules) more known = (symbols_stay old new (symbols_of rule.production) more known.0, rules_stay old new rules more known.1)
-
-rows_stay : (old new : Texts) (rows : List Preference) → length old ≤ length new → AreRowsKnown old rows → AreRowsKnown new rows
-rows_stay old new [] more known = tt
-rows_stay old new (row ∷ rows) more known = (symbols_stay old new (symbols_of_wish row.wish) more known.0, rows_stay old new rows more known.1)
-
-live_stays : (old new : Texts) (live : List LiveFiring) → length old ≤ length new → AreLiveKnown old live → AreLiveKnown new live
-live_stays old new [] more known = tt
-live_stays old new (l ∷ live) more known = (symbol_stays old new l.name more known.0, live_stays old new live more known.1)
-
-pub ready_read : (a : AgentSeen) (table : Texts) → length a.parts.table ≤ length table → IsReady a → IsReady (with_table a table)
-ready_read a table more ready =
-    let sound : IsSound a.parts = ready.1 in (
-      ready.0,
-      record {
-        goals_some = sound.goals_some;
-        goals_few = sound.goals_few;
-        goals_known = goals_grown a.parts.table table a.parts.letters a.parts.letters a.parts.goals more (λ letter. omega arith) sound.goals_known;
-        depends_fit = sound.depends_fit;
-        element_limit = sound.element_limit;
-        row_limit = sound.row_limit;
-        few_rows = sound.few_rows;
-        rows_in_range = sound.rows_in_range;
-        rows_of_firings = sound.rows_of_firings;
-        makers_of_firings = sound.makers_of_firings;
-        recorded_up_to = sound.recorded_up_to;
-        makers_earlier = sound.makers_earlier;
-        first_words = omega (arith, more, sound.first_words);
-        top_numbered = sound.top_numbered;
-        numbered = sound.numbered;
-        numbers_given = sound.numbers_given;
-        none_learned = sound.none_learned;
-        rules_known = rules_stay a.parts.table table (map rule_seen a.parts.rules) more sound.rules_known;
-        elements_known = elements_grown a.parts.table table a.parts.memory.elements more sound.elements_known;
-        rows_known = rows_stay a.parts.table table a.parts.prefs.rows more sound.rows_known;
-        inputs_known = triples_grown a.parts.table table a.parts.inputs more sound.inputs_known;
-        queue_known = triples_grown a.parts.table table (map triple_queued a.parts.queue) more sound.queue_known;
-        output_known = triples_grown a.parts.table table a.parts.output more sound.output_known;
-        live_known = live_stays a.parts.table table (map live_seen a.parts.live) more sound.live_known;
-      },
-    )
+-- the table is that of a command that was read
+pub ready_read : ReadsLawfully read_whole → {M : Type 0} (s : SessionKept M) (table words : Texts) (text : List ℕ) → table ≡ s.agent.parts.table → (read_whole table text).words ≡ words → IsReady s → IsReady (with_table words s)
+ready_read reads s table words text same is ready =
+    let old : Texts = s.agent.parts.table in
+    let grown : Grown old words = subst (λ t. Grown t words) same (subst (Grown table) is (reads.grown table text)) in
+    let once : EachOnce words = subst EachOnce is (reads.once table text (subst EachOnce (sym same) (once_there s.agent.parts ready.2))) in
+    let both = sound_with_table s.agent words grown once (λ stands. (ready.1, ready.2)) ready.0 in (ready.0, both.0, both.1, ready.3)
 
 -- what is remembered is in no word
-pub remembers_read : (a : AgentSeen) (table : Texts) (history : List RecordedFiring) → Remembers a.parts history → Remembers (with_table a table).parts history
-remembers_read a table history r = record { firings_are = r.firings_are; depends_are = r.depends_are; goals_numbered = r.goals_numbered }
+pub remembers_read : (a : AgentSeen) (table : Texts) (history : List RecordedFiring) → Remembers a.parts history → Remembers (agent_with_table a table).parts history
+remembers_read a table history r = remembers_same a.parts (agent_with_table a table).parts history refl refl refl refl r
+
+-- ---- orders
+
+-- an order that was read is lawful
+pub order_read : ReadsLawfully read_whole → (p : PartsKept) (table words : Texts) (text : List ℕ) (order : Order) → table ≡ p.table → IsSound p → (read_whole table text).words ≡ words → (read_whole table text).order ≡ Ok order
+    → IsLawfulOrder words order
+order_read reads p table words text order same sound is ordered =
+    subst (λ w. IsLawfulOrder w order) is (reads.orders table text order (subst (λ t. 24 ≤ length t) (sym same) sound.first_words) ordered)
+
+pub may_be_loaded : (words : Texts) (order : OrderRead) (production : Production) → order ≡ read.Load production → IsLawfulOrder words (order_seen order) → MayBeLoaded words (production_seen production)
+may_be_loaded words order production is lawful =
+    let may = subst (λ o. IsLawfulOrder words (order_seen o)) is lawful in record { checked = may.checked; literal = may.literal }
 
 -- ---- the element of a tag
 

@@ -6,7 +6,7 @@ use Rattle.defs_soar.specs.Phases.{Course}
 use Rattle.defs_soar.specs.Trace.{line_text}
 use Rattle.defs_run.specs.Carrying.{followed}
 use Rattle.defs_run.specs.Inputs.{Carried}
-use Rattle.defs_run.specs.Present.{run_present}
+use Rattle.soar_agent.specs.Running.{run_learning}
 use Rattle.defs_run.specs.Runs.{replied_by}
 use Rattle.defs_run.specs.Orders.{Refusal, unfinished_command, no_file, sources_too_deep, too_many_files}
 use Rattle.defs_run.specs.Sessions.{Session, Reply, goes_on, sources, quits}
@@ -38,11 +38,11 @@ pub record IsSame (watch : ℕ) (first second : Reply) : Type 0 where
 pub record AsksToRun {M : Type 0} (watch : ℕ) (mid : Bool) (reply : Reply) (new : SessionKept M) (before after : List ℕ) (count : ℕ) : Type 0 where
   pub history : List RecordedFiring
   pub remembers : Remembers new.agent.parts history
-  pub comes : IsSame watch reply (followed (session_of new history) (run_present count (agent_of new.agent.parts history)))
+  pub comes : IsSame watch reply (followed (session_of new history) (run_learning count (agent_of new.agent.parts history)))
   pub text : after ≡ before
   pub mid_line : new.agent.mid_line ≡ mid
   pub settings : new.agent.parts.settings.watch ≡ watch
-  pub kept : IsReady new.agent
+  pub kept : IsReady new
 
 -- each answer, exactly where it comes, with what follows the command; only want of memory is free
 abbrev pub Outcomes : {M : Type 0} → ℕ → Bool → Reply → SessionKept M → List ℕ → List ℕ → Result Outcome Stop → Type 0

@@ -1,11 +1,14 @@
 pub mod Adding
-pub mod Built
+pub mod Alone
 pub mod Carries
 pub mod Commands
 pub mod Counting
+pub mod Explaining
 pub mod Labels
+pub mod Numbered
 pub mod Queueing
 pub mod Restarting
+pub mod Running
 pub mod States
 pub mod Steps
 pub mod Telling

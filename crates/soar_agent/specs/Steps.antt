@@ -23,7 +23,7 @@ pub record Replied {M : Type 0} (watch : ℕ) (mid : Bool) (reply : Reply) (new 
   pub within : limit_told reply.told ≡ None
   pub text : after ≡ before ++ (written_of watch mid reply).text
   pub refused : answer ≡ reply.refused
-  pub kept : IsReady new.agent
+  pub kept : IsReady new
 
 -- the limit is the first that the step passes, and what it did before was appended
 pub record Stops {M : Type 0} (watch : ℕ) (mid : Bool) (reply : Reply) (new : SessionKept M) (before after : List ℕ) (limit : Which) : Type 0 where

@@ -5,12 +5,13 @@ ghost use Rattle.defs_soar.specs.History.{RecordedFiring};
 ghost use Rattle.defs_run.specs.Carrying.{carried_out};
 ghost use Rattle.defs_run.specs.Inputs.{added, first_unknown, spelled};
 ghost use Rattle.defs_run.specs.Orders.{add_wme};
-ghost use Rattle.defs_run.specs.Present.{run_present};
+ghost use Rattle.soar_agent.specs.Running.{run_learning};
 ghost use Rattle.soar_cmd.specs.Asked.{operand_seen};
 ghost use Rattle.soar_cmd.specs.Known.{IsAdditionKnown, IsOperandKnown};
 ghost use Rattle.cycle_parts.specs.Calls.{IsTripleKnown};
 ghost use Rattle.soar_agent.specs.Adding.{adds_at_top, adds_by, adds_labelled, adds_to, adds_triple, makes_labelled};
 ghost use Rattle.soar_agent.specs.Carries.{Carries, Replies};
+ghost use Rattle.soar_agent.specs.Numbered.{IsOperandNumbered, IsSlotNumbered, IsTripleNumbered};
 ghost use Rattle.soar_agent.specs.States.{IsReady, session_of};
 
 use crate::state::Session;
@@ -29,11 +30,11 @@ impl<M: Matcher> Session<M> {
         addition: Addition,
         out: &mut Text,
     ) -> Result<bool, Stop>
-        requires ready { IsReady self.old.agent }
+        requires ready { IsReady self.old }
         requires known { IsAdditionKnown self.old.agent.parts.table addition }
         ensures reply { Carries self.old self.new origin.now.source.now origin.now.line
-            (carried_out run_present (add_wme (operand_seen addition.id) (operand_seen addition.attr) (operand_seen addition.value))) out.old out.new result }
-        ensures ready { IfOk result (λ _. IsReady self.new.agent) }
+            (carried_out run_learning (add_wme (operand_seen addition.id) (operand_seen addition.attr) (operand_seen addition.value))) out.old out.new result }
+        ensures ready { IfOk result (λ _. IsReady self.new) }
     {
         match self.lookup(out.allocator()).first_unknown(true, &addition)? {
             Some(text) => self.refuse_with(origin, &Reason::UnknownIdentifier(text.as_str()), out),
@@ -48,13 +49,13 @@ impl<M: Matcher> Session<M> {
         addition: Addition,
         out: &mut Text,
     ) -> Result<bool, Stop>
-        requires ready { IsReady self.old.agent }
+        requires ready { IsReady self.old }
         requires known { IsAdditionKnown self.old.agent.parts.table addition }
         requires given { (history : ListOf RecordedFiring) →
             first_unknown true (session_of self.old history) (operand_seen addition.id) (operand_seen addition.attr) (operand_seen addition.value) ≡ None }
         ensures reply { Carries self.old self.new origin.now.source.now origin.now.line
             (λ s. added (spelled s (operand_seen addition.id) (operand_seen addition.attr) (operand_seen addition.value))) out.old out.new result }
-        ensures ready { IfOk result (λ _. IsReady self.new.agent) }
+        ensures ready { IfOk result (λ _. IsReady self.new) }
     {
         let id = self.resolve(addition.id)?;
         let attr = self.resolve(addition.attr)?;
@@ -69,12 +70,14 @@ impl<M: Matcher> Session<M> {
         value: Operand,
         out: &mut Text,
     ) -> Result<bool, Stop>
-        requires ready { IsReady self.old.agent }
+        requires ready { IsReady self.old }
         requires id { IsKnown self.old.agent.parts.table slot.id }
         requires attr { IsKnown self.old.agent.parts.table slot.attr }
         requires value { IsOperandKnown self.old.agent.parts.table value }
+        requires slot_numbered { IsSlotNumbered self.old.agent.parts.letters slot }
+        requires value_numbered { IsOperandNumbered self.old.agent.parts.letters value }
         ensures reply { Carries self.old self.new origin.now.source.now origin.now.line (adds_at_top slot.id slot.attr (operand_seen value)) out.old out.new result }
-        ensures ready { IfOk result (λ _. IsReady self.new.agent) }
+        ensures ready { IfOk result (λ _. IsReady self.new) }
     {
         let at_top = self.lookup(out.allocator()).is_top_level(slot.id)?;
         if at_top {
@@ -92,12 +95,14 @@ impl<M: Matcher> Session<M> {
         value: Operand,
         out: &mut Text,
     ) -> Result<bool, Stop>
-        requires ready { IsReady self.old.agent }
+        requires ready { IsReady self.old }
         requires id { IsKnown self.old.agent.parts.table slot.id }
         requires attr { IsKnown self.old.agent.parts.table slot.attr }
         requires value { IsOperandKnown self.old.agent.parts.table value }
+        requires slot_numbered { IsSlotNumbered self.old.agent.parts.letters slot }
+        requires value_numbered { IsOperandNumbered self.old.agent.parts.letters value }
         ensures reply { Carries self.old self.new origin.now.source.now origin.now.line (adds_to slot.id slot.attr (operand_seen value)) out.old out.new result }
-        ensures ready { IfOk result (λ _. IsReady self.new.agent) }
+        ensures ready { IfOk result (λ _. IsReady self.new) }
     {
         if is_operator_slot(self.agent.goals().as_slice(), slot.id, slot.attr) {
             self.refuse_with(origin, &Reason::ReservedAttribute, out)
@@ -114,12 +119,14 @@ impl<M: Matcher> Session<M> {
         value: Operand,
         out: &mut Text,
     ) -> Result<bool, Stop>
-        requires ready { IsReady self.old.agent }
+        requires ready { IsReady self.old }
         requires id { IsKnown self.old.agent.parts.table slot.id }
         requires attr { IsKnown self.old.agent.parts.table slot.attr }
         requires value { IsOperandKnown self.old.agent.parts.table value }
+        requires slot_numbered { IsSlotNumbered self.old.agent.parts.letters slot }
+        requires value_numbered { IsOperandNumbered self.old.agent.parts.letters value }
         ensures reply { Carries self.old self.new origin.now.source.now origin.now.line (adds_by slot.id slot.attr (operand_seen value)) out.old out.new result }
-        ensures ready { IfOk result (λ _. IsReady self.new.agent) }
+        ensures ready { IfOk result (λ _. IsReady self.new) }
     {
         match value {
             Operand::Symbol(value) => self.add_triple(origin, slot.with(value), out),
@@ -137,10 +144,11 @@ impl<M: Matcher> Session<M> {
         triple: Triple,
         out: &mut Text,
     ) -> Result<bool, Stop>
-        requires ready { IsReady self.old.agent }
+        requires ready { IsReady self.old }
         requires known { IsTripleKnown self.old.agent.parts.table triple }
+        requires numbered { IsTripleNumbered self.old.agent.parts.letters triple }
         ensures reply { Carries self.old self.new origin.now.source.now origin.now.line (adds_triple triple) out.old out.new result }
-        ensures ready { IfOk result (λ _. IsReady self.new.agent) }
+        ensures ready { IfOk result (λ _. IsReady self.new) }
     {
         match self.agent.memory().find(triple) {
             Some(tag) => self.refuse_with(origin, &Reason::AlreadyThere(tag), out),
@@ -156,11 +164,12 @@ impl<M: Matcher> Session<M> {
         name: Text,
         out: &mut Text,
     ) -> Result<bool, Stop>
-        requires ready { IsReady self.old.agent }
+        requires ready { IsReady self.old }
         requires id { IsKnown self.old.agent.parts.table slot.id }
         requires attr { IsKnown self.old.agent.parts.table slot.attr }
+        requires slot_numbered { IsSlotNumbered self.old.agent.parts.letters slot }
         ensures reply { Carries self.old self.new origin.now.source.now origin.now.line (adds_labelled slot.id slot.attr name) out.old out.new result }
-        ensures ready { IfOk result (λ _. IsReady self.new.agent) }
+        ensures ready { IfOk result (λ _. IsReady self.new) }
     {
         match self
             .lookup(out.allocator())
@@ -173,11 +182,12 @@ impl<M: Matcher> Session<M> {
 
     /// Makes a label, and puts the triple with it behind the inputs.
     fn put_labelled(&mut self, slot: Slot, name: Text, out: &mut Text) -> Result<bool, Stop>
-        requires ready { IsReady self.old.agent }
+        requires ready { IsReady self.old }
         requires id { IsKnown self.old.agent.parts.table slot.id }
         requires attr { IsKnown self.old.agent.parts.table slot.attr }
+        requires slot_numbered { IsSlotNumbered self.old.agent.parts.letters slot }
         ensures reply { Replies self.old self.new (makes_labelled slot.id slot.attr name) out.old out.new result }
-        ensures ready { IfOk result (λ _. IsReady self.new.agent) }
+        ensures ready { IfOk result (λ _. IsReady self.new) }
     {
         match self.make_label(name) {
             Ok(value) => self.change_inputs(true, slot.with(value), out),

@@ -3,7 +3,7 @@ ghost use Rattle.std.specs.Prelude.{IfOk};
 ghost use Rattle.soar_sym.specs.Words.{IsKnown};
 ghost use Rattle.defs_run.specs.Carrying.{carried_out, excised};
 ghost use Rattle.defs_run.specs.Orders.{excise};
-ghost use Rattle.defs_run.specs.Present.{run_present};
+ghost use Rattle.soar_agent.specs.Running.{run_learning};
 ghost use Rattle.soar_agent.specs.Carries.{Carries, RepliesNothing};
 ghost use Rattle.soar_agent.specs.States.{IsReady};
 
@@ -16,10 +16,10 @@ use soar_sym::{Sym, Text};
 impl<M: Matcher> Session<M> {
     /// Takes the production of a name away, where one is loaded.
     pub fn excise(&mut self, origin: &Origin<'_>, name: Sym, out: &mut Text) -> Result<bool, Stop>
-        requires ready { IsReady self.old.agent }
+        requires ready { IsReady self.old }
         requires known { IsKnown self.old.agent.parts.table name }
-        ensures reply { Carries self.old self.new origin.now.source.now origin.now.line (carried_out run_present (excise name)) out.old out.new result }
-        ensures ready { IfOk result (λ _. IsReady self.new.agent) }
+        ensures reply { Carries self.old self.new origin.now.source.now origin.now.line (carried_out run_learning (excise name)) out.old out.new result }
+        ensures ready { IfOk result (λ _. IsReady self.new) }
     {
         let loaded = rule_named(self.agent.rules().as_slice(), name).is_some();
         if loaded {
@@ -31,9 +31,9 @@ impl<M: Matcher> Session<M> {
 
     /// Takes the productions of a name away.
     fn take_away(&mut self, name: Sym) -> Result<bool, Stop>
-        requires { IsReady self.old.agent }
+        requires { IsReady self.old }
         ensures reply { RepliesNothing self.old self.new (excised name) result }
-        ensures ready { IfOk result (λ _. IsReady self.new.agent) }
+        ensures ready { IfOk result (λ _. IsReady self.new) }
     {
         self.agent.excise(name);
         Ok(false)

@@ -3,6 +3,7 @@ ghost use Rattle.std.specs.Prelude.{IfOk};
 ghost use Rattle.defs_run.specs.Inputs.{with_inputs};
 ghost use Rattle.cycle_parts.specs.Calls.{IsTripleKnown, with_input};
 ghost use Rattle.soar_agent.specs.Carries.{Replies};
+ghost use Rattle.soar_agent.specs.Numbered.{IsTripleNumbered};
 ghost use Rattle.soar_agent.specs.States.{IsReady};
 
 use crate::state::Session;
@@ -18,10 +19,11 @@ impl<M: Matcher> Session<M> {
         triple: Triple,
         out: &mut Text,
     ) -> Result<bool, Stop>
-        requires ready { IsReady self.old.agent }
+        requires ready { IsReady self.old }
         requires known { IsTripleKnown self.old.agent.parts.table triple }
+        requires numbered { IsTripleNumbered self.old.agent.parts.letters triple }
         ensures reply { Replies self.old self.new (with_inputs (with_input adds triple self.old.agent.parts.inputs)) out.old out.new result }
-        ensures ready { IfOk result (λ _. IsReady self.new.agent) }
+        ensures ready { IfOk result (λ _. IsReady self.new) }
     {
         match self.agent.input_now(adds, triple, out) {
             Ok(()) => Ok(false),

@@ -3,6 +3,7 @@
 
 mod adding;
 mod excising;
+mod explaining;
 mod inputs;
 mod labels;
 mod listing;

@@ -5,7 +5,7 @@ ghost use Rattle.soar_wm.specs.WorkingMemory.{elements_of};
 ghost use Rattle.defs_run.specs.Carrying.{carried_out, lists_elements};
 ghost use Rattle.defs_run.specs.Listing.{conflict_lines, element_lines};
 ghost use Rattle.defs_run.specs.Orders.{matches_of, print_id, print_name};
-ghost use Rattle.defs_run.specs.Present.{run_present};
+ghost use Rattle.soar_agent.specs.Running.{run_learning};
 ghost use Rattle.defs_run.specs.Sessions.{says};
 ghost use Rattle.soar_cmd.specs.Asked.{operand_seen};
 ghost use Rattle.soar_cmd.specs.Known.{IsOperandKnown};
@@ -23,9 +23,9 @@ use soar_sym::{Sym, Text};
 impl<M: Matcher> Session<M> {
     /// Says the conflict set.
     pub fn list_matches(&mut self, out: &mut Text) -> Result<bool, Stop>
-        requires { IsReady self.old.agent }
+        requires { IsReady self.old }
         ensures reply { Replies self.old self.new (λ s. says s (conflict_lines s.agent)) out.old out.new result }
-        ensures ready { IfOk result (λ _. IsReady self.new.agent) }
+        ensures ready { IfOk result (λ _. IsReady self.new) }
     {
         // an agent that stands for a state meets no limit here
         let Ok(instances) = self.agent.conflict() else {
@@ -50,10 +50,10 @@ impl<M: Matcher> Session<M> {
         name: Sym,
         out: &mut Text,
     ) -> Result<bool, Stop>
-        requires ready { IsReady self.old.agent }
+        requires ready { IsReady self.old }
         requires known { IsKnown self.old.agent.parts.table name }
-        ensures reply { Carries self.old self.new origin.now.source.now origin.now.line (carried_out run_present (matches_of name)) out.old out.new result }
-        ensures ready { IfOk result (λ _. IsReady self.new.agent) }
+        ensures reply { Carries self.old self.new origin.now.source.now origin.now.line (carried_out run_learning (matches_of name)) out.old out.new result }
+        ensures ready { IfOk result (λ _. IsReady self.new) }
     {
         // an agent that stands for a state meets no limit here
         let Ok(instances) = self.agent.conflict() else {
@@ -83,10 +83,10 @@ impl<M: Matcher> Session<M> {
         id: Operand,
         out: &mut Text,
     ) -> Result<bool, Stop>
-        requires ready { IsReady self.old.agent }
+        requires ready { IsReady self.old }
         requires known { IsOperandKnown self.old.agent.parts.table id }
-        ensures reply { Carries self.old self.new origin.now.source.now origin.now.line (carried_out run_present (print_id (operand_seen id))) out.old out.new result }
-        ensures ready { IfOk result (λ _. IsReady self.new.agent) }
+        ensures reply { Carries self.old self.new origin.now.source.now origin.now.line (carried_out run_learning (print_id (operand_seen id))) out.old out.new result }
+        ensures ready { IfOk result (λ _. IsReady self.new) }
     {
         match self.lookup(out.allocator()).unknown_in(&id)? {
             Some(text) => self.refuse_with(origin, &Reason::UnknownIdentifier(text.as_str()), out),
@@ -95,10 +95,10 @@ impl<M: Matcher> Session<M> {
     }
 
     fn list_given(&mut self, id: Operand, out: &mut Text) -> Result<bool, Stop>
-        requires ready { IsReady self.old.agent }
+        requires ready { IsReady self.old }
         requires known { IsOperandKnown self.old.agent.parts.table id }
         ensures reply { Replies self.old self.new (λ s. lists_elements s (operand_seen id)) out.old out.new result }
-        ensures ready { IfOk result (λ _. IsReady self.new.agent) }
+        ensures ready { IfOk result (λ _. IsReady self.new) }
     {
         match self.resolve(id) {
             Ok(symbol) => self.list_symbol(symbol, out),
@@ -107,9 +107,9 @@ impl<M: Matcher> Session<M> {
     }
 
     fn list_symbol(&mut self, id: Sym, out: &mut Text) -> Result<bool, Stop>
-        requires { IsReady self.old.agent }
+        requires { IsReady self.old }
         ensures reply { Replies self.old self.new (λ s. says s (element_lines s.agent.names.words (elements_of id s.agent.holding.elements))) out.old out.new result }
-        ensures ready { IfOk result (λ _. IsReady self.new.agent) }
+        ensures ready { IfOk result (λ _. IsReady self.new) }
     {
         let agent = &self.agent;
         let mut mid_line = agent.mid_line();
@@ -125,10 +125,10 @@ impl<M: Matcher> Session<M> {
         name: Sym,
         out: &mut Text,
     ) -> Result<bool, Stop>
-        requires ready { IsReady self.old.agent }
+        requires ready { IsReady self.old }
         requires known { IsKnown self.old.agent.parts.table name }
-        ensures reply { Carries self.old self.new origin.now.source.now origin.now.line (carried_out run_present (print_name name)) out.old out.new result }
-        ensures ready { IfOk result (λ _. IsReady self.new.agent) }
+        ensures reply { Carries self.old self.new origin.now.source.now origin.now.line (carried_out run_learning (print_name name)) out.old out.new result }
+        ensures ready { IfOk result (λ _. IsReady self.new) }
     {
         match rule_named(self.agent.rules().as_slice(), name) {
             Some(rule) => {

@@ -5,6 +5,7 @@ ghost use Rattle.soar_rule.specs.Productions.{production_seen};
 ghost use Rattle.soar_rule.specs.Symbols.{AreKnown, symbols_of};
 ghost use Rattle.defs_run.specs.Carrying.{loaded};
 ghost use Rattle.defs_soar.specs.Pending.{is_justification};
+ghost use Rattle.cycle_parts.specs.Calls.{MayBeLoaded};
 ghost use Rattle.soar_agent.specs.Carries.{RepliesNothing};
 ghost use Rattle.soar_agent.specs.States.{IsReady};
 
@@ -16,12 +17,13 @@ use soar_rule::Production;
 impl<M: Matcher> Session<M> {
     /// Loads a production under the next rule number, in the place of that of its name.
     pub fn load(&mut self, production: Production) -> Result<bool, Stop>
-        requires ready { IsReady self.old.agent }
+        requires ready { IsReady self.old }
         requires known { AreKnown self.old.agent.parts.table (symbols_of (production_seen production)) }
         requires unlearned { is_justification production.kind ≡ false }
         requires matchable { can_be_matched (production_seen production) ≡ true }
+        requires may_be_loaded { MayBeLoaded self.old.agent.parts.table (production_seen production) }
         ensures reply { RepliesNothing self.old self.new (loaded (production_seen production)) result }
-        ensures ready { IfOk result (λ _. IsReady self.new.agent) }
+        ensures ready { IfOk result (λ _. IsReady self.new) }
     {
         match self.agent.load(production) {
             Ok(()) => Ok(false),

@@ -1,16 +1,18 @@
 // Orders that ask nothing of the caller.
 ghost use Rattle.std.specs.Prelude.{IfOk};
+ghost use Rattle.defs_run.specs.Carrying.{carried_out};
+ghost use Rattle.loading_laws.specs.Orders.{IsLawfulOrder};
 ghost use Rattle.soar_cmd.specs.Asked.{order_seen};
 ghost use Rattle.soar_cmd.specs.Known.{IsOrderKnown};
-ghost use Rattle.soar_agent.specs.Built.{IsAlone, IsLooking, carried_built};
+ghost use Rattle.soar_agent.specs.Alone.{IsAlone, IsLooking};
 ghost use Rattle.soar_agent.specs.Carries.{Carries};
+ghost use Rattle.soar_agent.specs.Running.{run_learning};
 ghost use Rattle.soar_agent.specs.States.{IsReady};
 
 use crate::state::Session;
 use defs_match::Matcher;
 use defs_run::Order;
-use session_parts::{Origin, Reason};
-use soar_cmd::Shown;
+use session_parts::Origin;
 use soar_cycle::Stop;
 use soar_sym::Text;
 
@@ -22,11 +24,12 @@ impl<M: Matcher> Session<M> {
         order: Order,
         out: &mut Text,
     ) -> Result<bool, Stop>
-        requires ready { IsReady self.old.agent }
+        requires ready { IsReady self.old }
         requires known { IsOrderKnown self.old.agent.parts.table order }
+        requires lawful { IsLawfulOrder self.old.agent.parts.table (order_seen order) }
         requires alone { IsAlone (order_seen order) }
-        ensures reply { Carries self.old self.new origin.now.source.now origin.now.line (carried_built (order_seen order)) out.old out.new result }
-        ensures ready { IfOk result (λ _. IsReady self.new.agent) }
+        ensures reply { Carries self.old self.new origin.now.source.now origin.now.line (carried_out run_learning (order_seen order)) out.old out.new result }
+        ensures ready { IfOk result (λ _. IsReady self.new) }
     {
         match order {
             Order::Load(production) => self.load(production),
@@ -37,6 +40,7 @@ impl<M: Matcher> Session<M> {
             Order::Random(words) => self.put_random(&words),
             Order::InitSoar => self.restart(out.allocator()),
             Order::Watch(watch) => self.set_watch(watch),
+            Order::Chunk(on) => self.set_learning(on),
             Order::LocalNegations(on) => self.set_local_negations(on),
             Order::SelectBy(mode) => self.set_mode(mode),
             Order::MaxElaborations(count) => self.set_max_elaborations(count),
@@ -46,11 +50,11 @@ impl<M: Matcher> Session<M> {
 
     /// Says what an order asks for that looks at the agent.
     fn list(&mut self, origin: &Origin<'_>, order: Order, out: &mut Text) -> Result<bool, Stop>
-        requires ready { IsReady self.old.agent }
+        requires ready { IsReady self.old }
         requires known { IsOrderKnown self.old.agent.parts.table order }
         requires looks { IsLooking (order_seen order) }
-        ensures reply { Carries self.old self.new origin.now.source.now origin.now.line (carried_built (order_seen order)) out.old out.new result }
-        ensures ready { IfOk result (λ _. IsReady self.new.agent) }
+        ensures reply { Carries self.old self.new origin.now.source.now origin.now.line (carried_out run_learning (order_seen order)) out.old out.new result }
+        ensures ready { IfOk result (λ _. IsReady self.new) }
     {
         match order {
             Order::Matches => self.list_matches(out),
@@ -60,8 +64,10 @@ impl<M: Matcher> Session<M> {
             Order::Show(name) => self.show_rule(origin, name, out),
             Order::PrintMemory => self.list_memory(out),
             Order::PrintRules => self.list_productions(out),
+            Order::PrintChunks => self.list_learned(out),
+            Order::Explain(name) => self.explain(origin, name, out),
             Order::Stats => self.list_counts(out),
-            _ => self.refuse_with(origin, &Reason::Read(10, Shown::Nothing), out),
+            _ => unreachable!(),
         }
     }
 }

@@ -3,7 +3,7 @@ ghost use Rattle.std.specs.Prelude.{◌≡◌, List as ListOf, IfOk};
 ghost use Rattle.defs_run.specs.Carrying.{carried_out};
 ghost use Rattle.defs_run.specs.Inputs.{queued, spelled, with_queued, with_random};
 ghost use Rattle.defs_run.specs.Orders.{queue};
-ghost use Rattle.defs_run.specs.Present.{run_present};
+ghost use Rattle.soar_agent.specs.Running.{run_learning};
 ghost use Rattle.defs_soar.specs.History.{RecordedFiring};
 ghost use Rattle.wave_parts.specs.Remembers.{Remembers};
 ghost use Rattle.soar_cmd.specs.Asked.{operand_seen};
@@ -11,6 +11,7 @@ ghost use Rattle.soar_cmd.specs.Known.{IsAdditionKnown};
 ghost use Rattle.cycle_parts.specs.Calls.{IsTripleKnown};
 ghost use Rattle.soar_agent.specs.Carries.{Carries, RepliesNothing};
 ghost use Rattle.soar_agent.specs.Labels.{Spells};
+ghost use Rattle.soar_agent.specs.Numbered.{IsAdditionNumbered, IsTripleNumbered};
 ghost use Rattle.soar_agent.specs.Queueing.{queues_triple};
 ghost use Rattle.soar_agent.specs.States.{IsReady, session_of};
 
@@ -30,11 +31,11 @@ impl<M: Matcher> Session<M> {
         addition: Addition,
         out: &mut Text,
     ) -> Result<bool, Stop>
-        requires ready { IsReady self.old.agent }
+        requires ready { IsReady self.old }
         requires known { IsAdditionKnown self.old.agent.parts.table addition }
         ensures reply { Carries self.old self.new origin.now.source.now origin.now.line
-            (carried_out run_present (queue adds (operand_seen addition.id) (operand_seen addition.attr) (operand_seen addition.value))) out.old out.new result }
-        ensures ready { IfOk result (λ _. IsReady self.new.agent) }
+            (carried_out run_learning (queue adds (operand_seen addition.id) (operand_seen addition.attr) (operand_seen addition.value))) out.old out.new result }
+        ensures ready { IfOk result (λ _. IsReady self.new) }
     {
         match self
             .lookup(out.allocator())
@@ -53,11 +54,12 @@ impl<M: Matcher> Session<M> {
         addition: Addition,
         out: &mut Text,
     ) -> Result<bool, Stop>
-        requires ready { IsReady self.old.agent }
+        requires ready { IsReady self.old }
         requires known { IsAdditionKnown self.old.agent.parts.table addition }
+        requires numbered { IsAdditionNumbered self.old.agent.parts.letters addition }
         ensures reply { Carries self.old self.new origin.now.source.now origin.now.line
             (λ s. queued adds (spelled s (operand_seen addition.id) (operand_seen addition.attr) (operand_seen addition.value))) out.old out.new result }
-        ensures ready { IfOk result (λ _. IsReady self.new.agent) }
+        ensures ready { IfOk result (λ _. IsReady self.new) }
     {
         if self.lookup(out.allocator()).is_reserved(&addition) {
             self.refuse_with(origin, &Reason::ReservedAttribute, out)
@@ -68,11 +70,12 @@ impl<M: Matcher> Session<M> {
 
     /// Queues a change, and makes its labels.
     fn queue_spelled(&mut self, adds: bool, addition: Addition) -> Result<bool, Stop>
-        requires ready { IsReady self.old.agent }
+        requires ready { IsReady self.old }
         requires known { IsAdditionKnown self.old.agent.parts.table addition }
+        requires numbered { IsAdditionNumbered self.old.agent.parts.letters addition }
         ensures reply { RepliesNothing self.old self.new
             (λ s. with_queued adds (spelled s (operand_seen addition.id) (operand_seen addition.attr) (operand_seen addition.value))) result }
-        ensures ready { IfOk result (λ _. IsReady self.new.agent) }
+        ensures ready { IfOk result (λ _. IsReady self.new) }
     {
         match self.spell(addition) {
             Ok(triple) => self.put_queued(adds, triple),
@@ -82,12 +85,14 @@ impl<M: Matcher> Session<M> {
 
     /// The triple of three operands.
     fn spell(&mut self, addition: Addition) -> Result<Triple, Stop>
-        requires ready { IsReady self.old.agent }
+        requires ready { IsReady self.old }
         requires known { IsAdditionKnown self.old.agent.parts.table addition }
+        requires numbered { IsAdditionNumbered self.old.agent.parts.letters addition }
         ensures triple { (history : ListOf RecordedFiring) → Remembers self.old.agent.parts history →
             Spells self.new (spelled (session_of self.old history) (operand_seen addition.id) (operand_seen addition.attr) (operand_seen addition.value)) history result }
         ensures known { IfOk result (λ triple. IsTripleKnown self.new.agent.parts.table triple) }
-        ensures ready { IfOk result (λ _. IsReady self.new.agent) }
+        ensures numbered { IfOk result (λ triple. IsTripleNumbered self.new.agent.parts.letters triple) }
+        ensures ready { IfOk result (λ _. IsReady self.new) }
         ensures mid_line { self.new.agent.mid_line ≡ self.old.agent.mid_line }
     {
         let id = self.resolve(addition.id)?;
@@ -98,10 +103,11 @@ impl<M: Matcher> Session<M> {
 
     /// Queues a change of symbols that there are.
     fn put_queued(&mut self, adds: bool, triple: Triple) -> Result<bool, Stop>
-        requires ready { IsReady self.old.agent }
+        requires ready { IsReady self.old }
         requires known { IsTripleKnown self.old.agent.parts.table triple }
+        requires numbered { IsTripleNumbered self.old.agent.parts.letters triple }
         ensures reply { RepliesNothing self.old self.new (queues_triple adds triple) result }
-        ensures ready { IfOk result (λ _. IsReady self.new.agent) }
+        ensures ready { IfOk result (λ _. IsReady self.new) }
     {
         match self.agent.queue(adds, triple) {
             Ok(()) => Ok(false),
@@ -111,9 +117,9 @@ impl<M: Matcher> Session<M> {
 
     /// Puts random words behind those that wait for draws.
     pub fn put_random(&mut self, words: &List<u64>) -> Result<bool, Stop>
-        requires { IsReady self.old.agent }
+        requires { IsReady self.old }
         ensures reply { RepliesNothing self.old self.new (with_random words.now) result }
-        ensures ready { IfOk result (λ _. IsReady self.new.agent) }
+        ensures ready { IfOk result (λ _. IsReady self.new) }
     {
         match self.agent.random(words) {
             Ok(()) => Ok(false),

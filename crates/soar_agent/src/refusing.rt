@@ -25,11 +25,11 @@ impl<M: Matcher> Session<M> {
         reason: &Reason<'_>,
         out: &mut Text,
     ) -> Result<bool, Stop>
-        requires ready { IsReady self.old.agent }
+        requires ready { IsReady self.old }
         requires known { IsReasonKnown self.old.agent.parts.table reason.now }
         ensures settings { self.new.agent.parts.settings ≡ self.old.agent.parts.settings }
         ensures reply { Replies self.old self.new (refused_by (refusal_by self.old.agent.parts.table reason.now) origin.now.source.now origin.now.line) out.old out.new result }
-        ensures ready { IfOk result (λ _. IsReady self.new.agent) }
+        ensures ready { IfOk result (λ _. IsReady self.new) }
     {
         let mut mid_line = self.agent.mid_line();
         say_refusal(self.agent.symbols(), origin, reason, out, &mut mid_line)?;
@@ -75,11 +75,11 @@ impl<M: Matcher> Session<M> {
         text: &mut Text,
     ) -> Result<(), Stop>
         requires number { IsToldByCaller number }
-        requires ready { IsReady self.old.agent }
+        requires ready { IsReady self.old }
         ensures refused { (history : ListOf RecordedFiring) → Remembers self.old.agent.parts history → let s = session_of self.old history in
             RefusesTold s (refused_by (refusal_told number name.now) source.now line s) self.new text.old text.new result }
         ensures settings { self.new.agent.parts.settings ≡ self.old.agent.parts.settings }
-        ensures ready { IfOk result (λ _. IsReady self.new.agent) }
+        ensures ready { IfOk result (λ _. IsReady self.new) }
     {
         let mut said = Text::new(text.allocator());
         let origin = &Origin { source, line };

@@ -4,9 +4,10 @@ ghost use Rattle.soar_wm.specs.WorkingMemory.{triple_of};
 ghost use Rattle.defs_run.specs.Carrying.{carried_out};
 ghost use Rattle.defs_run.specs.Inputs.{removed};
 ghost use Rattle.defs_run.specs.Orders.{remove_wme};
-ghost use Rattle.defs_run.specs.Present.{run_present};
+ghost use Rattle.soar_agent.specs.Running.{run_learning};
 ghost use Rattle.cycle_parts.specs.Calls.{IsTripleKnown};
 ghost use Rattle.soar_agent.specs.Carries.{Carries};
+ghost use Rattle.soar_agent.specs.Numbered.{IsTripleNumbered};
 ghost use Rattle.soar_agent.specs.States.{IsReady};
 
 use crate::state::Session;
@@ -19,9 +20,9 @@ use soar_wm::Element;
 impl<M: Matcher> Session<M> {
     /// Takes the element of a tag from the inputs.
     pub fn remove(&mut self, origin: &Origin<'_>, tag: u64, out: &mut Text) -> Result<bool, Stop>
-        requires { IsReady self.old.agent }
-        ensures reply { Carries self.old self.new origin.now.source.now origin.now.line (carried_out run_present (remove_wme tag)) out.old out.new result }
-        ensures ready { IfOk result (λ _. IsReady self.new.agent) }
+        requires { IsReady self.old }
+        ensures reply { Carries self.old self.new origin.now.source.now origin.now.line (carried_out run_learning (remove_wme tag)) out.old out.new result }
+        ensures ready { IfOk result (λ _. IsReady self.new) }
     {
         match element_of(self.agent.memory(), tag) {
             Some(element) => self.remove_element(origin, element, out),
@@ -35,10 +36,11 @@ impl<M: Matcher> Session<M> {
         element: Element,
         out: &mut Text,
     ) -> Result<bool, Stop>
-        requires ready { IsReady self.old.agent }
+        requires ready { IsReady self.old }
         requires known { IsTripleKnown self.old.agent.parts.table (triple_of element) }
+        requires numbered { IsTripleNumbered self.old.agent.parts.letters (triple_of element) }
         ensures reply { Carries self.old self.new origin.now.source.now origin.now.line (λ s. removed s element) out.old out.new result }
-        ensures ready { IfOk result (λ _. IsReady self.new.agent) }
+        ensures ready { IfOk result (λ _. IsReady self.new) }
     {
         let triple = triple_of(element);
         if self.agent.is_input(triple) {

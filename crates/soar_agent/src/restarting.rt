@@ -13,9 +13,9 @@ use std::alloc::Global;
 impl<M: Matcher> Session<M> {
     /// Starts anew, with the productions and the settings (Soar manual, chapter 9, init-soar). The labels go.
     pub fn restart(&mut self, alloc: Global) -> Result<bool, Stop>
-        requires { IsReady self.old.agent }
+        requires { IsReady self.old }
         ensures reply { RepliesNothing self.old self.new restarts result }
-        ensures ready { IfOk result (λ _. IsReady self.new.agent) }
+        ensures ready { IfOk result (λ _. IsReady self.new) }
     {
         match self.agent.restart() {
             Ok(()) => {

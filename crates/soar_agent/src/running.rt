@@ -3,10 +3,10 @@ ghost use Rattle.std.specs.Prelude.{◌≡◌, List as ListOf, IfOk};
 ghost use Rattle.defs_soar.specs.Cycle.{cycle};
 ghost use Rattle.defs_soar.specs.Decision.{decided_by};
 ghost use Rattle.defs_soar.specs.History.{RecordedFiring};
-ghost use Rattle.defs_soar.specs.Learning.{without_learning};
+ghost use Rattle.defs_soar.specs.Learning.{with_learning};
 ghost use Rattle.defs_run.specs.Carrying.{carried_out};
 ghost use Rattle.defs_run.specs.Orders.{run_cycles};
-ghost use Rattle.defs_run.specs.Present.{run_present};
+ghost use Rattle.soar_agent.specs.Running.{run_learning};
 ghost use Rattle.wave_parts.specs.Remembers.{Remembers};
 ghost use Rattle.wave_parts.specs.Seen.{agent_of};
 ghost use Rattle.soar_cycle.specs.Agents.{standing_after};
@@ -29,9 +29,9 @@ impl<M: Matcher> Session<M> {
         count: u32,
         out: &mut Text,
     ) -> Result<Outcome, Stop>
-        requires { IsReady self.old.agent }
-        ensures command { CarriesOut self.old self.new origin.now.source.now origin.now.line (carried_out run_present (run_cycles count)) out.old out.new result }
-        ensures ready { IfOk result (λ _. IsReady self.new.agent) }
+        requires { IsReady self.old }
+        ensures command { CarriesOut self.old self.new origin.now.source.now origin.now.line (carried_out run_learning (run_cycles count)) out.old out.new result }
+        ensures ready { IfOk result (λ _. IsReady self.new) }
     {
         if self.agent.halted() {
             return outcome_of(self.refuse_with(origin, &Reason::Halted, out));
@@ -44,7 +44,7 @@ impl<M: Matcher> Session<M> {
     pub fn cycle(&mut self, text: &mut Text) -> Result<bool, Stop>
         requires { IsSoundSession self.old }
         ensures course { self.old.standing ≡ Standing.Stands → (history : ListOf RecordedFiring) → Remembers self.old.agent.parts history →
-            Cycled self.old.agent.parts.settings.watch self.old.agent.mid_line (cycle decided_by without_learning (agent_of self.old.agent.parts history)) self.new.agent text.old text.new result }
+            Cycled self.old.agent.parts.settings.watch self.old.agent.mid_line (cycle decided_by with_learning (agent_of self.old.agent.parts history)) self.new.agent text.old text.new result }
         ensures halted { IfOk result (λ halted. halted ≡ self.new.agent.parts.halted) }
         ensures labels { self.new.labels ≡ self.old.labels }
         ensures settings { self.new.agent.parts.settings ≡ self.old.agent.parts.settings }
@@ -62,13 +62,13 @@ impl<M: Matcher> Session<M> {
     }
 
     fn run_cycle(&mut self, text: &mut Text) -> Result<bool, Stop>
-        requires { IsReady self.old.agent }
+        requires { IsReady self.old }
         ensures course { (history : ListOf RecordedFiring) → Remembers self.old.agent.parts history →
-            Cycled self.old.agent.parts.settings.watch self.old.agent.mid_line (cycle decided_by without_learning (agent_of self.old.agent.parts history)) self.new.agent text.old text.new result }
+            Cycled self.old.agent.parts.settings.watch self.old.agent.mid_line (cycle decided_by with_learning (agent_of self.old.agent.parts history)) self.new.agent text.old text.new result }
         ensures halted { IfOk result (λ halted. halted ≡ self.new.agent.parts.halted) }
         ensures labels { self.new.labels ≡ self.old.labels }
         ensures settings { self.new.agent.parts.settings ≡ self.old.agent.parts.settings }
-        ensures ready { IfOk result (λ _. IsReady self.new.agent) }
+        ensures ready { IfOk result (λ _. IsReady self.new) }
     {
         let mut said = Text::new(text.allocator());
         match self.agent.cycle(&mut said) {

@@ -1,13 +1,15 @@
 ghost use Rattle.std.specs.Prelude.{◌≡◌, ◌≤◌, ◌^◌, [], false, List as ListOf, IfOk, length};
 ghost use Rattle.defs_soar.specs.History.{RecordedFiring};
-ghost use Rattle.defs_run.specs.Present.{present_stage};
+ghost use Rattle.defs_run.specs.Carrying.{carried_out};
+ghost use Rattle.defs_run.specs.Whole.{whole_stage};
 ghost use Rattle.defs_run.specs.Runs.{obeyed};
 ghost use Rattle.defs_run.specs.Sessions.{first_session};
+ghost use Rattle.loading_laws.specs.Orders.{IsLawfulOrder};
 ghost use Rattle.soar_cmd.specs.Asked.{order_seen};
 ghost use Rattle.soar_cmd.specs.Known.{IsOrderKnown};
 ghost use Rattle.wave_parts.specs.Remembers.{Remembers};
 ghost use Rattle.soar_cycle.specs.Agents.{standing_after};
-ghost use Rattle.soar_agent.specs.Built.{carried_built};
+ghost use Rattle.soar_agent.specs.Running.{run_learning};
 ghost use Rattle.soar_agent.specs.Commands.{CarriesOut, Commands, Outcomes};
 ghost use Rattle.soar_agent.specs.States.{IsReady, IsSoundSession, StaysStopped, session_of};
 
@@ -17,6 +19,7 @@ use crate::state::Session;
 use defs_match::Matcher;
 use defs_run::Order;
 use defs_soar::Which;
+use loading_laws::what_is_read_may_be_loaded;
 use session_parts::{Origin, Reason, say_stop};
 use soar_cmd::{CmdFault, read_command};
 use soar_cycle::{Agent, Standing, Stop};
@@ -50,7 +53,7 @@ impl<M: Matcher> Session<M> {
         requires short { length c.now.text ≤ 2 ^ 26 }
         requires sound { IsSoundSession self.old }
         ensures command { self.old.standing ≡ Standing.Stands → (history : ListOf RecordedFiring) → Remembers self.old.agent.parts history → let s = session_of self.old history in
-            Commands s (obeyed present_stage source.now c.now.line c.now.text s) self.new text.old text.new result }
+            Commands s (obeyed whole_stage source.now c.now.line c.now.text s) self.new text.old text.new result }
         ensures standing { self.new.standing ≡ standing_after self.old.standing result }
         ensures stopped { StaysStopped self.old.standing text.old text.new result }
         ensures sound { IsSoundSession self.new }
@@ -66,10 +69,10 @@ impl<M: Matcher> Session<M> {
 
     fn answer(&mut self, c: &Command, source: &str, text: &mut Text) -> Result<Outcome, Stop>
         requires short { length c.now.text ≤ 2 ^ 26 }
-        requires ready { IsReady self.old.agent }
+        requires ready { IsReady self.old }
         ensures command { (history : ListOf RecordedFiring) → Remembers self.old.agent.parts history → let s = session_of self.old history in
-            Commands s (obeyed present_stage source.now c.now.line c.now.text s) self.new text.old text.new result }
-        ensures ready { IfOk result (λ _. IsReady self.new.agent) }
+            Commands s (obeyed whole_stage source.now c.now.line c.now.text s) self.new text.old text.new result }
+        ensures ready { IfOk result (λ _. IsReady self.new) }
     {
         let mut said = Text::new(text.allocator());
         match self.obey(c, source, &mut said) {
@@ -84,15 +87,16 @@ impl<M: Matcher> Session<M> {
     /// Carries a command out.
     fn obey(&mut self, c: &Command, source: &str, out: &mut Text) -> Result<Outcome, Stop>
         requires short { length c.now.text ≤ 2 ^ 26 }
-        requires ready { IsReady self.old.agent }
+        requires ready { IsReady self.old }
         ensures command { (history : ListOf RecordedFiring) → Remembers self.old.agent.parts history → let s = session_of self.old history in
-            Outcomes self.old.agent.parts.settings.watch self.old.agent.mid_line (obeyed present_stage source.now c.now.line c.now.text s) self.new out.old out.new result }
-        ensures ready { IfOk result (λ _. IsReady self.new.agent) }
+            Outcomes self.old.agent.parts.settings.watch self.old.agent.mid_line (obeyed whole_stage source.now c.now.line c.now.text s) self.new out.old out.new result }
+        ensures ready { IfOk result (λ _. IsReady self.new) }
     {
         let origin = &Origin {
             source,
             line: c.line,
         };
+        what_is_read_may_be_loaded();
         match read_command(out.allocator(), self.agent.table(), c) {
             Ok(order) => {
                 let _within = self.agent.symbols().word_count();
@@ -114,10 +118,11 @@ impl<M: Matcher> Session<M> {
         order: Order,
         out: &mut Text,
     ) -> Result<Outcome, Stop>
-        requires ready { IsReady self.old.agent }
+        requires ready { IsReady self.old }
         requires known { IsOrderKnown self.old.agent.parts.table order }
-        ensures command { CarriesOut self.old self.new origin.now.source.now origin.now.line (carried_built (order_seen order)) out.old out.new result }
-        ensures ready { IfOk result (λ _. IsReady self.new.agent) }
+        requires lawful { IsLawfulOrder self.old.agent.parts.table (order_seen order) }
+        ensures command { CarriesOut self.old self.new origin.now.source.now origin.now.line (carried_out run_learning (order_seen order)) out.old out.new result }
+        ensures ready { IfOk result (λ _. IsReady self.new) }
     {
         match order {
             Order::Run(count) => self.ask_to_run(origin, count, out),

@@ -14,9 +14,9 @@ use soar_cycle::{Settings, Stop};
 impl<M: Matcher> Session<M> {
     /// Sets the watch level, from 0 to 5. Lines of the same command keep the level that was set before it.
     pub fn set_watch(&mut self, watch: u8) -> Result<bool, Stop>
-        requires { IsReady self.old.agent }
+        requires { IsReady self.old }
         ensures reply { RepliesNothing self.old self.new (λ s. with_settings s (record s.agent.settings { watch = watch })) result }
-        ensures ready { IfOk result (λ _. IsReady self.new.agent) }
+        ensures ready { IfOk result (λ _. IsReady self.new) }
     {
         let old = self.agent.settings();
         self.set(Settings {
@@ -28,11 +28,27 @@ impl<M: Matcher> Session<M> {
         })
     }
 
+    /// Sets whether to learn.
+    pub fn set_learning(&mut self, on: bool) -> Result<bool, Stop>
+        requires { IsReady self.old }
+        ensures reply { RepliesNothing self.old self.new (λ s. with_settings s (record s.agent.settings { learning = on })) result }
+        ensures ready { IfOk result (λ _. IsReady self.new) }
+    {
+        let old = self.agent.settings();
+        self.set(Settings {
+            learning: on,
+            local_negations: old.local_negations,
+            mode: old.mode,
+            max_elaborations: old.max_elaborations,
+            watch: old.watch,
+        })
+    }
+
     /// Sets whether to learn from firings that found something missing in a substate.
     pub fn set_local_negations(&mut self, on: bool) -> Result<bool, Stop>
-        requires { IsReady self.old.agent }
+        requires { IsReady self.old }
         ensures reply { RepliesNothing self.old self.new (λ s. with_settings s (record s.agent.settings { local_negations = on })) result }
-        ensures ready { IfOk result (λ _. IsReady self.new.agent) }
+        ensures ready { IfOk result (λ _. IsReady self.new) }
     {
         let old = self.agent.settings();
         self.set(Settings {
@@ -46,10 +62,10 @@ impl<M: Matcher> Session<M> {
 
     /// Sets how a candidate is drawn.
     pub fn set_mode(&mut self, mode: Mode) -> Result<bool, Stop>
-        requires ready { IsReady self.old.agent }
+        requires ready { IsReady self.old }
         requires range { IsModeInRange mode }
         ensures reply { RepliesNothing self.old self.new (λ s. with_settings s (record s.agent.settings { mode = mode })) result }
-        ensures ready { IfOk result (λ _. IsReady self.new.agent) }
+        ensures ready { IfOk result (λ _. IsReady self.new) }
     {
         let old = self.agent.settings();
         self.set(Settings {
@@ -63,9 +79,9 @@ impl<M: Matcher> Session<M> {
 
     /// Sets how many waves a phase has at most, from 1 to 10,000.
     pub fn set_max_elaborations(&mut self, count: u32) -> Result<bool, Stop>
-        requires { IsReady self.old.agent }
+        requires { IsReady self.old }
         ensures reply { RepliesNothing self.old self.new (λ s. with_settings s (record s.agent.settings { max_elaborations = count })) result }
-        ensures ready { IfOk result (λ _. IsReady self.new.agent) }
+        ensures ready { IfOk result (λ _. IsReady self.new) }
     {
         let old = self.agent.settings();
         self.set(Settings {
@@ -78,9 +94,9 @@ impl<M: Matcher> Session<M> {
     }
 
     fn set(&mut self, settings: Settings) -> Result<bool, Stop>
-        requires { IsReady self.old.agent }
+        requires { IsReady self.old }
         ensures reply { RepliesNothing self.old self.new (λ s. with_settings s (settings_seen settings)) result }
-        ensures ready { IfOk result (λ _. IsReady self.new.agent) }
+        ensures ready { IfOk result (λ _. IsReady self.new) }
     {
         self.agent.set(settings);
         Ok(false)

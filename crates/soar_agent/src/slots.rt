@@ -3,7 +3,7 @@ ghost use Rattle.std.specs.Prelude.{IfOk};
 ghost use Rattle.defs_run.specs.Carrying.{carried_out, lists_slot};
 ghost use Rattle.defs_run.specs.Listing.{preference_lines};
 ghost use Rattle.defs_run.specs.Orders.{preferences};
-ghost use Rattle.defs_run.specs.Present.{run_present};
+ghost use Rattle.soar_agent.specs.Running.{run_learning};
 ghost use Rattle.defs_run.specs.Sessions.{says};
 ghost use Rattle.soar_cmd.specs.Asked.{operand_seen};
 ghost use Rattle.soar_cmd.specs.Known.{IsAttributeKnown, IsOperandKnown};
@@ -27,11 +27,11 @@ impl<M: Matcher> Session<M> {
         attr: Operand,
         out: &mut Text,
     ) -> Result<bool, Stop>
-        requires ready { IsReady self.old.agent }
+        requires ready { IsReady self.old }
         requires id { IsOperandKnown self.old.agent.parts.table id }
         requires attr { IsAttributeKnown self.old.agent.parts.table attr }
-        ensures reply { Carries self.old self.new origin.now.source.now origin.now.line (carried_out run_present (preferences (operand_seen id) (operand_seen attr))) out.old out.new result }
-        ensures ready { IfOk result (λ _. IsReady self.new.agent) }
+        ensures reply { Carries self.old self.new origin.now.source.now origin.now.line (carried_out run_learning (preferences (operand_seen id) (operand_seen attr))) out.old out.new result }
+        ensures ready { IfOk result (λ _. IsReady self.new) }
     {
         match self.lookup(out.allocator()).unknown_in_slot(&id, &attr)? {
             Some(text) => self.refuse_with(origin, &Reason::UnknownIdentifier(text.as_str()), out),
@@ -41,11 +41,11 @@ impl<M: Matcher> Session<M> {
 
     /// Says the preferences of a slot whose identifiers there are.
     fn list_slot_given(&mut self, id: Operand, attr: Operand, out: &mut Text) -> Result<bool, Stop>
-        requires ready { IsReady self.old.agent }
+        requires ready { IsReady self.old }
         requires id { IsOperandKnown self.old.agent.parts.table id }
         requires attr { IsAttributeKnown self.old.agent.parts.table attr }
         ensures reply { Replies self.old self.new (λ s. lists_slot s (operand_seen id) (operand_seen attr)) out.old out.new result }
-        ensures ready { IfOk result (λ _. IsReady self.new.agent) }
+        ensures ready { IfOk result (λ _. IsReady self.new) }
     {
         let id = self.resolve(id)?;
         let attr = self.resolve(attr)?;
@@ -53,9 +53,9 @@ impl<M: Matcher> Session<M> {
     }
 
     fn list_slot_of(&mut self, slot: Slot, out: &mut Text) -> Result<bool, Stop>
-        requires { IsReady self.old.agent }
+        requires { IsReady self.old }
         ensures reply { Replies self.old self.new (λ s. says s (preference_lines s.agent slot.id slot.attr)) out.old out.new result }
-        ensures ready { IfOk result (λ _. IsReady self.new.agent) }
+        ensures ready { IfOk result (λ _. IsReady self.new) }
     {
         let agent = &self.agent;
         let mut mid_line = agent.mid_line();

@@ -1,6 +1,6 @@
 // Lists of all that there is.
 ghost use Rattle.std.specs.Prelude.{◌≡◌, ◌∷◌, [], IfOk};
-ghost use Rattle.defs_run.specs.Listing.{element_lines, rule_lines, stats_line};
+ghost use Rattle.defs_run.specs.Listing.{chunk_lines, element_lines, rule_lines, stats_line};
 ghost use Rattle.defs_run.specs.Sessions.{says};
 ghost use Rattle.soar_agent.specs.Carries.{Replies};
 ghost use Rattle.soar_agent.specs.Counting.{stats_seen};
@@ -8,16 +8,16 @@ ghost use Rattle.soar_agent.specs.States.{IsReady};
 
 use crate::state::Session;
 use defs_match::Matcher;
-use list_parts::{Stats, list_elements, list_rules, say_stats};
+use list_parts::{Stats, list_chunks, list_elements, list_rules, say_stats};
 use soar_cycle::{Counts, Stop};
 use soar_sym::Text;
 
 impl<M: Matcher> Session<M> {
     /// Says all elements.
     pub fn list_memory(&mut self, out: &mut Text) -> Result<bool, Stop>
-        requires { IsReady self.old.agent }
+        requires { IsReady self.old }
         ensures reply { Replies self.old self.new (λ s. says s (element_lines s.agent.names.words s.agent.holding.elements)) out.old out.new result }
-        ensures ready { IfOk result (λ _. IsReady self.new.agent) }
+        ensures ready { IfOk result (λ _. IsReady self.new) }
     {
         let agent = &self.agent;
         let mut mid_line = agent.mid_line();
@@ -28,9 +28,9 @@ impl<M: Matcher> Session<M> {
 
     /// Says the names of all productions.
     pub fn list_productions(&mut self, out: &mut Text) -> Result<bool, Stop>
-        requires { IsReady self.old.agent }
+        requires { IsReady self.old }
         ensures reply { Replies self.old self.new (λ s. says s (rule_lines s.agent)) out.old out.new result }
-        ensures ready { IfOk result (λ _. IsReady self.new.agent) }
+        ensures ready { IfOk result (λ _. IsReady self.new) }
     {
         let agent = &self.agent;
         let mut mid_line = agent.mid_line();
@@ -44,11 +44,29 @@ impl<M: Matcher> Session<M> {
         Ok(false)
     }
 
+    /// Says all learned productions.
+    pub fn list_learned(&mut self, out: &mut Text) -> Result<bool, Stop>
+        requires { IsReady self.old }
+        ensures reply { Replies self.old self.new (λ s. says s (chunk_lines s.agent)) out.old out.new result }
+        ensures ready { IfOk result (λ _. IsReady self.new) }
+    {
+        let agent = &self.agent;
+        let mut mid_line = agent.mid_line();
+        list_chunks(
+            agent.symbols(),
+            agent.rules().as_slice(),
+            out,
+            &mut mid_line,
+        )?;
+        self.agent.set_mid_line(mid_line);
+        Ok(false)
+    }
+
     /// Says how much was done and how much there is.
     pub fn list_counts(&mut self, out: &mut Text) -> Result<bool, Stop>
-        requires { IsReady self.old.agent }
+        requires { IsReady self.old }
         ensures reply { Replies self.old self.new (λ s. says s (stats_line s.agent ∷ [])) out.old out.new result }
-        ensures ready { IfOk result (λ _. IsReady self.new.agent) }
+        ensures ready { IfOk result (λ _. IsReady self.new) }
     {
         let stats = stats_of(self.agent.counts());
         let mut mid_line = self.agent.mid_line();

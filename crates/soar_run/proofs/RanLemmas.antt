@@ -10,7 +10,7 @@ use Rattle.defs_soar.specs.History.{RecordedFiring}
 use Rattle.defs_soar.specs.Limits.{limit_text, or_limit}
 use Rattle.defs_soar.specs.Phases.{Said, Course, still}
 use Rattle.defs_soar.specs.Trace.{Written, followed_by, line_text}
-use Rattle.defs_run.specs.Present.{run_present}
+use Rattle.soar_agent.specs.Running.{run_learning}
 use Rattle.soar_settle.specs.declared.stop.Stop.{Stop}
 use Rattle.soar_settle.specs.declared.stop.Stop.TheVariants as stop
 use Rattle.wave_parts.specs.Remembers.{Remembers}
@@ -95,7 +95,7 @@ appends_none (Some text) = ap Some (sym (append-nil text))
 
 -- before the first of them
 pub none_behind : (watch : ℕ) (a : AgentSeen) (count left : ℕ) (history : List RecordedFiring) (o : Option (List ℕ)) → Remembers a.parts history → left ≡ count
-    → RunBehind watch a.mid_line left (run_present count (agent_of a.parts history)) a o o
+    → RunBehind watch a.mid_line left (run_learning count (agent_of a.parts history)) a o o
 none_behind watch a count left history o remembers all =
     let s : Agent = agent_of a.parts history in
     record {

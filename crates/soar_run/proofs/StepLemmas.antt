@@ -1,5 +1,5 @@
 -- What a command writes, as the definitions write it.
-use Rattle.std.proofs.Common.{◌≡◌, ℕ, Bool, false, List, [], ◌++◌, Option, Result, Ok, Err, IfOk, OnOk, refl, sym, ap, subst, ◌∙◌}
+use Rattle.std.proofs.Common.{◌≡◌, ℕ, Bool, true, false, List, [], ◌++◌, Option, Result, Ok, Err, IfOk, OnOk, refl, sym, ap, subst, ◌∙◌}
 use Rattle.soar_edge.specs.Outside.{Appends, AppendsSome}
 use Rattle.soar_edge.specs.declared.fault.PutFault.{PutFault}
 use Rattle.defs_soar.specs.declared.limit.Which.{Which}
@@ -7,10 +7,10 @@ use Rattle.defs_soar.specs.History.{RecordedFiring}
 use Rattle.defs_soar.specs.Phases.{Course}
 use Rattle.defs_soar.specs.Trace.{Written}
 use Rattle.defs_run.specs.Carrying.{followed}
-use Rattle.defs_run.specs.Present.{run_present}
+use Rattle.soar_agent.specs.Running.{run_learning}
 use Rattle.defs_run.specs.Runs.{Rendered}
 use Rattle.defs_run.specs.Sessions.{Session, Reply, Sequel, goes_on}
-use Rattle.command_runs.specs.Carrying.{IsAnswered, Passed, Speaks, sequel_of, written_by}
+use Rattle.command_runs.specs.Carrying.{IsAnswered, Passed, Refuses, Speaks, sequel_of, written_by}
 use Rattle.command_runs.specs.declared.carrier.Answered.{Answered}
 use Rattle.command_runs.specs.declared.carrier.Answered.TheVariants as answered
 use Rattle.command_runs.specs.declared.carrier.Next.{Next}
@@ -89,16 +89,24 @@ speaks_stopped stands s reply new first text why limit old now result is all som
     (it.1 ∙ (ap (λ t. t ++ step_text s reply) none ∙ sym (told_text s.agent.settings.watch s.mid_line reply.told)))
     (limit, told_limit s.agent.settings.watch s.mid_line reply.told ∙ it.0)
 
+-- of what is refused
+pub refuses_put : {M : Type 0} (s : Session) (reply : Reply) (new : SessionKept M) (first text bytes : List ℕ) (old now : Option (List ℕ)) (result : Result (Unit {0}) PutFault)
+    → first ≡ [] → bytes ≡ text → Replied s.agent.settings.watch s.mid_line reply new first text true → reply.sequel ≡ goes_on
+    → OnOk result (Appends old now bytes) → AppendsSome old now bytes → Refuses (StandsFor new) s reply old now result
+refuses_put s reply new first text bytes old now (Ok done) none same replied next all some =
+    (passed_whole s reply new first text true goes_on replied next, subst (Appends old now) (same ∙ said_whole s reply new first text true none replied) all)
+refuses_put s reply new first text bytes old now (Err e) none same replied next all some = subst (AppendsSome old now) (same ∙ said_whole s reply new first text true none replied) some
+
 -- ---- a command that asks for cycles
 
 -- its text is that of the cycles
 asked_text : {M : Type 0} (s : Session) (reply : Reply) (new : SessionKept M) (first text : List ℕ) (count : ℕ)
     → (a : AsksToRun s.agent.settings.watch s.mid_line reply new first text count)
-    → course_text new.agent.parts.settings.watch new.agent.mid_line (run_present count (agent_of new.agent.parts a.history)) ≡ (written_by s reply).written.text
+    → course_text new.agent.parts.settings.watch new.agent.mid_line (run_learning count (agent_of new.agent.parts a.history)) ≡ (written_by s reply).written.text
 asked_text s reply new first text count a =
     let watch : ℕ = s.agent.settings.watch in
     let mid : Bool = s.mid_line in
-    let c : Course = run_present count (agent_of new.agent.parts a.history) in
+    let c : Course = run_learning count (agent_of new.agent.parts a.history) in
     let front : front_told watch mid reply.told ≡ front_said watch mid c.steps = a.comes.front mid ∙ front_of_steps watch mid c.steps in
     let limit : limit_told reply.told ≡ limit_in c.steps = a.comes.limit ∙ limit_of_steps c.steps in
     ap (λ w. course_text w new.agent.mid_line c) a.settings
@@ -110,11 +118,11 @@ asked_text s reply new first text count a =
 -- and it went as they did
 asked_answer : {M : Type 0} (s : Session) (reply : Reply) (new last : SessionKept M) (first text : List ℕ) (count : ℕ) (answer : Answered)
     → (a : AsksToRun s.agent.settings.watch s.mid_line reply new first text count) → reply.sequel ≡ goes_on
-    → IsRan new.agent.parts.settings.watch new.agent.mid_line (run_present count (agent_of new.agent.parts a.history)) new last answer → IsAnswered (StandsFor last) s reply answer
+    → IsRan new.agent.parts.settings.watch new.agent.mid_line (run_learning count (agent_of new.agent.parts a.history)) new last answer → IsAnswered (StandsFor last) s reply answer
 asked_answer s reply new last first text count (answered.Went refused following) a next ran =
     let watch : ℕ = s.agent.settings.watch in
     let mid : Bool = s.mid_line in
-    let c : Course = run_present count (agent_of new.agent.parts a.history) in
+    let c : Course = run_learning count (agent_of new.agent.parts a.history) in
     let behind : Reply = followed (session_of new a.history) c in
     let went = ran.2 in
     let obeys : Obeys new.agent.parts.settings.watch new.agent.mid_line behind last [] went.0 (Ok false) = follows new last c a.history [] went.0 went.1 ran.3 ran.5.1 in
@@ -123,10 +131,10 @@ asked_answer s reply new last first text count (answered.Went refused following)
     obeys_same watch mid reply behind last [] went.0 (Ok false) a.comes (subst (λ m. Obeys watch m behind last [] went.0 (Ok false)) a.mid_line level) in
     subst (λ r. Passed (StandsFor last) s reply r (sequel_of following)) (sym ran.0) (passed_whole s reply last [] went.0 false (sequel_of following) same (next ∙ sym ran.1))
 asked_answer s reply new last first text count answered.Stopped a next ran =
-    (ran.0, told_limit s.agent.settings.watch s.mid_line reply.told ∙ (a.comes.limit ∙ (limit_of_steps (run_present count (agent_of new.agent.parts a.history)).steps ∙ ran.1)))
+    (ran.0, told_limit s.agent.settings.watch s.mid_line reply.told ∙ (a.comes.limit ∙ (limit_of_steps (run_learning count (agent_of new.agent.parts a.history)).steps ∙ ran.1)))
 
 pub speaks_ran : {M : Type 0} (s : Session) (reply : Reply) (new last : SessionKept M) (first text : List ℕ) (count : ℕ) (old now : Option (List ℕ)) (result : Result Answered PutFault)
-    → (a : AsksToRun s.agent.settings.watch s.mid_line reply new first text count) → reply.sequel ≡ goes_on → (let c = run_present count (agent_of new.agent.parts a.history) in
+    → (a : AsksToRun s.agent.settings.watch s.mid_line reply new first text count) → reply.sequel ≡ goes_on → (let c = run_learning count (agent_of new.agent.parts a.history) in
     IsRanOk new.agent.parts.settings.watch new.agent.mid_line c new last result
     → OnOk result (Appends old now (course_text new.agent.parts.settings.watch new.agent.mid_line c))
     → AppendsSome old now (course_text new.agent.parts.settings.watch new.agent.mid_line c) → Speaks (StandsFor last) s reply old now result)

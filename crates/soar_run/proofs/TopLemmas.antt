@@ -6,7 +6,7 @@ use Rattle.soar_edge.specs.declared.filed.Filed.{Filed}
 use Rattle.soar_edge.specs.declared.status.Status.{Status}
 use Rattle.soar_edge.specs.declared.status.Status.TheVariants as status
 use Rattle.defs_run.specs.CommandLine.{Options}
-use Rattle.defs_run.specs.Present.{present_stage}
+use Rattle.defs_run.specs.Whole.{whole_stage}
 use Rattle.defs_run.specs.Sessions.{Session, first_session}
 use Rattle.defs_run.specs.Transcripts.{Transcript, by_options}
 use Rattle.command_runs.specs.Answers.{Answers, EndsAtFetch, IsComplete, IsTranscript}
@@ -19,9 +19,9 @@ use Rattle.soar_run.specs.Spoken.{StandsFor}
 use Rattle.soar_run.specs.declared.top.Start.{Start}
 
 -- the transcript is that of what they ask for
-transcript_by : (fails : Option ℕ) (stock : List Filed) (bytes : List ℕ) (o : Options) (words : Option Options) → Some o ≡ words → whole_transcript fails stock bytes o ≡ by_options present_stage fails stock bytes words
+transcript_by : (fails : Option ℕ) (stock : List Filed) (bytes : List ℕ) (o : Options) (words : Option Options) → Some o ≡ words → whole_transcript fails stock bytes o ≡ by_options whole_stage fails stock bytes words
 unfolding whole_transcript
-transcript_by fails stock bytes o words is = ap (by_options present_stage fails stock bytes) is
+transcript_by fails stock bytes o words is = ap (by_options whole_stage fails stock bytes) is
 
 -- what a run says of each input and stock, where it stands for what is asked for
 abbrev Tells : Option (List ℕ) → Option (List Filed) → (Options → Type 0) → (List ℕ → List Filed → Options → Type 0) → Type 0
@@ -30,14 +30,14 @@ Tells left files asked P = IfSome left (λ bytes. (stock : List Filed) → files
 pub headline_by : (left : Option (List ℕ)) (files : Option (List Filed)) (asked : Options → Type 0) (o : Options) (words : Option Options) (old now : Option (List ℕ)) (answer : Status) (before after : Faults) → Some o ≡ words → asked o
     → Tells left files asked (λ bytes stock p. after.source ≡ before.source → after.shelf ≡ before.shelf → after.sink ≡ before.sink → (answer ≡ status.NoMemory → ⊥) → IsTranscript old now answer (whole_transcript None stock bytes p))
     → IfSome left (λ bytes. (stock : List Filed) → files ≡ Some stock → after.source ≡ before.source → after.shelf ≡ before.shelf → after.sink ≡ before.sink → (answer ≡ status.NoMemory → ⊥)
-    → IsTranscript old now answer (by_options present_stage None stock bytes words))
+    → IsTranscript old now answer (by_options whole_stage None stock bytes words))
 headline_by None files asked o words old now answer before after is asks tells = tt
 headline_by (Some bytes) files asked o words old now answer before after is asks tells = λ stock told source shelf sink some.
     subst (IsTranscript old now answer) (transcript_by None stock bytes o words is) (tells stock told o asks source shelf sink some)
 
 pub answers_by : (left rest : Option (List ℕ)) (files : Option (List Filed)) (asked : Options → Type 0) (o : Options) (words : Option Options) (old now : Option (List ℕ)) (answer : Status) (before after : Faults) → Some o ≡ words → asked o
     → Tells left files asked (λ bytes stock p. Answers before after bytes rest (comes_to_input stock p) old now (whole_transcript None stock bytes p) answer)
-    → IfSome left (λ bytes. (stock : List Filed) → files ≡ Some stock → Answers before after bytes rest (comes_by stock words) old now (by_options present_stage None stock bytes words) answer)
+    → IfSome left (λ bytes. (stock : List Filed) → files ≡ Some stock → Answers before after bytes rest (comes_by stock words) old now (by_options whole_stage None stock bytes words) answer)
 answers_by None rest files asked o words old now answer before after is asks tells = tt
 answers_by (Some bytes) rest files asked o words old now answer before after is asks tells = λ stock told.
     subst (λ t. Answers before after bytes rest (comes_by stock words) old now t answer) (transcript_by None stock bytes o words is)
@@ -45,7 +45,7 @@ answers_by (Some bytes) rest files asked o words old now answer before after is 
 
 pub prefix_by : (left : Option (List ℕ)) (files : Option (List Filed)) (asked : Options → Type 0) (o : Options) (words : Option Options) (old now : Option (List ℕ)) → Some o ≡ words → asked o
     → Tells left files asked (λ bytes stock p. AppendsSome old now (whole_transcript None stock bytes p).text)
-    → IfSome left (λ bytes. (stock : List Filed) → files ≡ Some stock → AppendsSome old now (by_options present_stage None stock bytes words).text)
+    → IfSome left (λ bytes. (stock : List Filed) → files ≡ Some stock → AppendsSome old now (by_options whole_stage None stock bytes words).text)
 prefix_by None files asked o words old now is asks tells = tt
 prefix_by (Some bytes) files asked o words old now is asks tells = λ stock told.
     subst (λ (t : Transcript). AppendsSome old now t.text) (transcript_by None stock bytes o words is) (tells stock told o asks)
@@ -56,16 +56,16 @@ fetch_at old now n fetched first second same e = record { count = e.count; count
 pub fetch_by : (left : Option (List ℕ)) (files : Option (List Filed)) (asked : Options → Type 0) (o : Options) (words : Option Options) (old now : Option (List ℕ)) (answer : Status) (first last : Option ℕ) → Some o ≡ words → asked o
     → Tells left files asked (λ bytes stock p. (n : ℕ) → n < 2 ^ 63 → first ≡ Some n → answer ≡ status.FileFault → EndsAtFetch old now n last (λ number. whole_transcript (Some number) stock bytes p))
     → IfSome left (λ bytes. (stock : List Filed) → files ≡ Some stock → (n : ℕ) → n < 2 ^ 63 → first ≡ Some n → answer ≡ status.FileFault
-    → EndsAtFetch old now n last (λ number. by_options present_stage (Some number) stock bytes words))
+    → EndsAtFetch old now n last (λ number. by_options whole_stage (Some number) stock bytes words))
 fetch_by None files asked o words old now answer first last is asks tells = tt
 fetch_by (Some bytes) files asked o words old now answer first last is asks tells = λ stock told n small counts fault.
-    fetch_at old now n last (λ number. whole_transcript (Some number) stock bytes o) (λ number. by_options present_stage (Some number) stock bytes words) (λ number. transcript_by (Some number) stock bytes o words is)
+    fetch_at old now n last (λ number. whole_transcript (Some number) stock bytes o) (λ number. by_options whole_stage (Some number) stock bytes words) (λ number. transcript_by (Some number) stock bytes o words is)
     (tells stock told o asks n small counts fault)
 
 pub complete_by : (left : Option (List ℕ)) (files : Option (List Filed)) (asked : Options → Type 0) (o : Options) (words : Option Options) (answer : Status) (before after : Faults) → Some o ≡ words → asked o
     → Tells left files asked (λ bytes stock p. ((whole_transcript None stock bytes p).status ≡ status.Limit → ⊥) → ((whole_transcript None stock bytes p).status ≡ status.TooLong → ⊥)
     → after.source ≡ before.source → after.shelf ≡ before.shelf → after.sink ≡ before.sink → IsComplete answer)
-    → IfSome left (λ bytes. (stock : List Filed) → files ≡ Some stock → (words ≡ None → ⊥) → ((by_options present_stage None stock bytes words).status ≡ status.Limit → ⊥) → ((by_options present_stage None stock bytes words).status ≡ status.TooLong → ⊥)
+    → IfSome left (λ bytes. (stock : List Filed) → files ≡ Some stock → (words ≡ None → ⊥) → ((by_options whole_stage None stock bytes words).status ≡ status.Limit → ⊥) → ((by_options whole_stage None stock bytes words).status ≡ status.TooLong → ⊥)
     → after.source ≡ before.source → after.shelf ≡ before.shelf → after.sink ≡ before.sink → IsComplete answer)
 complete_by None files asked o words answer before after is asks tells = tt
 complete_by (Some bytes) files asked o words answer before after is asks tells = λ stock told form free short.

@@ -4,14 +4,14 @@ use Rattle.soar_rule.specs.Repeat.{Turn, ends, goes_on, turns}
 use Rattle.defs_soar.specs.Agents.{Agent}
 use Rattle.defs_soar.specs.Cycle.{course_of, one_cycle, run, then_course}
 use Rattle.defs_soar.specs.Decision.{decided_by}
-use Rattle.defs_soar.specs.Learning.{without_learning}
+use Rattle.defs_soar.specs.Learning.{with_learning}
 use Rattle.defs_soar.specs.Phases.{Said, Course, still}
-use Rattle.defs_run.specs.Present.{run_present}
+use Rattle.soar_agent.specs.Running.{run_learning}
 use Rattle.soar_run.specs.Cycles.{cycle_of, cycles_behind}
 
 -- the turns behind one that was taken
 abbrev rest_of : ℕ → Turn Course → Course
-rest_of n t = course_of (elim t as (λ _. Turn Course) [ ends b ↦ ends b | goes_on b ↦ turns n (one_cycle decided_by without_learning) b ])
+rest_of n t = course_of (elim t as (λ _. Turn Course) [ ends b ↦ ends b | goes_on b ↦ turns n (one_cycle decided_by with_learning) b ])
 
 -- the turn that is next, of an agent that is halted or not
 abbrev turn_of : Course → Bool → Turn Course
@@ -37,6 +37,6 @@ turns_more (suc n) c = by c.agent.halted (turns_more n (then_course c (cycle_of 
     by false later = ((cycle_of c.agent).steps ++ later.0, later.1 ∙ append_assoc c.steps (cycle_of c.agent).steps later.0)
 
 -- a run is the cycles from a state on
-pub run_turns : (n : ℕ) (a : Agent) → run_present n a ≡ cycles_behind n (still a)
+pub run_turns : (n : ℕ) (a : Agent) → run_learning n a ≡ cycles_behind n (still a)
 unfolding run
 run_turns n a = refl

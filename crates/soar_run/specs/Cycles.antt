@@ -6,7 +6,7 @@ use Rattle.soar_edge.specs.declared.fault.PutFault.{PutFault}
 use Rattle.defs_soar.specs.Agents.{Agent}
 use Rattle.defs_soar.specs.Cycle.{course_of, cycle, one_cycle}
 use Rattle.defs_soar.specs.Decision.{decided_by}
-use Rattle.defs_soar.specs.Learning.{without_learning}
+use Rattle.defs_soar.specs.Learning.{with_learning}
 use Rattle.defs_soar.specs.declared.limit.Which.{Which}
 use Rattle.defs_soar.specs.Phases.{Course}
 use Rattle.defs_run.specs.Sessions.{goes_on}
@@ -19,13 +19,13 @@ use Rattle.soar_run.specs.Ready.{IsReadySession}
 use Rattle.command_runs.specs.declared.carrier.Answered.{Answered}
 use Rattle.command_runs.specs.declared.carrier.Answered.TheVariants as answered
 
--- a cycle without learning
+-- a cycle, in which the agent learns
 abbrev pub cycle_of : Agent → Course
-cycle_of a = cycle decided_by without_learning a
+cycle_of a = cycle decided_by with_learning a
 
 -- so many more of them behind a course, or until the agent halts
 abbrev pub cycles_behind : ℕ → Course → Course
-cycles_behind n c = course_of (turns n (one_cycle decided_by without_learning) c)
+cycles_behind n c = course_of (turns n (one_cycle decided_by with_learning) c)
 
 -- what a course writes: its steps up to a limit, and the line of that
 abbrev pub course_text : ℕ → Bool → Course → List ℕ

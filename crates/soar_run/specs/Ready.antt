@@ -5,4 +5,4 @@ use Rattle.soar_agent.specs.States.{IsReady}
 use Rattle.soar_agent.specs.declared.state.Session.{Session as SessionKept}
 
 abbrev pub IsReadySession : {M : Type 0} → SessionKept M → Type 0
-IsReadySession s = (s.standing ≡ standing.Stands) × IsReady s.agent
+IsReadySession s = (s.standing ≡ standing.Stands) × IsReady s

@@ -2,7 +2,7 @@
 ghost use Rattle.std.specs.Prelude.{◌≡◌, ◌-◌, ◌<◌, ◌^◌, true, Ok, List as ListOf, IfOk, OnOk};
 ghost use Rattle.soar_edge.specs.Outside.{Appends, AppendsSome, HasPutCause};
 ghost use Rattle.defs_soar.specs.History.{RecordedFiring};
-ghost use Rattle.defs_run.specs.Present.{run_present};
+ghost use Rattle.soar_agent.specs.Running.{run_learning};
 ghost use Rattle.command_runs.specs.Carrying.{IsReadyAfter};
 ghost use Rattle.wave_parts.specs.Remembers.{Remembers};
 ghost use Rattle.wave_parts.specs.Seen.{agent_of};
@@ -25,11 +25,11 @@ pub fn run_cycles<M: Matcher, O: Sink>(
 ) -> Result<Answered, PutFault>
     requires ready { IsReadySession session.old }
     requires sink { O.faults out.old < 2 ^ 64 - 1 }
-    ensures course { (history : ListOf RecordedFiring) → Remembers session.old.agent.parts history → IsRanOk session.old.agent.parts.settings.watch session.old.agent.mid_line (run_present count (agent_of session.old.agent.parts history)) session.old session.new result }
+    ensures course { (history : ListOf RecordedFiring) → Remembers session.old.agent.parts history → IsRanOk session.old.agent.parts.settings.watch session.old.agent.mid_line (run_learning count (agent_of session.old.agent.parts history)) session.old session.new result }
     ensures written { (history : ListOf RecordedFiring) → Remembers session.old.agent.parts history →
-        OnOk result (Appends (O.written out.old) (O.written out.new) (course_text session.old.agent.parts.settings.watch session.old.agent.mid_line (run_present count (agent_of session.old.agent.parts history)))) }
+        OnOk result (Appends (O.written out.old) (O.written out.new) (course_text session.old.agent.parts.settings.watch session.old.agent.mid_line (run_learning count (agent_of session.old.agent.parts history)))) }
     ensures prefix { (history : ListOf RecordedFiring) → Remembers session.old.agent.parts history →
-        AppendsSome (O.written out.old) (O.written out.new) (course_text session.old.agent.parts.settings.watch session.old.agent.mid_line (run_present count (agent_of session.old.agent.parts history))) }
+        AppendsSome (O.written out.old) (O.written out.new) (course_text session.old.agent.parts.settings.watch session.old.agent.mid_line (run_learning count (agent_of session.old.agent.parts history))) }
     ensures ready { IsReadyAfter (IsReadySession session.new) result }
     ensures cause { HasPutCause (O.faults out.old) (O.faults out.new) result }
 {

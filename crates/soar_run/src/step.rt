@@ -1,7 +1,7 @@
 // One command after another.
 ghost use Rattle.std.specs.Prelude.{◌≡◌, ◌-◌, ◌<◌, ◌≤◌, ◌^◌, ℕ, [], Ok, List as ListOf, length, IfOk, OnOk};
 ghost use Rattle.soar_edge.specs.Outside.{Appends, AppendsSome, HasPutCause};
-ghost use Rattle.defs_run.specs.Present.{present_stage};
+ghost use Rattle.defs_run.specs.Whole.{whole_stage};
 ghost use Rattle.defs_run.specs.Runs.{obeyed};
 ghost use Rattle.defs_run.specs.Sessions.{Reply, Session as SessionOf, refused_by};
 ghost use Rattle.command_runs.specs.Carrying.{IsReadyAfter, Refuses, Speaks, refusal_of};
@@ -29,7 +29,7 @@ pub fn answer_command<M: Matcher, O: Sink>(
     requires ready { IsReadySession session.old }
     requires sink { O.faults out.old < 2 ^ 64 - 1 }
     ensures answer { (s : SessionOf) → StandsFor session.old s →
-        Speaks (StandsFor session.new) s (obeyed present_stage source.now command.now.line command.now.text s) (O.written out.old) (O.written out.new) result }
+        Speaks (StandsFor session.new) s (obeyed whole_stage source.now command.now.line command.now.text s) (O.written out.old) (O.written out.new) result }
     ensures ready { IsReadyAfter (IsReadySession session.new) result }
     ensures cause { HasPutCause (O.faults out.old) (O.faults out.new) result }
 {

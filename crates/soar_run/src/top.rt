@@ -2,13 +2,14 @@ ghost use Rattle.std.specs.Prelude.{◌≡◌, ◌≢◌, ◌-◌, ◌^◌, ◌<
 ghost use Rattle.soar_edge.specs.Outside.{Appends, AppendsSome, Rose, HasPutCause};
 ghost use Rattle.soar_edge.specs.declared.filed.Filed.{Filed};
 ghost use Rattle.defs_run.specs.CommandLine.{options_of};
-ghost use Rattle.defs_run.specs.Present.{failing_transcript, present_transcript};
+ghost use Rattle.defs_run.specs.Whole.{whole_transcript};
 ghost use Rattle.defs_run.specs.Transcripts.{usage_text};
 ghost use Rattle.command_runs.specs.Answers.{Answers, EndsAtFetch, IsComplete, IsTranscript};
 ghost use Rattle.command_runs.specs.Whole.{level_of};
 ghost use Rattle.defs_run.specs.Sessions.{first_session};
 ghost use Rattle.command_words.specs.Seen.{options_seen};
 ghost use Rattle.soar_run.specs.Asked.{IsTooLongBy, comes_to_input_by, usage_status};
+ghost use Rattle.soar_run.specs.Failing.{failing_transcript};
 ghost use Rattle.soar_run.specs.Ready.{IsReadySession};
 ghost use Rattle.soar_run.specs.Spoken.{StandsFor};
 
@@ -24,6 +25,7 @@ use std::alloc::Global;
 const USAGE: &str = "usage: soar_app [--watch N] [--generate N] [FILE]...\n";
 
 /// Runs the files that the words name and then the input, or a script in their place, and ends with how that went.
+#[tactic(auto, unfolding(defs_run::specs::Whole::whole_transcript))]
 pub fn run_soar<I: Source, F: Shelf, O: Sink>(
     alloc: Global,
     words: &Vec<String>,
@@ -38,22 +40,22 @@ pub fn run_soar<I: Source, F: Shelf, O: Sink>(
     // Where nothing failed and memory sufficed, the bytes written and the status are the transcript's.
     ensures headline { IfSome (I.left input.old) (λ bytes. (stock : ListOf Filed) → F.files files.old ≡ Some stock
         → I.faults input.new ≡ I.faults input.old → F.faults files.new ≡ F.faults files.old → O.faults out.new ≡ O.faults out.old → result ≢ Status.NoMemory
-        → IsTranscript (O.written out.old) (O.written out.new) result (present_transcript (map string_bytes words.now.items) stock bytes)) }
+        → IsTranscript (O.written out.old) (O.written out.new) result (whole_transcript (map string_bytes words.now.items) stock bytes)) }
     // Each answer has its cause.
     ensures answers { IfSome (I.left input.old) (λ bytes. (stock : ListOf Filed) → F.files files.old ≡ Some stock
         → Answers (record { source = I.faults input.old; shelf = F.faults files.old; sink = O.faults out.old })
         (record { source = I.faults input.new; shelf = F.faults files.new; sink = O.faults out.new })
-        bytes (I.left input.new) (comes_to_input_by (map string_bytes words.now.items) stock) (O.written out.old) (O.written out.new) (present_transcript (map string_bytes words.now.items) stock bytes) result) }
+        bytes (I.left input.new) (comes_to_input_by (map string_bytes words.now.items) stock) (O.written out.old) (O.written out.new) (whole_transcript (map string_bytes words.now.items) stock bytes) result) }
     // Whatever fails, the bytes written are those at the transcript's front.
     ensures prefix { IfSome (I.left input.old) (λ bytes. (stock : ListOf Filed) → F.files files.old ≡ Some stock
-        → AppendsSome (O.written out.old) (O.written out.new) (present_transcript (map string_bytes words.now.items) stock bytes).text) }
+        → AppendsSome (O.written out.old) (O.written out.new) (whole_transcript (map string_bytes words.now.items) stock bytes).text) }
     // Where a fetch fails, all is written that comes before it. The shelf's count of fetches is far from its last value.
     ensures before_fetch { IfSome (I.left input.old) (λ bytes. (stock : ListOf Filed) → F.files files.old ≡ Some stock → (n : ℕ) → n < 2 ^ 63 → F.fetched files.old ≡ Some n → result ≡ Status.FileFault
         → EndsAtFetch (O.written out.old) (O.written out.new) n (F.fetched files.new) (λ number. failing_transcript number (map string_bytes words.now.items) stock bytes)) }
     // Words of the form, and an input and files that reach no limit and are not too long, are carried out whole, unless memory runs out.
     ensures complete { IfSome (I.left input.old) (λ bytes. (stock : ListOf Filed) → F.files files.old ≡ Some stock
-        → options_of (map string_bytes words.now.items) ≢ None → (present_transcript (map string_bytes words.now.items) stock bytes).status ≢ Status.Limit
-        → (present_transcript (map string_bytes words.now.items) stock bytes).status ≢ Status.TooLong
+        → options_of (map string_bytes words.now.items) ≢ None → (whole_transcript (map string_bytes words.now.items) stock bytes).status ≢ Status.Limit
+        → (whole_transcript (map string_bytes words.now.items) stock bytes).status ≢ Status.TooLong
         → I.faults input.new ≡ I.faults input.old → F.faults files.new ≡ F.faults files.old → O.faults out.new ≡ O.faults out.old
         → IsComplete result) }
     // A run ends as too long only where the input or a file has more than 64 MiB, or a command of them or of a script more than 1 MiB.

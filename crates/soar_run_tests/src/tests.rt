@@ -11,11 +11,14 @@ mod cases;
 mod checking;
 mod commands;
 mod failing;
+mod fifty;
 mod files;
 mod impasses;
 mod labels;
+mod learning;
 mod limits;
 mod lists;
+mod outcomes;
 mod pages;
 mod reading;
 mod running;
@@ -55,10 +58,11 @@ const DONE: [&str; 9] = [
 ];
 
 /// What is refused, among what is not.
-const REFUSED: [&str; 7] = [
+const REFUSED: [&str; 8] = [
     checking::FAULTY,
     commands::REFUSED,
     labels::LABELS_REFUSED,
+    learning::UNLEARNED,
     lists::LISTS_REFUSED,
     reading::NONE,
     running::RUN_REFUSED,
@@ -82,6 +86,14 @@ fn commands_are_carried_out(rt: HostRuntime) -> Result<(), Fail> {
 #[test]
 fn substates_come_and_go(rt: HostRuntime) -> Result<(), Fail> {
     let wrong = wrong_of(rt.alloc(), Status::Done, &[impasses::MET, impasses::BROKEN])?;
+    assert!(rt; wrong.is_empty(), "{wrong}");
+    Ok(())
+}
+
+#[test]
+fn rules_are_learned(rt: HostRuntime) -> Result<(), Fail> {
+    let cases = [learning::LEARNED, outcomes::OUTCOMES, fifty::FIFTY];
+    let wrong = wrong_of(rt.alloc(), Status::Done, &cases)?;
     assert!(rt; wrong.is_empty(), "{wrong}");
     Ok(())
 }

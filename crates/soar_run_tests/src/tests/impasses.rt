@@ -5,7 +5,7 @@ use std::alloc::{AllocError, Global};
 use std::test::Fail;
 
 /// Each kind of impasse, one below another, items that come and go while the substate stays, and results that let an operator
-/// be selected: of a rule, and of operators that evaluate the items.
+/// be selected, and hold by their justifications once the substate is gone: of a rule, and of operators that evaluate the items.
 pub const MET: &str =
     r#"sp {prop (state <s> ^superstate nil ^cand <n>) --> (<s> ^operator <o> +) (<o> ^name <n>)}
 add-wme S1 ^cand x
@@ -81,7 +81,7 @@ run 3
 =>
 1:   ==>S: S2 (tie)
 2: O: O1 (x)
-3:   ==>S: S3 (tie)
+3:   ==>S: S3 (operator no-change)
 ;;
 sp {prop (state <s> ^superstate nil ^cand <n>) --> (<s> ^operator <o> +) (<o> ^name <n>)}
 sp {eval (state <s> ^impasse tie ^item <o> -^worth.of <o>) --> (<s> ^operator <e> + =) (<e> ^name eval ^of <o>)}
@@ -96,7 +96,7 @@ run 5
 2:   O: E2 (eval)
 3:   O: E1 (eval)
 4: O: O2 (3)
-5:   ==>S: S3 (tie)
+5:   ==>S: S3 (operator no-change)
 ;;
 "#;
 

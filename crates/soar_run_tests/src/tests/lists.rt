@@ -109,9 +109,8 @@ error 30 -:11: wrong words
 error 30 -:12: wrong words
 error 30 -:13: wrong words
 error 30 -:14: wrong words
-error 10 -:15: unknown command
-error 10 -:16: unknown command
-error 10 -:17: unknown command
+error 32 -:16: no production p
+no chunks
 error 30 -:18: wrong words
 error 30 -:19: wrong words
 error 30 -:20: wrong words

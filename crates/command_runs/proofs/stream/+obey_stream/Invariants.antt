@@ -1,7 +1,7 @@
 use Rattle.std.proofs.Common.{◌≡◌, [], List, ℕ, Option, Some, length}
 use Rattle.soar_edge.specs.Cuts.{cuts_with}
 use Rattle.soar_edge.specs.declared.filed.Filed.{Filed}
-use Rattle.defs_run.specs.Present.{present_stage}
+use Rattle.defs_run.specs.Whole.{whole_stage}
 use Rattle.defs_run.specs.Runs.{Run}
 use Rattle.defs_run.specs.Sources.{cuts_run}
 use Rattle.command_runs.specs.Causes.{Fetched}
@@ -21,8 +21,8 @@ invariant-commands g l = record {
   fetched : Fetched l.initial.progress.fetched l.progress.fetched (g.F.Shelf.fetched l.initial.files) (g.F.Shelf.fetched l.files);
   behind : (stock : List Filed) → g.F.Shelf.files l.initial.files ≡ Some stock → (fails : Option ℕ) → Comes fails l.progress.fetched → (r : Run) → IsAt (g.C.Carrier.stands l.initial.progress.carrier) l.initial.progress r
       → IsBehind (g.C.Carrier.stands l.progress.carrier) l.progress (g.O.Sink.written l.initial.out) (g.O.Sink.written l.out)
-      (cuts_run present_stage (inner_of fails stock l.depth) fails stock l.source (cuts_with l.cutter l.cutter.closed []))
-      (cuts_run present_stage (inner_of fails stock l.depth) fails stock l.source (cuts_with l.initial.cutter l.initial.cutter.closed []) r);
+      (cuts_run whole_stage (inner_of fails stock l.depth) fails stock l.source (cuts_with l.cutter l.cutter.closed []))
+      (cuts_run whole_stage (inner_of fails stock l.depth) fails stock l.source (cuts_with l.initial.cutter l.initial.cutter.closed []) r);
 }
 
 abbrev pub decreases-commands : goal.decreases-commands

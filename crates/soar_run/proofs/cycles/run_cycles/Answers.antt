@@ -2,7 +2,7 @@ use Rattle.std.proofs.Common.{◌≡◌, ◌-◌, ◌+◌, Ok, ap, true, false, 
 use Rattle.wave_parts.specs.Seen.{agent_of}
 use Rattle.wave_parts.specs.declared.settings.Settings.{Settings}
 use Rattle.soar_run.specs.Cycles.{cycle_of}
-use Rattle.soar_run.proofs.RanLemmas.{halts_behind, none_behind, one_behind, some_at, some_behind, some_of_all, stops_behind, writes_at}
+use Rattle.soar_run.proofs.RanLemmas.{all_behind, halts_behind, none_behind, one_behind, some_at, some_behind, some_of_all, stops_behind, writes_at}
 use Rattle.soar_run.proofs.cycles.run_cycles.Goals as goal
 
 pub cycles-init : goal.cycles-init
@@ -70,3 +70,7 @@ returns-in-Err-clause-prefix g c = λ history remembers.
     some_behind c.args.session.now.agent.parts.settings.watch _ (c.args.count - c.cycles.number) (c.args.count - (c.cycles.number + 1)) _ _ _ _ _ (omega arith) (sym c.if-halted.ensures) (c.cycles.invariant.behind history remembers)
     (λ past kept. some_at c.cycles.session.agent.parts.settings.watch c.args.session.now.agent.parts.settings.watch c.cycles.session.agent.mid_line (cycle_of (agent_of c.cycles.session.agent.parts past)) (g.O.Sink.written c.cycles.out) (g.O.Sink.written c.write_cycle.new.out)
     (ap (λ (s : Settings). s.watch) c.cycles.invariant.settings) (c.in-Err.ensures.prefix past kept))
+
+pub returns-clause-prefix : goal.returns-clause-prefix
+returns-clause-prefix g c = λ history remembers.
+    some_of_all _ _ _ (all_behind c.args.session.now.agent.parts.settings.watch _ (c.args.count - c.cycles.number) _ _ _ _ (omega arith) (c.cycles.invariant.behind history remembers)).0

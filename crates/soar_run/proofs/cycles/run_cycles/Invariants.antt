@@ -1,6 +1,6 @@
 use Rattle.std.proofs.Common.{◌≡◌, ◌-◌, List}
 use Rattle.defs_soar.specs.History.{RecordedFiring}
-use Rattle.defs_run.specs.Present.{run_present}
+use Rattle.soar_agent.specs.Running.{run_learning}
 use Rattle.wave_parts.specs.Remembers.{Remembers}
 use Rattle.wave_parts.specs.Seen.{agent_of}
 use Rattle.soar_run.specs.Ready.{IsReadySession}
@@ -13,6 +13,6 @@ invariant-cycles g l = record {
   labels : l.session.labels ≡ l.initial.session.labels;
   settings : l.session.agent.parts.settings ≡ l.initial.session.agent.parts.settings;
   calm : g.O.Sink.faults l.out ≡ g.O.Sink.faults l.initial.out;
-  behind : (history : List RecordedFiring) → Remembers l.initial.session.agent.parts history → RunBehind l.initial.session.agent.parts.settings.watch l.initial.session.agent.mid_line (l.count - l.number) (run_present l.count (agent_of l.initial.session.agent.parts history)) l.session.agent
+  behind : (history : List RecordedFiring) → Remembers l.initial.session.agent.parts history → RunBehind l.initial.session.agent.parts.settings.watch l.initial.session.agent.mid_line (l.count - l.number) (run_learning l.count (agent_of l.initial.session.agent.parts history)) l.session.agent
       (g.O.Sink.written l.initial.out) (g.O.Sink.written l.out);
 }

@@ -1,4 +1,4 @@
-use Rattle.std.proofs.Common.{◌≡◌, ◌∙◌, Some, map, sym, subst}
+use Rattle.std.proofs.Common.{◌≡◌, ◌∙◌, [], true, Some, map, sym, subst}
 use Rattle.soar_sym.specs.declared.symbol.Sym.{Sym}
 use Rattle.defs_run.specs.Runs.{replied_by}
 use Rattle.wave_parts.specs.Remembers.{Remembers}
@@ -8,8 +8,24 @@ use Rattle.session_parts.specs.Labels.{label_seen, symbol_in}
 use Rattle.soar_agent.specs.States.{session_of}
 use Rattle.soar_agent.specs.Steps.{Obeys}
 use Rattle.soar_agent.specs.declared.state.Session.{Session}
-use Rattle.soar_agent.proofs.GivenLemmas.{attribute_stands, given_adds, id_stands}
+use Rattle.letter_laws.proofs.GrowthLaws.{given_stay_given}
+use Rattle.soar_agent.proofs.GivenLemmas.{addition_numbered, attribute_stands, given_adds, id_stands, operand_stays}
 use Rattle.soar_agent.proofs.state.Session.add_given.Goals as goal
+
+pub add_at_top-requires-clause-slot_numbered : goal.add_at_top-requires-clause-slot_numbered
+add_at_top-requires-clause-slot_numbered g c =
+    let numbered = addition_numbered (session_of c.args.self.now []) true c.args.addition (c.requires.given []) in
+    let first = c.resolve.new.self.agent.parts.letters in (
+      given_stay_given first c.resolve-2.new.self.agent.parts.letters c.in_ok-id.id c.in_ok-attr.ensures.letters (c.in_ok-id.ensures.numbered numbered.id_numbered),
+      c.in_ok-attr.ensures.numbered (operand_stays c.args.self.now.agent.parts.letters first c.args.addition.attr c.in_ok-id.ensures.letters numbered.attr_numbered),
+    )
+
+pub add_at_top-requires-clause-value_numbered : goal.add_at_top-requires-clause-value_numbered
+add_at_top-requires-clause-value_numbered g c =
+    let numbered = addition_numbered (session_of c.args.self.now []) true c.args.addition (c.requires.given []) in
+    let first = c.resolve.new.self.agent.parts.letters in
+    operand_stays first c.resolve-2.new.self.agent.parts.letters c.args.addition.value c.in_ok-attr.ensures.letters
+    (operand_stays c.args.self.now.agent.parts.letters first c.args.addition.value c.in_ok-id.ensures.letters numbered.value_numbered)
 
 pub returns-clause-reply : goal.returns-clause-reply
 returns-clause-reply g c = λ history remembers.

@@ -8,14 +8,28 @@ use Rattle.soar_cmd.specs.Asked.{operand_seen}
 use Rattle.session_parts.specs.Labels.{label_seen}
 use Rattle.soar_agent.specs.Adding.{adds_by, adds_triple, spelled_by, unless_twice}
 use Rattle.soar_agent.specs.Carries.{Carries}
+use Rattle.soar_agent.specs.Numbered.{IsOperandNumbered, IsTripleNumbered}
 use Rattle.soar_agent.specs.States.{session_of}
 use Rattle.soar_agent.specs.Steps.{Obeys}
 use Rattle.cycle_parts.specs.Calls.{IsTripleKnown}
+use Rattle.soar_agent.proofs.ReadyLemmas.{label_numbered}
 use Rattle.soar_agent.proofs.state.Session.add_value.Goals as goal
 
 pub add_triple-requires-in-Some-clause-known : goal.add_triple-requires-in-Some-clause-known
 add_triple-requires-in-Some-clause-known g c =
     subst (IsTripleKnown c.args.self.now.agent.parts.table) (sym c.with-in-Some.ensures) (c.requires.id, c.requires.attr, c.in-Some.ensures.known c.args.self.now.agent.parts.table)
+
+pub add_triple-requires-clause-numbered : goal.add_triple-requires-clause-numbered
+add_triple-requires-clause-numbered g c =
+    let letters = c.args.self.now.agent.parts.letters in
+    subst (IsTripleNumbered letters) (sym c.with.ensures) (c.requires.slot_numbered.0, c.requires.slot_numbered.1, subst (IsOperandNumbered letters) c.in-Symbol.is c.requires.value_numbered)
+
+pub add_triple-requires-in-Some-clause-numbered : goal.add_triple-requires-in-Some-clause-numbered
+add_triple-requires-in-Some-clause-numbered g c =
+    let letters = c.args.self.now.agent.parts.letters in
+    let some : label_in (map label_seen c.args.self.now.labels) c.in-Label.name ≡ Some c.in-Some.value = cc (c.in-Some.ensures.symbol, c.as_slice.ensures, c.as_str.ensures) in
+    subst (IsTripleNumbered letters) (sym c.with-in-Some.ensures)
+    (c.requires.slot_numbered.0, c.requires.slot_numbered.1, label_numbered letters c.args.self.now.labels c.in-Label.name c.in-Some.value c.requires.ready.3 some)
 
 pub returns-in-Symbol-clause-reply : goal.returns-in-Symbol-clause-reply
 returns-in-Symbol-clause-reply g c =

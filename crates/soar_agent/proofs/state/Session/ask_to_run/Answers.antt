@@ -3,7 +3,7 @@ use Rattle.std.specs.Prelude.{if◌then◌else◌}
 use Rattle.defs_run.specs.Carrying.{followed}
 use Rattle.defs_run.specs.Inputs.{does, refuses}
 use Rattle.defs_run.specs.Orders.{halted}
-use Rattle.defs_run.specs.Present.{run_present}
+use Rattle.soar_agent.specs.Running.{run_learning}
 use Rattle.defs_run.specs.Runs.{replied_by}
 use Rattle.defs_run.specs.Sessions.{Session, refused_by}
 use Rattle.soar_agent.specs.Commands.{Outcomes}
@@ -15,7 +15,7 @@ use Rattle.soar_agent.proofs.state.Session.ask_to_run.Goals as goal
 pub returns-then-halted-clause-command : goal.returns-then-halted-clause-command
 returns-then-halted-clause-command g c = λ history remembers.
     let s : Session = session_of c.args.self.now history in
-    subst (λ (b : Bool). Outcomes c.args.self.now.agent.parts.settings.watch c.args.self.now.agent.mid_line (replied_by c.args.origin.now.source.now c.args.origin.now.line s (if b then refuses halted else does (followed s (run_present c.args.count s.agent))))
+    subst (λ (b : Bool). Outcomes c.args.self.now.agent.parts.settings.watch c.args.self.now.agent.mid_line (replied_by c.args.origin.now.source.now c.args.origin.now.line s (if b then refuses halted else does (followed s (run_learning c.args.count s.agent))))
     c.refuse_with.new.self c.args.out.now c.refuse_with.new.out c.outcome_of.result)
     (sym c.if-halted.true ∙ c.halted.ensures)
     (comes_as c.args.self.now.agent.parts.settings.watch c.args.self.now.agent.mid_line (refused_by halted c.args.origin.now.source.now c.args.origin.now.line s) c.refuse_with.new.self c.args.out.now c.refuse_with.new.out c.refuse_with.result c.outcome_of.result
@@ -27,7 +27,7 @@ returns-then-halted-clause-ready g c = outcome_ready c.refuse_with.new.self c.re
 pub returns-clause-command : goal.returns-clause-command
 returns-clause-command g c = λ history remembers.
     let s : Session = session_of c.args.self.now history in
-    subst (λ (b : Bool). Outcomes c.args.self.now.agent.parts.settings.watch c.args.self.now.agent.mid_line (replied_by c.args.origin.now.source.now c.args.origin.now.line s (if b then refuses halted else does (followed s (run_present c.args.count s.agent))))
+    subst (λ (b : Bool). Outcomes c.args.self.now.agent.parts.settings.watch c.args.self.now.agent.mid_line (replied_by c.args.origin.now.source.now c.args.origin.now.line s (if b then refuses halted else does (followed s (run_learning c.args.count s.agent))))
     c.args.self.now c.args.out.now c.args.out.now (Ok (Run c.args.count)))
     (sym c.if-halted.false ∙ c.halted.ensures) (
       record {

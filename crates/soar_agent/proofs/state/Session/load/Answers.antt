@@ -1,3 +1,4 @@
+use Rattle.std.proofs.Common.{refl}
 use Rattle.soar_rule.specs.Productions.{ProductionOf, production_seen}
 use Rattle.defs_soar.specs.Agents.{Agent}
 use Rattle.defs_run.specs.Sessions.{quiet, with_agent}
@@ -6,7 +7,7 @@ use Rattle.wave_parts.proofs.StandsLemmas.{stands_at}
 use Rattle.cycle_parts.specs.Calls.{load_step}
 use Rattle.soar_agent.specs.States.{session_of}
 use Rattle.soar_agent.proofs.ReplyLemmas.{drawn_done, drawn_none, with_kept}
-use Rattle.soar_agent.proofs.SessionLemmas.{ready_after}
+use Rattle.soar_agent.proofs.ReadyLemmas.{ready_stepped}
 use Rattle.soar_agent.proofs.state.Session.load.Goals as goal
 
 pub returns-in-Ok-clause-reply : goal.returns-in-Ok-clause-reply
@@ -14,8 +15,12 @@ returns-in-Ok-clause-reply g c = λ said history remembers.
     let a : Agent = agent_of c.args.self.now.agent.parts history in
     let p : ProductionOf = production_seen c.args.production in
     drawn_done c.args.self.now c.load.new.self (load_step p a).agent (load_step p a).totals history said
-    (ready_after c.args.self.now.agent c.load.new.self c.requires.ready c.in-Ok.ensures.standing c.in-Ok.ensures.sound) c.in-Ok.ensures.mid_line
+    (ready_stepped c.args.self.now c.load.new.self (load_step (production_seen c.args.production)) c.requires.ready c.in-Ok.ensures.standing c.in-Ok.ensures.sound (λ t stands. c.in-Ok.ensures.step c.requires.ready.0 t stands) (λ t. refl)) c.in-Ok.ensures.mid_line
     (c.in-Ok.ensures.step c.requires.ready.0 a (stands_at c.args.self.now.agent.parts history remembers))
+
+pub returns-in-Ok-clause-ready : goal.returns-in-Ok-clause-ready
+returns-in-Ok-clause-ready g c =
+    ready_stepped c.args.self.now c.load.new.self (load_step (production_seen c.args.production)) c.requires.ready c.in-Ok.ensures.standing c.in-Ok.ensures.sound (λ t stands. c.in-Ok.ensures.step c.requires.ready.0 t stands) (λ t. refl)
 
 pub returns-in-Err-clause-reply : goal.returns-in-Err-clause-reply
 returns-in-Err-clause-reply g c = λ said history remembers.

@@ -1,10 +1,22 @@
-use Rattle.std.proofs.Common.{◌++◌, ◌∷◌, [], subst}
+use Rattle.std.proofs.Common.{◌++◌, ◌∷◌, [], sym, subst}
 use Rattle.soar_sym.specs.declared.symbol.Triple.{Triple}
 use Rattle.defs_run.specs.Inputs.{with_inputs}
+use Rattle.letter_laws.proofs.GrowthLaws.{given_stay_given}
+use Rattle.soar_agent.specs.Numbered.{IsTripleNumbered}
 use Rattle.soar_agent.specs.States.{session_of}
 use Rattle.soar_agent.specs.Steps.{Obeys}
 use Rattle.soar_agent.proofs.AddingLemmas.{puts_labelled, puts_none}
 use Rattle.soar_agent.proofs.state.Session.put_labelled.Goals as goal
+
+pub change_inputs-requires-clause-numbered : goal.change_inputs-requires-clause-numbered
+change_inputs-requires-clause-numbered g c =
+    let old = c.args.self.now.agent.parts.letters in
+    let letters = c.make_label.new.self.agent.parts.letters in
+    subst (IsTripleNumbered letters) (sym c.with.ensures) (
+      given_stay_given old letters c.args.slot.id c.in-Ok.ensures.letters c.requires.slot_numbered.0,
+      given_stay_given old letters c.args.slot.attr c.in-Ok.ensures.letters c.requires.slot_numbered.1,
+      c.in-Ok.ensures.numbered,
+    )
 
 pub returns-in-Ok-clause-reply : goal.returns-in-Ok-clause-reply
 returns-in-Ok-clause-reply g c = λ history remembers.

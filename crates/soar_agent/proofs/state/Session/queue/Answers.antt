@@ -1,10 +1,11 @@
-use Rattle.std.proofs.Common.{◌≡◌, ◌∙◌, false, List, ℕ, Option, Some, None, sym, ap, subst}
+use Rattle.std.proofs.Common.{◌≡◌, ◌∙◌, [], false, List, ℕ, Option, Some, None, sym, ap, subst}
 use Rattle.defs_run.specs.Inputs.{queued, first_unknown, spelled, unless_unknown}
 use Rattle.defs_run.specs.Runs.{replied_by}
 use Rattle.defs_run.specs.Sessions.{Session}
 use Rattle.soar_cmd.specs.Asked.{operand_seen}
 use Rattle.soar_agent.specs.States.{session_of}
 use Rattle.soar_agent.specs.Steps.{Obeys}
+use Rattle.soar_agent.proofs.GivenLemmas.{addition_numbered}
 use Rattle.soar_agent.proofs.state.Session.queue.Goals as goal
 
 pub returns-in-Some-clause-reply : goal.returns-in-Some-clause-reply
@@ -16,6 +17,12 @@ returns-in-Some-clause-reply g c = λ history remembers.
     (unless_unknown o (queued c.args.adds (spelled s (operand_seen c.args.addition.id) (operand_seen c.args.addition.attr) (operand_seen c.args.addition.value)))))
     c.refuse_with.new.self c.args.out.now c.refuse_with.new.out c.refuse_with.result)
     unknown (c.refuse_with.ensures.reply history remembers)
+
+pub queue_given-requires-clause-numbered : goal.queue_given-requires-clause-numbered
+queue_given-requires-clause-numbered g c =
+    let s : Session = session_of c.args.self.now [] in
+    let first : Session → Option (List ℕ) = λ t. first_unknown false t (operand_seen c.args.addition.id) (operand_seen c.args.addition.attr) (operand_seen c.args.addition.value) in
+    addition_numbered s false c.args.addition (sym (sym c.in-None.is ∙ (c.in_ok-text.ensures s ∙ ap first (c.lookup.ensures.session []))))
 
 pub returns-in-None-clause-reply : goal.returns-in-None-clause-reply
 returns-in-None-clause-reply g c = λ history remembers.

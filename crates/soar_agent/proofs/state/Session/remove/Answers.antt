@@ -7,12 +7,18 @@ use Rattle.defs_run.specs.Runs.{replied_by}
 use Rattle.defs_run.specs.Sessions.{Session}
 use Rattle.soar_agent.specs.States.{session_of}
 use Rattle.soar_agent.specs.Steps.{Obeys}
+use Rattle.soar_agent.proofs.ReadyLemmas.{element_numbered}
 use Rattle.soar_agent.proofs.SoundLemmas.{element_known}
 use Rattle.soar_agent.proofs.state.Session.remove.Goals as goal
 
 pub remove_element-requires-clause-known : goal.remove_element-requires-clause-known
 remove_element-requires-clause-known g c =
     element_known c.args.self.now.agent.parts.table c.args.tag c.args.self.now.agent.parts.memory.elements c.in-Some.element c.requires.1.elements_known
+    (sym (c.in-Some.ensures ∙ ap (λ (m : WorkingMemory). element_of c.args.tag m.elements) c.memory.ensures))
+
+pub remove_element-requires-clause-numbered : goal.remove_element-requires-clause-numbered
+remove_element-requires-clause-numbered g c =
+    element_numbered c.args.self.now.agent.parts c.args.tag c.in-Some.element c.requires.2
     (sym (c.in-Some.ensures ∙ ap (λ (m : WorkingMemory). element_of c.args.tag m.elements) c.memory.ensures))
 
 pub returns-in-Some-clause-reply : goal.returns-in-Some-clause-reply

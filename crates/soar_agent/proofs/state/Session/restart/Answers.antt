@@ -6,14 +6,17 @@ use Rattle.soar_agent.specs.Restarting.{restarts}
 use Rattle.soar_agent.specs.States.{session_of}
 use Rattle.soar_agent.proofs.ReplyLemmas.{quiet_none, with_kept}
 use Rattle.soar_agent.proofs.SettingLemmas.{starts_anew}
-use Rattle.soar_agent.proofs.SessionLemmas.{ready_after}
+use Rattle.soar_agent.proofs.ReadyLemmas.{ready_anew}
 use Rattle.soar_agent.proofs.state.Session.restart.Goals as goal
+
+pub returns-in-Ok-clause-ready : goal.returns-in-Ok-clause-ready
+returns-in-Ok-clause-ready g c = ready_anew c.args.self.now c.restart.new.self c.new.result c.requires c.in-Ok.ensures.standing c.in-Ok.ensures.sound c.new.ensures
 
 pub returns-in-Ok-clause-reply : goal.returns-in-Ok-clause-reply
 returns-in-Ok-clause-reply g c = λ said history remembers.
     let a : Agent = agent_of c.args.self.now.agent.parts history in
     starts_anew c.args.self.now c.restart.new.self c.new.result history said
-    (ready_after c.args.self.now.agent c.restart.new.self c.requires c.in-Ok.ensures.standing c.in-Ok.ensures.sound) c.in-Ok.ensures.mid_line c.new.ensures
+    (ready_anew c.args.self.now c.restart.new.self c.new.result c.requires c.in-Ok.ensures.standing c.in-Ok.ensures.sound c.new.ensures) c.in-Ok.ensures.mid_line c.new.ensures
     (c.in-Ok.ensures.step c.requires.0 a (stands_at c.args.self.now.agent.parts history remembers))
 
 pub returns-in-Err-clause-reply : goal.returns-in-Err-clause-reply

@@ -1,0 +1,13 @@
+use Rattle.std.proofs.Common.{subst}
+use Rattle.defs_run.specs.Carrying.{with_settings}
+use Rattle.wave_parts.specs.Settings.{settings_seen}
+use Rattle.wave_parts.specs.declared.settings.Settings.{Settings}
+use Rattle.soar_agent.specs.States.{session_of}
+use Rattle.soar_agent.specs.Steps.{Obeys}
+use Rattle.soar_agent.proofs.state.Session.set_learning.Goals as goal
+
+pub returns-clause-reply : goal.returns-clause-reply
+returns-clause-reply g c = λ said history remembers.
+    subst (λ (old : Settings). Obeys c.args.self.now.agent.parts.settings.watch c.args.self.now.agent.mid_line
+    (with_settings (session_of c.args.self.now history) (record (settings_seen old) { learning = c.args.on })) c.set.new.self said said c.set.result)
+    c.settings-old.ensures (c.set.ensures.reply said history remembers)
