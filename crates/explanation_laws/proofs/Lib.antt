@@ -1,0 +1,4 @@
+pub mod CycleStays
+pub mod OrderStays
+pub mod PrintedLines
+pub mod ProgramLaws
