@@ -1,6 +1,7 @@
 -- What callers see of nodes.
-use Rattle.std.proofs.Common.{◌≡◌, refl, sym, ap, subst, ◌∙◌, false, ℕ, zero, suc, ◌<◌, List, [], ◌∷◌, map, Option, Some, None, slice_index_or, Result, Ok, Err, IfOk}
+use Rattle.std.proofs.Common.{◌≡◌, refl, sym, ap, subst, ◌∙◌, false, cond, ℕ, zero, suc, ◌+◌, ◌<◌, count_by, is_some, List, [], ◌∷◌, map, Option, Some, None, slice_index_or, Result, Ok, Err, IfOk}
 use Rattle.std.specs.Prelude.{option_and_then, IsSome}
+use Rattle.std.specs.List.{fold}
 use Rattle.std.specs.Option.{option_map}
 use Rattle.std.proofs.lemmas.Option.{same_Some}
 use Rattle.node_table.specs.declared.node.NodeKey.{NodeKey}
@@ -51,6 +52,15 @@ are_nodes number slots end numbered table = record {
 pub if_ok : {T E : Type 0} {P Q : T → Type 0} → ((x : T) → P x → Q x) → (r : Result T E) → IfOk r P → IfOk r Q
 if_ok f (Ok x) p = f x p
 if_ok f (Err e) p = tt
+
+-- as many are live in the view, behind a number
+counted_in : (n : ℕ) (slots : List (Option Node)) → fold (λ a o. a + cond (is_some o) 1 0) n (map (option_map asked_of) slots) ≡ fold (λ a o. a + cond (is_some o) 1 0) n slots
+counted_in n [] = refl
+counted_in n (None ∷ slots) = counted_in (n + 0) slots
+counted_in n (Some node ∷ slots) = counted_in (n + 1) slots
+
+pub count_in : (slots : List (Option Node)) → count_by is_some (map (option_map asked_of) slots) ≡ count_by is_some slots
+count_in slots = counted_in 0 slots
 
 -- ---- what is said of the table is said of the view
 

@@ -1,5 +1,5 @@
 -- What callers see of a network of joins and negations.
-use Rattle.std.specs.Prelude.{◌≡◌, ◌≢◌, ◌<◌, ◌+◌, ◌-◌, nat_lt, ℕ, Bool, false, List, [], Option, Some, None, IsSome, option_and_then, slice_index_or, if◌then◌else◌}
+use Rattle.std.specs.Prelude.{◌≡◌, ◌≢◌, ◌<◌, ◌+◌, ◌-◌, nat_lt, ℕ, Bool, false, List, [], Option, Some, None, IsSome, option_and_then, slice_index_or, count_by, is_some, if◌then◌else◌}
 use Rattle.soar_wm.specs.declared.element.Element.{Element}
 use Rattle.defs_match.specs.Laws.{IsIn}
 use Rattle.node_table.specs.declared.node.NodeKey.{NodeKey}
@@ -29,6 +29,10 @@ key_at j n = option_and_then key_of (node_at j n)
 
 abbrev pub IsLive : JoinsOf → ℕ → Type 0
 IsLive j n = IsSome (node_at j n)
+
+-- how many nodes are live
+abbrev pub live_count : JoinsOf → ℕ
+live_count j = count_by is_some j.nodes
 
 -- no node is another than before
 abbrev pub SameNodes : JoinsOf → JoinsOf → Type 0

@@ -5,7 +5,7 @@ ghost use Rattle.defs_match.specs.Conflict.{instance_of};
 ghost use Rattle.defs_match.specs.Contents.{with_element, HasTag, Works};
 ghost use Rattle.defs_match.specs.Rows.{rows};
 ghost use Rattle.node_table.specs.declared.node.Step.TheVariants.{Join, Negation};
-ghost use Rattle.rete_beta.specs.Joins.{node_at, key_at, IsLive, SameNodes, Asks, CanDrop, Drops, IsStart, AreNodes};
+ghost use Rattle.rete_beta.specs.Joins.{node_at, key_at, IsLive, SameNodes, Asks, CanDrop, Drops, IsStart, AreNodes, live_count};
 ghost use Rattle.rete_beta.specs.Networks.{key_made};
 ghost use Rattle.rete_beta.specs.Ways.{Way, IsWay, conditions_of};
 
@@ -147,6 +147,13 @@ impl Joins {
             return Err(NoMemory);
         }
         tokens_at(alloc, &self.network, n)
+    }
+
+    /// How many nodes are live, the root among them. It takes no memory.
+    pub fn nodes(&self) -> usize
+        ensures { result ≡ live_count self.now }
+    {
+        self.network.nodes.len()
     }
 
     /// Live nodes differ in parent or step, and each has a request.

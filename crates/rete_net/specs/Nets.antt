@@ -1,5 +1,5 @@
 -- What callers see of a matcher over a network.
-use Rattle.std.specs.Prelude.{◌≡◌, ◌≢◌, ℕ, Bool, false, List, [], Option, None, IsSome, slice_index_or}
+use Rattle.std.specs.Prelude.{◌≡◌, ◌≢◌, ℕ, Bool, false, List, [], Option, None, IsSome, is_some, count_by, slice_index_or}
 use Rattle.soar_wm.specs.declared.element.Element.{Element}
 use Rattle.defs_match.specs.Laws.{IsIn}
 use Rattle.rete_beta.specs.Joins.{AreNodes, Asked}
@@ -17,6 +17,10 @@ pub record NetOf : Type 0 where
 -- the live node of a number
 abbrev pub live_at : NetOf → ℕ → Option Asked
 live_at n k = slice_index_or n.nodes k None
+
+-- how many nodes are live
+abbrev pub live_nodes : NetOf → ℕ
+live_nodes n = count_by is_some n.nodes
 
 -- no rule, and no element
 pub record IsEmpty (n : NetOf) : Type 0 where

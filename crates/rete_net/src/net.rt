@@ -1,6 +1,6 @@
 ghost use Rattle.std.specs.Prelude.{◌≡◌, map, false, IfOk};
 ghost use Rattle.rete_net.specs.Chains.{rule_of};
-ghost use Rattle.rete_net.specs.Nets.{IsEmpty, IsShared};
+ghost use Rattle.rete_net.specs.Nets.{IsEmpty, IsShared, live_nodes};
 
 use crate::loaded::{self, Loaded};
 use defs_match::{Instance, Matcher, Rule};
@@ -46,6 +46,13 @@ impl Net {
             failed: false,
             alloc,
         })
+    }
+
+    /// How many nodes are live, the root among them. It takes no memory.
+    pub fn nodes(&self) -> usize
+        ensures { result ≡ live_nodes self.now }
+    {
+        self.loaded.joins.nodes()
     }
 
     /// No two live nodes have the same parent and the same condition, and each but the root is on the way of a loaded rule.

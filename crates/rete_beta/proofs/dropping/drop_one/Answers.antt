@@ -2,7 +2,6 @@ use Rattle.std.proofs.Common.{◌≡◌, ◌∙◌, ◌-◌, refl, sym, subst, S
 use Rattle.soar_wm.specs.WorkingMemory.{IsRising}
 use Rattle.node_memory.specs.Held.{SameElements}
 use Rattle.node_table.specs.Content.{AllHold}
-use Rattle.std.specs.BTreeMap as numbers_of
 use Rattle.slab.specs.Slab.{get}
 use Rattle.node_table.specs.Nodes.{one_less}
 use Rattle.node_table.specs.declared.node.Node.{Node}
