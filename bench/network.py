@@ -1,7 +1,7 @@
 #!/usr/bin/env python3
 """What the network alone does for a change, in instructions, by the number of productions and of elements.
 
-    python3 bench/network.py PROGRAM
+    python3 bench/network.py PROGRAM [--big]
 
 PROGRAM is the built program (crates/soar_app/out/soar_app). Needed is valgrind. Counted is what runs within
 `rete_beta::changing::react`, which takes an element in or lets it go; the figure is the difference of two runs, one with
@@ -14,8 +14,20 @@ import tempfile
 
 import measure
 
-measure.CHANGES = 200
+measure.CHANGES = 20
 REACT = "rete_beta::changing::react"
+
+
+def made(side):
+    """As many elements as this number by itself, made in one wave, each of them held by a firing."""
+    rule = "sp {many (state <s> ^superstate nil ^one <x> ^two <y>) --> (<s> ^of (+ (* <x> 1000) <y>))}\n"
+    return rule + "".join(f"add-wme S1 ^one {n}\nadd-wme S1 ^two {n}\n" for n in range(side)) + "run 1\n"
+
+
+def next_tag(program, first):
+    """The tag of the next element: none has gone so far."""
+    told = subprocess.run([program], input=(first + "stats\n").encode(), capture_output=True, check=True).stdout
+    return int(told.split(b"elements ")[1].split()[0]) + 1
 
 
 def instructions(program, script):
@@ -30,17 +42,18 @@ def instructions(program, script):
 
 
 def main():
-    if len(sys.argv) != 2:
+    if len(sys.argv) < 2:
         sys.exit(__doc__)
-    program = os.path.abspath(sys.argv[1])
+    program, big = os.path.abspath(sys.argv[1]), "--big" in sys.argv
     print("| productions, elements | a change that no production names | one that a waiting row takes |")
     print("|---|---|---|")
-    for rules, elements in [(100, 500), (1000, 500), (5000, 500), (100, 2000), (100, 4000)]:
-        first = measure.rules(rules) + "add-wme S1 ^task <t>\n" + measure.elements(elements)
+    for rules, side in [(100, 10), (1000, 10), (10000, 10), (100, 32), (100, 100)] + [(100000, 10), (100, 200)] * big:
+        first = measure.rules(rules) + "add-wme S1 ^task <t>\n" + made(side)
+        tag = next_tag(program, first)
         alone = instructions(program, first)
-        blocks = [measure.come_and_go(triple, 7 + elements) for triple in ["S1 ^quiet", "<t> ^code"]]
+        blocks = [measure.come_and_go(triple, tag) for triple in ["S1 ^quiet", "<t> ^code"]]
         costs = [(instructions(program, first + block) - alone) // (2 * measure.CHANGES) for block in blocks]
-        print(f"| {rules:,}, {elements:,} | {costs[0]:,} | {costs[1]:,} |", flush=True)
+        print(f"| {rules:,}, {side * side:,} | {costs[0]:,} | {costs[1]:,} |", flush=True)
 
 
 if __name__ == "__main__":

@@ -160,9 +160,12 @@ fn negations_up_to_eight_deep_agree(rt: HostRuntime) -> Result<(), Fail> {
     Ok(())
 }
 
-/// How many nodes there are after the calls of a text, with two rules that begin alike.
+/// How many nodes there are after the calls of a text. Two rules begin alike, and the third has the conditions of the first.
 fn nodes_after(alloc: Global, calls: &str) -> Result<usize, Fail> {
-    let rules = rules_of(alloc, &["s0a1 +1b2 +2c3", "s5a6 +6b7 +7d8"])?;
+    let rules = rules_of(
+        alloc,
+        &["s0a1 +1b2 +2c3", "s5a6 +6b7 +7d8", "s3a4 +4b5 +5c6"],
+    )?;
     let calls = calls_of(alloc, calls)?;
     let mut matcher = Net::new(alloc)?;
     let _conflicts = conflicts_of(alloc, &mut matcher, rules.as_slice(), calls.as_slice())?;
@@ -171,7 +174,13 @@ fn nodes_after(alloc: Global, calls: &str) -> Result<usize, Fail> {
 
 #[test]
 fn rules_that_begin_alike_share_nodes(rt: HostRuntime) -> Result<(), Fail> {
-    for (calls, nodes) in [("l1", 4), ("l1 l2", 5), ("l1 l2 x1", 4), ("l1 l2 x1 x2", 1)] {
+    for (calls, nodes) in [
+        ("l1", 4),
+        ("l1 l3", 4),
+        ("l1 l2", 5),
+        ("l1 l2 x1", 4),
+        ("l1 l2 x1 x2", 1),
+    ] {
         assert!(rt; nodes_after(rt.alloc(), calls)? == nodes, "{calls}");
     }
     Ok(())
