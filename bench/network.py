@@ -5,7 +5,7 @@
 
 PROGRAM is the built program (crates/soar_app/out/soar_app). Needed is valgrind. Counted is what runs within
 `rete_beta::changing::react`, which takes an element in or lets it go; the figure is the difference of two runs, one with
-a block of changes and one without.
+a block of changes and one with as many blanks in its place, so that memory lies the same until then.
 """
 import os
 import subprocess
@@ -41,6 +41,12 @@ def instructions(program, script):
     return sum(int(line.split()[0].replace(",", "")) for line in lines if REACT in line)
 
 
+def cost(program, first, block):
+    """Of one change of the block, behind what comes first."""
+    blank = "".join("\n" if at == "\n" else " " for at in block)
+    return (instructions(program, first + block) - instructions(program, first + blank)) // (2 * measure.CHANGES)
+
+
 def main():
     if len(sys.argv) < 2:
         sys.exit(__doc__)
@@ -50,9 +56,8 @@ def main():
     for rules, side in [(100, 10), (1000, 10), (10000, 10), (100, 32), (100, 100)] + [(100000, 10), (100, 200)] * big:
         first = measure.rules(rules) + "add-wme S1 ^task <t>\n" + made(side)
         tag = next_tag(program, first)
-        alone = instructions(program, first)
         blocks = [measure.come_and_go(triple, tag) for triple in ["S1 ^quiet", "<t> ^code"]]
-        costs = [(instructions(program, first + block) - alone) // (2 * measure.CHANGES) for block in blocks]
+        costs = [cost(program, first, block) for block in blocks]
         print(f"| {rules:,}, {side * side:,} | {costs[0]:,} | {costs[1]:,} |", flush=True)
 
 
