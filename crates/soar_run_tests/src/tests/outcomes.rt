@@ -1,7 +1,7 @@
 // What becomes of explanations, each outcome with its cause, and chains through learned rules.
 
 /// Quiescence; no grounds; a rule that is there already, and matches at once; a negation that is blocked now; chunks over
-/// two levels, and justifications; results that share a new object.
+/// two levels, and justifications; results that share a new object; a local negation; the substate itself as a value.
 pub const OUTCOMES: &str = r#"chunk always
 sp {ask (state <s> ^impasse no-change ^quiescence t ^superstate <ss>) (<ss> ^n <x>) --> (<ss> ^seen <x>)}
 add-wme S1 ^n 5
@@ -207,4 +207,47 @@ sp {chunk*2
 6: (S1 ^n 5)
 14: (S1 ^thing T1)
 17: (S1 ^best T1)
+;;
+chunk always
+sp {offer (state <s> ^superstate nil ^cand <n>) --> (<s> ^operator <o> +) (<o> ^value <n>)}
+sp {rate (state <s> ^impasse tie ^item <o> ^superstate <ss>) -(<s> ^stop yes) (<o> ^value <v>) --> (<ss> ^operator <o> = <v>)}
+add-wme S1 ^cand 2
+add-wme S1 ^cand 3
+watch 3
+run 1
+=>
+-- input
+-- proposal
+fire 1 offer: 4 6
+fire 2 offer: 4 7
+-- decision
+1:   ==>S: S2 (tie)
+-- application
+fire 3 rate: 14 15 22 8
+fire 4 rate: 14 16 22 9
+justify 5 justification*1 from 3: 10 8 (local negation in 3)
+justify 6 justification*2 from 4: 11 9 (local negation in 4)
+-- output
+;;
+sp {offer (state <s> ^superstate nil ^cand <n>) --> (<s> ^operator <o> +) (<o> ^name <n>)}
+sp {plain (state <s> ^impasse tie ^non-numeric <o> ^superstate <ss>) (<ss> ^go yes) --> (<ss> ^sub <s>)}
+chunk always
+add-wme S1 ^cand x
+add-wme S1 ^cand y
+add-wme S1 ^go yes
+watch 3
+run 1
+=>
+-- input
+-- proposal
+fire 1 offer: 4 6
+fire 2 offer: 4 7
+-- decision
+1:   ==>S: S2 (tie)
+-- application
+fire 3 plain: 15 19 23 8
+fire 4 plain: 15 20 23 8
+justify 5 justification*1 from 3: 8 (ungrounded S2)
+justify 6 justification*2 from 4: 8 (ungrounded S2)
+-- output
 "#;
