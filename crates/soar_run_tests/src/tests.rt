@@ -92,7 +92,12 @@ fn substates_come_and_go(rt: HostRuntime) -> Result<(), Fail> {
 
 #[test]
 fn rules_are_learned(rt: HostRuntime) -> Result<(), Fail> {
-    let cases = [learning::LEARNED, outcomes::OUTCOMES, fifty::FIFTY];
+    let cases = [
+        learning::LEARNED,
+        outcomes::OUTCOMES,
+        fifty::FIFTY,
+        fifty::LARGE,
+    ];
     let wrong = wrong_of(rt.alloc(), Status::Done, &cases)?;
     assert!(rt; wrong.is_empty(), "{wrong}");
     Ok(())
