@@ -1,4 +1,5 @@
 pub mod FirstLemmas
+pub mod JournalLemmas
 pub mod KeyLemmas
 pub mod MarkLemmas
 pub mod RangeLemmas

@@ -209,3 +209,20 @@ any_of p test only (row ∷ rows) = by (test row) (p row) refl refl (any_of p te
     by t true e f h = ap (λ r. test row || r) h
     by true false e f h = (let bad : true ≡ false = sym (only row e) ∙ f in absurd (cc))
     by false false e f h = h ∙ sym (ap (λ b. b || list_any test rows) e)
+
+-- a test of such rows
+pub any_within : (p test : Preference → Bool) (rows : List Preference) → list_any test (filter p rows) ≡ list_any (λ row. test row && p row) rows
+any_within p test [] = refl
+any_within p test (row ∷ rows) = by (p row) ∙ ap (λ b. (test row && p row) || b) (any_within p test rows)
+  where
+    with : (t c : Bool) → (t || c) ≡ ((t && true) || c)
+    with true c = refl
+    with false c = refl
+
+    without : (t c : Bool) → c ≡ ((t && false) || c)
+    without true c = refl
+    without false c = refl
+
+    by : (b : Bool) → list_any test (cond b (row ∷ filter p rows) (filter p rows)) ≡ ((test row && b) || list_any test (filter p rows))
+    by true = with (test row) (list_any test (filter p rows))
+    by false = without (test row) (list_any test (filter p rows))

@@ -10,7 +10,7 @@ use Rattle.soar_wm.proofs.KeyLemmas.{nat_same, nat_is}
 use Rattle.soar_prefs.specs.declared.key.Key.{Key}
 use Rattle.soar_prefs.specs.Store.{is_of, Rows, Numbers, row_at, has, is_own, Marks, is_held, IsBefore, IsNumbered, IsStore}
 
-apart : (m n : ℕ) → n < m → is_eq (nat_cmp m n) ≡ false
+pub apart : (m n : ℕ) → n < m → is_eq (nat_cmp m n) ≡ false
 apart m n h = grind arith
 
 apart_below : (m n : ℕ) → m < n → is_eq (nat_cmp m n) ≡ false
@@ -30,7 +30,7 @@ fresh_above next n (e ∷ rows) numbered le = ap (λ b. cond b (Some e.1) (row_a
 
 -- one row more
 
-at_end : (next : ℕ) (rows : Rows) (row : Preference) → IsNumbered next rows → insert_entry nat_cmp rows next row ≡ rows ++ (next, row) ∷ []
+pub at_end : (next : ℕ) (rows : Rows) (row : Preference) → IsNumbered next rows → insert_entry nat_cmp rows next row ≡ rows ++ (next, row) ∷ []
 at_end next [] row numbered = refl
 at_end next (e ∷ rows) row numbered =
     ap (λ o. match_ordering o ((next, row) ∷ e ∷ rows) ((e.0, row) ∷ rows) (e ∷ insert_entry nat_cmp rows next row)) (greater next e.0 numbered.0) ∙ ap (λ es. e ∷ es) (at_end next rows row numbered.2)

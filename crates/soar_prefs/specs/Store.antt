@@ -1,13 +1,15 @@
 -- Rows by number, and the numbers by what rows are found. No public clause cites this.
-use Rattle.std.specs.Prelude.{◌≡◌, ℕ, ◌-◌, ◌^◌, ◌<◌, ◌==◌, Bool, false, ◌&&◌, cond, List, [], ◌∷◌, Option, Some, None, is_some}
+use Rattle.std.specs.Prelude.{◌≡◌, ℕ, ◌+◌, ◌-◌, ◌^◌, ◌<◌, ◌≤◌, ◌==◌, Bool, false, ◌&&◌, cond, List, [], ◌∷◌, length, Option, Some, None, is_some}
 use Rattle.std.specs.BTreeMap.Range.{entries_between}
 use Rattle.std.specs.Map.{lookup}
-use Rattle.std.specs.Ordering.{is_eq, nat_cmp, ordering_then}
+use Rattle.std.specs.Ordering.{is_eq, is_lt, nat_cmp, ordering_then}
 use Rattle.std.specs.declared.cmp.Ordering.{Ordering}
 use Rattle.std.specs.declared.ops.Bound.TheVariants.{Included}
 use Rattle.soar_sym.specs.Equality.{symbol_eq, mark_eq}
+use Rattle.soar_sym.specs.declared.symbol.Triple.{Triple as Fact}
 use Rattle.defs_soar.specs.declared.preference.Preference.{Preference}
 use Rattle.soar_prefs.specs.contracts.key.KeyOrd.TheImpl as key_order
+use Rattle.soar_prefs.specs.declared.event.Event.{Event}
 use Rattle.soar_prefs.specs.declared.key.Key.{Key}
 use Rattle.soar_prefs.specs.declared.key.Key.TheVariants.{Firing, Id, Variablized, Triple}
 
@@ -82,3 +84,35 @@ pub record IsStore (rows : Rows) (numbers : Numbers) (next : ℕ) : Type 0 where
   pub numbered : IsNumbered next rows
   pub small : next < 2 ^ 64
   pub found : (q : Key × ℕ) → has numbers q ≡ is_held q.0 (row_at rows q.1)
+
+-- ---- what came and went
+
+-- the triple of a row, without mark
+abbrev pub plain : Preference → Fact
+plain row = record { id = row.wish.id; attr = row.wish.attr; value = row.wish.value; accept = false }
+
+abbrev pub triple_key : Preference → Key
+triple_key row = Triple row.wish.id row.wish.attr row.wish.value
+
+-- without the first row of the number that is of the triple of this one
+abbrev pub taken_out : ℕ → Preference → Rows → Rows
+taken_out n row [] = []
+taken_out n row (e ∷ rows) = cond (is_eq (nat_cmp n e.0) && is_of (triple_key row) e.1) rows (e ∷ taken_out n row rows)
+
+-- with the row, before those of higher numbers
+abbrev pub put_back : ℕ → Preference → Rows → Rows
+put_back n row [] = (n, row) ∷ []
+put_back n row (e ∷ rows) = cond (is_lt (nat_cmp n e.0)) ((n, row) ∷ e ∷ rows) (e ∷ put_back n row rows)
+
+-- the rows before it came or went
+abbrev pub before : Event → Rows → Rows
+before event rows = cond event.came (taken_out event.number event.row rows) (put_back event.number event.row rows)
+
+-- the rows before all that came and went, the last first
+abbrev pub undone : List Event → Rows → Rows
+undone [] rows = rows
+undone (event ∷ journal) rows = before event (undone journal rows)
+
+-- what was noted, and each row to go, has room
+abbrev pub HasRoom : Rows → ℕ → ℕ → Type 0
+HasRoom rows noted capacity = length rows + noted ≤ capacity

@@ -3,15 +3,15 @@ ghost use Rattle.std.specs.Prelude.{◌≡◌, ◌^◌, ◌<◌, ◌&&◌, ℕ, 
 ghost use Rattle.std.specs.BTreeMap.{IsOrdered};
 ghost use Rattle.std.specs.List.{list_any};
 ghost use Rattle.std.specs.Ordering.{nat_cmp};
-ghost use Rattle.defs_soar.specs.Values.{wish_eq};
+ghost use Rattle.defs_soar.specs.Values.{is_kind, wish_eq};
 ghost use Rattle.soar_prefs.specs.declared.key.Key.{Key as KeyOf};
-ghost use Rattle.soar_prefs.specs.declared.key.Key.TheVariants.{Triple};
+ghost use Rattle.soar_prefs.specs.declared.key.Key.TheVariants.{Triple as TripleKey};
 ghost use Rattle.soar_prefs.specs.Store.{has, number_cmp, same_place, of_key, row_at, Marks, MarksOthers};
 
 use crate::key::Key;
 use crate::same::is_wish;
-use defs_soar::{Preference, Wish};
-use soar_sym::{List, NoMemory};
+use defs_soar::{PrefKind, Preference, Wish};
+use soar_sym::{List, NoMemory, Triple};
 use std::alloc::Global;
 use std::collections::BTreeMap;
 
@@ -108,13 +108,34 @@ pub fn rows_of(
 
 /// Whether a wish is among those of the operator-supported rows of its triple.
 pub fn has_wish(index: &Index, rows: &BTreeMap<u64, Preference>, wish: Wish) -> bool
-    ensures found { result ≡ list_any (λ q. q.operator_support && wish_eq q.wish wish) (filter_map (λ e. row_at rows.now.entries e.0.1) (of_key (Triple wish.id wish.attr wish.value) index.now.entries)) }
+    ensures found { result ≡ list_any (λ q. q.operator_support && wish_eq q.wish wish) (filter_map (λ e. row_at rows.now.entries e.0.1) (of_key (TripleKey wish.id wish.attr wish.value) index.now.entries)) }
     ensures ordered { IsOrdered number_cmp index.now }
 {
     let key = Key::Triple(wish.id, wish.attr, wish.value);
     'numbers: for (place, _) in index.range((key, 0)..=(key, u64::MAX)) {
         if let Some(row) = rows.get(&place.1) {
             if row.operator_support && is_wish(row.wish, wish) {
+                return true;
+            }
+        }
+    }
+    false
+}
+
+/// Whether a row of the triple has the kind.
+pub fn has_kind(
+    index: &Index,
+    rows: &BTreeMap<u64, Preference>,
+    triple: Triple,
+    kind: PrefKind,
+) -> bool
+    ensures found { result ≡ list_any (λ q. is_kind q.wish.kind kind) (filter_map (λ e. row_at rows.now.entries e.0.1) (of_key (TripleKey triple.id triple.attr triple.value) index.now.entries)) }
+    ensures ordered { IsOrdered number_cmp index.now }
+{
+    let key = Key::Triple(triple.id, triple.attr, triple.value);
+    'numbers: for (place, _) in index.range((key, 0)..=(key, u64::MAX)) {
+        if let Some(row) = rows.get(&place.1) {
+            if row.wish.kind.is(kind) {
                 return true;
             }
         }

@@ -1,8 +1,10 @@
 //! Preference memory.
 #![tactic(auto)]
 
+mod event;
 mod fault;
 mod index;
+mod journal;
 mod key;
 mod prefs;
 mod same;

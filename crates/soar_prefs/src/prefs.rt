@@ -1,8 +1,9 @@
-ghost use Rattle.std.specs.Prelude.{◌≡◌, [], ◌∷◌, IfOk, OnErr, length};
+ghost use Rattle.std.specs.Prelude.{◌≡◌, [], ◌∷◌, IfOk, OnOk, OnErr, length};
 ghost use Rattle.defs_soar.specs.Preferences.{slot_of, without_firings, without_id};
-ghost use Rattle.soar_prefs.specs.Memory.{Adds, without_triple};
+ghost use Rattle.soar_prefs.specs.Memory.{Adds, CoversRows, hold_up, without_triple};
 
 use crate::fault::PrefFault;
+use crate::journal;
 use crate::key::Key;
 use crate::store::Store;
 use defs_soar::Preference;
@@ -19,21 +20,22 @@ pub struct Prefs {
 }
 
 impl Model for Prefs {
+    ghost use Rattle.std.specs.Prelude.{vec_len, vec_capacity};
     ghost use Rattle.std.specs.Map.{values_of};
     ghost use Rattle.soar_prefs.specs.Memory.{PreferenceMemory};
-    ghost use Rattle.soar_prefs.specs.Store.{IsStore};
+    ghost use Rattle.soar_prefs.specs.Store.{HasRoom, IsStore, undone};
 
     ghost Value = { PreferenceMemory };
 
-    ghost view = { λ p. record { rows = values_of p.store.rows.entries; limit = p.limit } };
+    ghost view = { λ p. record { rows = values_of p.store.rows.entries; limit = p.limit; settled = values_of (undone p.store.journal.items p.store.rows.entries) } };
 
-    ghost invariant = { λ p. IsStore p.store.rows.entries p.store.numbers.entries p.store.next };
+    ghost invariant = { λ p. IsStore p.store.rows.entries p.store.numbers.entries p.store.next × HasRoom p.store.rows.entries (vec_len p.store.journal) (vec_capacity p.store.journal) };
 }
 
 impl Prefs {
     /// No rows, and room for so many.
     pub fn new(alloc: Global, limit: u32) -> Result<Prefs, NoMemory>
-        ensures { IfOk result (λ prefs. prefs ≡ record { rows = []; limit = limit }) }
+        ensures { IfOk result (λ prefs. prefs ≡ record { rows = []; limit = limit; settled = [] }) }
     {
         Ok(Prefs {
             store: Store::new(alloc),
@@ -78,6 +80,28 @@ impl Prefs {
         ensures { self.new ≡ record self.old { rows = without_id self.old.rows id } }
     {
         self.store.drop_key(Key::Id(id));
+    }
+
+    /// The triples, marks apart, whose rows came or went since changes were last taken; from now on changes count anew. A triple may stand there more than once, and its mark is off.
+    pub fn take_changes(&mut self, alloc: Global) -> Result<List<Triple>, NoMemory>
+        ensures covers { IfOk result (λ triples. CoversRows triples self.old.settled self.old.rows) }
+        ensures ok { OnOk result (self.new ≡ record self.old { settled = self.old.rows }) }
+        ensures err { OnErr result (self.new ≡ self.old) }
+    {
+        let triples = journal::triples(alloc, self.store.journal.as_slice())?;
+        self.store.journal.clear();
+        Ok(triples)
+    }
+
+    /// Whether rows hold a triple up: a goal's candidate, with its mark, by an acceptable or a require row; any other triple, without mark, by an acceptable row where none rejects it.
+    pub fn holds(&self, triple: Triple, operator: bool) -> bool
+        ensures { result ≡ hold_up operator self.now.rows triple }
+    {
+        if operator {
+            triple.accept && self.store.is_candidate(triple)
+        } else {
+            !triple.accept && self.store.is_accepted(triple)
+        }
     }
 
     /// How many rows there are.

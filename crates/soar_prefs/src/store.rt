@@ -1,24 +1,29 @@
 // Rows by number, found by their keys.
-ghost use Rattle.std.specs.Prelude.{◌≡◌, ◌∷◌, ◌++◌, [], not, filter, length, OnOk, OnErr, IfOk};
+ghost use Rattle.std.specs.Prelude.{◌≡◌, ◌∷◌, ◌++◌, [], ◌&&◌, ◌||◌, not, filter, length, OnOk, OnErr, IfOk, vec_len, vec_capacity};
 ghost use Rattle.std.specs.BTreeMap.{is_at};
 ghost use Rattle.std.specs.Map.{values_of, remove_entry};
 ghost use Rattle.std.specs.Ordering.{nat_cmp};
+ghost use Rattle.defs_soar.specs.declared.preference.PrefKind.TheVariants as kind;
 ghost use Rattle.defs_soar.specs.Preferences.{is_kept_already};
-ghost use Rattle.soar_prefs.specs.Store.{IsStore, is_of};
+ghost use Rattle.settling_laws.specs.Changes.{has_row};
+ghost use Rattle.soar_prefs.specs.Store.{HasRoom, IsStore, is_of, undone};
 
+use crate::event::Event;
 use crate::index::{self, Index};
+use crate::journal;
 use crate::key::Key;
-use defs_soar::Preference;
-use soar_sym::{List, NoMemory};
+use defs_soar::{PrefKind, Preference};
+use soar_sym::{List, NoMemory, Triple};
 use std::alloc::Global;
 use std::collections::BTreeMap;
 
-/// Rows in order of adding.
+/// Rows in order of adding, and in its journal those that came or went. The journal has room for each row to go.
 #[derive(Drop)]
 pub struct Store {
     pub rows: BTreeMap<u64, Preference>,
     pub numbers: Index,
     pub next: u64,
+    pub journal: Vec<Event>,
 }
 
 impl Store {
@@ -26,18 +31,24 @@ impl Store {
     pub fn new(alloc: Global) -> Store
         ensures rows { result.rows.entries ≡ [] }
         ensures sound { IsStore result.rows.entries result.numbers.entries result.next }
+        ensures journal { result.journal.items ≡ [] }
+        ensures room { HasRoom result.rows.entries (vec_len result.journal) (vec_capacity result.journal) }
     {
         Store {
             rows: BTreeMap::new(alloc),
             numbers: BTreeMap::new(alloc),
             next: 0,
+            journal: Vec::new(alloc),
         }
     }
 
     /// Adds a row. That 2^64 - 1 rows were added before counts as want of memory.
     pub fn add(&mut self, row: Preference) -> Result<(), NoMemory>
-        requires { IsStore self.old.rows.entries self.old.numbers.entries self.old.next }
+        requires sound { IsStore self.old.rows.entries self.old.numbers.entries self.old.next }
+        requires room { HasRoom self.old.rows.entries (vec_len self.old.journal) (vec_capacity self.old.journal) }
         ensures sound { IsStore self.new.rows.entries self.new.numbers.entries self.new.next }
+        ensures room { HasRoom self.new.rows.entries (vec_len self.new.journal) (vec_capacity self.new.journal) }
+        ensures settled { undone self.new.journal.items self.new.rows.entries ≡ undone self.old.journal.items self.old.rows.entries }
         ensures ok { OnOk result (values_of self.new.rows.entries ≡ values_of self.old.rows.entries ++ row ∷ []) }
         ensures err { OnErr result (self.new.rows.entries ≡ self.old.rows.entries) }
     {
@@ -45,10 +56,13 @@ impl Store {
         let Some(next) = number.checked_add(1) else {
             return Err(NoMemory);
         };
+        // For this row to come, and for it and all others to go.
+        self.journal.reserve(self.rows.len() + 2)?;
         index::note(&mut self.numbers, &row, number)?;
         match self.rows.insert(number, row) {
             Ok(_) => {
                 self.next = next;
+                journal::append(&mut self.journal, number, row, true);
                 Ok(())
             }
             Err(_) => {
@@ -60,19 +74,26 @@ impl Store {
 
     /// Takes a row away.
     fn take(&mut self, number: u64)
-        requires { IsStore self.old.rows.entries self.old.numbers.entries self.old.next }
+        requires sound { IsStore self.old.rows.entries self.old.numbers.entries self.old.next }
+        requires room { HasRoom self.old.rows.entries (vec_len self.old.journal) (vec_capacity self.old.journal) }
         ensures sound { IsStore self.new.rows.entries self.new.numbers.entries self.new.next }
+        ensures room { HasRoom self.new.rows.entries (vec_len self.new.journal) (vec_capacity self.new.journal) }
+        ensures settled { undone self.new.journal.items self.new.rows.entries ≡ undone self.old.journal.items self.old.rows.entries }
         ensures rows { self.new.rows.entries ≡ remove_entry (is_at (nat_cmp number)) self.old.rows.entries }
     {
         if let Some(row) = self.rows.remove(&number) {
             index::forget(&mut self.numbers, &row, number);
+            journal::append(&mut self.journal, number, row, false);
         }
     }
 
     /// Takes the rows of a key away.
     pub fn drop_key(&mut self, key: Key)
-        requires { IsStore self.old.rows.entries self.old.numbers.entries self.old.next }
+        requires sound { IsStore self.old.rows.entries self.old.numbers.entries self.old.next }
+        requires room { HasRoom self.old.rows.entries (vec_len self.old.journal) (vec_capacity self.old.journal) }
         ensures sound { IsStore self.new.rows.entries self.new.numbers.entries self.new.next }
+        ensures room { HasRoom self.new.rows.entries (vec_len self.new.journal) (vec_capacity self.new.journal) }
+        ensures settled { undone self.new.journal.items self.new.rows.entries ≡ undone self.old.journal.items self.old.rows.entries }
         ensures rows { values_of self.new.rows.entries ≡ filter (λ row. not (is_of key row)) (values_of self.old.rows.entries) }
     {
         'rows: while let Some(number) = index::first(&self.numbers, key) {
@@ -86,6 +107,30 @@ impl Store {
         ensures { result ≡ is_kept_already (values_of self.now.rows.entries) row.now }
     {
         row.operator_support && index::has_wish(&self.numbers, &self.rows, row.wish)
+    }
+
+    /// Whether a row of the kind has the triple, marks apart.
+    fn has_kind(&self, triple: Triple, kind: PrefKind) -> bool
+        requires { IsStore self.now.rows.entries self.now.numbers.entries self.now.next }
+        ensures { result ≡ has_row kind (values_of self.now.rows.entries) triple }
+    {
+        index::has_kind(&self.numbers, &self.rows, triple, kind)
+    }
+
+    /// Whether an acceptable or a require row has the triple.
+    pub fn is_candidate(&self, triple: Triple) -> bool
+        requires { IsStore self.now.rows.entries self.now.numbers.entries self.now.next }
+        ensures { result ≡ (has_row kind.Accept (values_of self.now.rows.entries) triple || has_row kind.Require (values_of self.now.rows.entries) triple) }
+    {
+        self.has_kind(triple, PrefKind::Accept) || self.has_kind(triple, PrefKind::Require)
+    }
+
+    /// Whether an acceptable row has the triple, and no reject row.
+    pub fn is_accepted(&self, triple: Triple) -> bool
+        requires { IsStore self.now.rows.entries self.now.numbers.entries self.now.next }
+        ensures { result ≡ (has_row kind.Accept (values_of self.now.rows.entries) triple && not (has_row kind.Reject (values_of self.now.rows.entries) triple)) }
+    {
+        self.has_kind(triple, PrefKind::Accept) && !self.has_kind(triple, PrefKind::Reject)
     }
 
     /// Copies of all rows, in order of adding.

@@ -1,3 +1,6 @@
+mod changes;
+
+use changes::tells;
 use soar_prefs::{PrefFault, PrefKind, Preference, Prefs, Wish};
 use soar_sym::{NoMemory, Sym, Triple};
 use std::alloc::Global;
@@ -194,5 +197,33 @@ fn many_rows_come_and_go(rt: HostRuntime) -> Result<(), Fail> {
     let mut prefs = Prefs::new(rt.alloc(), 99)?;
     let done = comes_and_goes(&mut prefs, 40) && sum_of_firings(&prefs) == 400;
     assert!(rt; done && prefs.slot(rt.alloc(), S1, COLOR)?.len() == 20);
+    Ok(())
+}
+
+/// What is done, and the colours whose rows came or went by it, each with `+` where rows hold it up.
+const CHANGES: &[&str] = &[
+    "=>",
+    "1+1 2+2 => 1+ 2+",
+    "=>",
+    // another row for it is a change too
+    "3+2 => 2+",
+    "1. => 1",
+    // a reject comes and goes
+    "4-2 => 2",
+    "4. => 2+",
+    // what came and went is told
+    "5+3 5. => 3 3",
+    "6+1 2! => 1+ 2 2",
+    "2! 9. =>",
+    "7+3 S1 => 3 1 3",
+    "=>",
+];
+
+#[test]
+fn changes_are_told_since_they_were_last_taken(rt: HostRuntime) -> Result<(), Fail> {
+    let mut prefs = Prefs::new(rt.alloc(), 9)?;
+    for row in CHANGES {
+        assert!(rt; tells(&mut prefs, rt.alloc(), row)?, "{row}");
+    }
     Ok(())
 }

@@ -8,6 +8,8 @@ rows-smaller c = dropped_fewer _ _ _ _ c.args.key c.in-Some.number c.rows.invari
 pub rows-preserved : goal.rows-preserved
 rows-preserved c = record {
   sound = c.take.ensures.sound;
+  room = c.take.ensures.room;
+  settled = c.take.ensures.settled ∙ c.rows.invariant.settled;
   same = dropped _ _ _ _ c.args.key c.in-Some.number c.rows.invariant.sound c.in-Some.ensures.some c.take.ensures.rows ∙ c.rows.invariant.same;
 }
 

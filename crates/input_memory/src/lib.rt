@@ -1,0 +1,9 @@
+//! The inputs of an agent.
+#![tactic(auto)]
+
+mod index;
+mod inputs;
+mod key;
+mod store;
+
+pub use inputs::Inputs;

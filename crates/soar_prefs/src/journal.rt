@@ -1,0 +1,35 @@
+// What came and went.
+ghost use Rattle.std.specs.Prelude.{◌≡◌, ◌+◌, ◌<◌, [], ◌∷◌, ◌++◌, IfOk, map, vec_len, vec_capacity};
+ghost use Rattle.soar_prefs.specs.Store.{plain};
+
+use crate::event::Event;
+use defs_soar::Preference;
+use soar_sym::{List, NoMemory, Triple};
+use std::alloc::Global;
+
+/// Notes that a row came or went. It takes no memory: there is room.
+pub fn append(journal: &mut Vec<Event>, number: u64, row: Preference, came: bool)
+    requires { vec_len journal.old < vec_capacity journal.old }
+    ensures items { journal.new.items ≡ journal.old.items ++ record { number = number; row = row; came = came } ∷ [] }
+    ensures len { vec_len journal.new ≡ vec_len journal.old + 1 }
+    ensures capacity { vec_capacity journal.new ≡ vec_capacity journal.old }
+{
+    journal.push_reserved(Event { number, row, came });
+}
+
+/// The triples of the rows that came or went.
+pub fn triples(alloc: Global, events: &[Event]) -> Result<List<Triple>, NoMemory>
+    ensures { IfOk result (λ triples. triples ≡ map (λ event. plain event.row) events.now) }
+{
+    let mut triples = List::new(alloc);
+    'events: for event in events {
+        let wish = event.row.wish;
+        triples.push(Triple {
+            id: wish.id,
+            attr: wish.attr,
+            value: wish.value,
+            accept: false,
+        })?;
+    }
+    Ok(triples)
+}
