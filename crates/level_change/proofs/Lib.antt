@@ -1,0 +1,13 @@
+pub mod ButLemmas
+pub mod ChangeLemmas
+pub mod EdgeLemmas
+pub mod ForgetLemmas
+pub mod HadLemmas
+pub mod HadSteps
+pub mod HoldLemmas
+pub mod LinkLemmas
+pub mod PassSteps
+pub mod StandLemmas
+pub mod SeedLemmas
+pub mod SpreadLemmas
+pub mod TotalLemmas

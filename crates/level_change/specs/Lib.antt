@@ -1,0 +1,10 @@
+pub mod Anew
+pub mod Counts
+pub mod Edges
+pub mod Holds
+pub mod Links
+pub mod Forgetting
+pub mod Graph
+pub mod Passing
+pub mod Seeds
+pub mod Told

@@ -1,0 +1,20 @@
+//! Levels that are kept while triples and goals come and go.
+#![tactic(auto)]
+
+mod anew;
+mod counting;
+mod end;
+mod forgetting;
+mod goals;
+mod graph;
+mod laws;
+mod links;
+mod passing;
+mod renewing;
+mod seeds;
+mod spreading;
+mod store;
+mod told;
+
+pub use graph::LevelGraph;
+pub use laws::levels_are_told;
