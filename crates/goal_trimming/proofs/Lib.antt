@@ -2,5 +2,4 @@ pub mod BrokenLemmas
 pub mod HeldLemmas
 pub mod KeptLemmas
 pub mod TagLemmas
-pub mod LivingLemmas
 pub mod RoundLemmas

@@ -1,49 +1,73 @@
 -- One round of the code: what was settled, what is broken, and what goes.
-use Rattle.std.proofs.Common.{◌≡◌, sym, ◌∙◌, ap, subst, ℕ, ◌-◌, ◌≤◌, List, length, map, take, Option, None}
+use Rattle.std.proofs.Common.{◌≡◌, refl, sym, ◌∙◌, ap, subst, ℕ, ◌-◌, ◌≤◌, List, length, map, take, Option, None}
 use Rattle.soar_sym.specs.declared.symbol.Triple.{Triple}
 use Rattle.soar_wm.specs.declared.element.Element.{Element}
 use Rattle.defs_soar.specs.declared.goal.Goal.{Goal}
+use Rattle.defs_soar.specs.declared.preference.Preference.{Preference}
 use Rattle.defs_soar.specs.History.{RecordedFiring}
 use Rattle.defs_soar.specs.Preferences.{without_firings}
-use Rattle.defs_soar.specs.Settling.{kept_triples}
+use Rattle.defs_soar.specs.Settling.{Supports, kept_triples}
 use Rattle.defs_soar.specs.Trimming.{numbers_of}
+use Rattle.defs_soar.specs.Values.{has_triple_among}
 use Rattle.soar_prefs.specs.Memory.{PreferenceMemory}
-use Rattle.soar_settle.specs.Settles.{settled_from}
-use Rattle.goal_trimming.specs.declared.live.Live.{Live}
+use Rattle.kept_triples.specs.Kept.{KeptOf}
+use Rattle.settle_changes.specs.Rest.{IsAtRest, RestIsKept, settled_from}
+use Rattle.live_firings.specs.declared.live.Live.{Live}
 use Rattle.goal_trimming.specs.Broken.{highest_broken_by}
-use Rattle.goal_trimming.specs.Held.{Held, held_by, kept_held, trimmed_held, with_supports_held, without_goals_held}
-use Rattle.goal_trimming.specs.Living.{live_above, live_from, live_seen}
+use Rattle.goal_trimming.specs.Held.{Held, held_by, kept_held, room_of, settled_held, trimmed_held, with_supports_held, without_goals_held}
+use Rattle.live_firings.specs.Living.{live_above, live_from, live_seen}
 use Rattle.goal_trimming.specs.Trims.{AreDependencies, KeepsFirst, Trims}
+use Rattle.goal_trimming.proofs.BrokenLemmas.{same_broken}
 use Rattle.goal_trimming.proofs.HeldLemmas.{Fits, IsBroken, round_ends}
 use Rattle.goal_trimming.proofs.KeptLemmas.{trimmed_keeps}
 use Rattle.goal_trimming.proofs.TagLemmas.{trims_by_tags}
 
 -- what the calls of a round answer
-pub record IsRound (elements : List Element) (goals listed : List Goal) (depends tags : List (List ℕ)) (prefs left : PreferenceMemory) (inputs top : List Triple) (kept sliced : List Triple) (o : Option ℕ) : Type 0 where
+pub record IsRound (elements : List Element) (goals listed : List Goal) (depends tags : List (List ℕ)) (prefs left : PreferenceMemory) (inputs top : List Triple) (kept : List Triple) (o : Option ℕ) : Type 0 where
   pub goals_are : listed ≡ goals
   pub tags_are : tags ≡ depends
-  pub slice_is : sliced ≡ kept
-  pub rows_are : left ≡ record prefs { rows = (settled_from listed prefs.rows inputs).rows }
+  pub rows_are : room_of left ≡ record (room_of prefs) { rows = (settled_from listed prefs.rows inputs).rows }
   pub inputs_are : top ≡ (settled_from listed prefs.rows inputs).inputs
-  pub kept_is : kept ≡ kept_triples listed (settled_from listed prefs.rows inputs)
-  pub broken_is : o ≡ highest_broken_by tags elements sliced 2
+  pub kept_are : (t : Triple) → has_triple_among kept t ≡ has_triple_among (kept_triples listed (settled_from listed prefs.rows inputs)) t
+  pub broken_is : o ≡ highest_broken_by tags elements kept 2
+
+-- what is kept is what the settled state keeps
+kept_so : (goals : List Goal) (rows : List Preference) (inputs : List Triple) (s : Supports) (triples : List Triple) → rows ≡ s.rows → inputs ≡ s.inputs
+    → ((t : Triple) → has_triple_among triples t ≡ has_triple_among (kept_triples goals (record { rows = rows; inputs = inputs })) t)
+    → (t : Triple) → has_triple_among triples t ≡ has_triple_among (kept_triples goals s) t
+kept_so goals rows inputs s triples rows_are inputs_are members t = members t ∙ (λ i. has_triple_among (kept_triples goals (record { rows = rows_are i; inputs = inputs_are i })) t)
+
+pub round_of : RestIsKept → (elements : List Element) (goals listed : List Goal) (depends tags : List (List ℕ)) (prefs left : PreferenceMemory) (inputs top : List Triple) (kept : KeptOf) (o : Option ℕ)
+    → listed ≡ goals → tags ≡ depends → left ≡ record prefs { rows = (settled_from listed prefs.rows inputs).rows; settled = (settled_from listed prefs.rows inputs).rows }
+    → top ≡ (settled_from listed prefs.rows inputs).inputs → IsAtRest listed left.rows top kept → o ≡ highest_broken_by tags elements kept.triples 2
+    → IsRound elements goals listed depends tags prefs left inputs top kept.triples o
+round_of law elements goals listed depends tags prefs left inputs top kept o goals_are tags_are prefs_are inputs_are rest broken_is = record {
+  goals_are = goals_are;
+  tags_are = tags_are;
+  rows_are = ap room_of prefs_are;
+  inputs_are = inputs_are;
+  kept_are = kept_so listed left.rows top (settled_from listed prefs.rows inputs) kept.triples (ap (λ (p : PreferenceMemory). p.rows) prefs_are) inputs_are (law listed left.rows top kept rest);
+  broken_is = broken_is;
+}
 
 module _ (elements : List Element) (goals listed : List Goal) (depends tags : List (List ℕ)) (prefs left : PreferenceMemory) (inputs top : List Triple) (live : List Live)
-    (kept sliced : List Triple) (o : Option ℕ) where
-  pub round_settles : IsRound elements goals listed depends tags prefs left inputs top kept sliced o
-      → IsBroken elements (held_by goals depends prefs inputs live) (held_by goals depends left top live) kept o
+    (kept : List Triple) (o : Option ℕ) where
+  pub round_settles : IsRound elements goals listed depends tags prefs left inputs top kept o
+      → IsBroken elements (held_by goals depends prefs inputs live) (held_by goals depends left top live) (kept_held (settled_held (held_by goals depends prefs inputs live))) o
   round_settles r = record {
     settled_is = (λ i. record { goals = goals; depends = depends; prefs = r.rows_are i; inputs = r.inputs_are i; live = map live_seen live })
         ∙ ap (λ (gs : List Goal). with_supports_held (held_by goals depends prefs inputs live) (settled_from gs prefs.rows inputs)) r.goals_are;
-    kept_is = r.kept_is ∙ ap (λ (gs : List Goal). kept_triples gs (settled_from gs prefs.rows inputs)) r.goals_are;
-    broken_is = r.broken_is ∙ ap (λ (ts : List (List ℕ)). highest_broken_by ts elements sliced 2) r.tags_are ∙ ap (λ (ks : List Triple). highest_broken_by depends elements ks 2) r.slice_is;
+    kept_is = refl;
+    broken_is = r.broken_is ∙ ap (λ (ts : List (List ℕ)). highest_broken_by ts elements kept 2) r.tags_are
+        ∙ same_broken elements kept (kept_held (settled_held (held_by goals depends prefs inputs live))) 2 depends
+        (λ t. r.kept_are t ∙ ap (λ (gs : List Goal). has_triple_among (kept_triples gs (settled_from gs prefs.rows inputs)) t) r.goals_are);
   }
 
 -- what goes with the goals from a depth on
 pub record Removes (depth : ℕ) (goals first : List Goal) (depends tags : List (List ℕ)) (prefs left : PreferenceMemory) (live above : List Live) : Type 0 where
   pub goals_are : first ≡ take (depth - 1) goals
   pub depends_are : tags ≡ take (depth - 2) depends
-  pub rows_are : left ≡ record prefs { rows = without_firings prefs.rows (numbers_of (live_from depth (map live_seen live))) }
+  pub rows_are : room_of left ≡ record (room_of prefs) { rows = without_firings prefs.rows (numbers_of (live_from depth (map live_seen live))) }
   pub live_are : map live_seen above ≡ live_above depth (map live_seen live)
 
 pub removed_is : (depth : ℕ) (goals first : List Goal) (depends tags : List (List ℕ)) (prefs left : PreferenceMemory) (inputs : List Triple) (live above : List Live)

@@ -4,25 +4,34 @@ use Rattle.soar_sym.specs.declared.symbol.Triple.{Triple}
 use Rattle.soar_rule.specs.Repeat.{Turn, ends, goes_on, turns}
 use Rattle.soar_wm.specs.declared.element.Element.{Element}
 use Rattle.defs_soar.specs.declared.goal.Goal.{Goal}
+use Rattle.defs_soar.specs.declared.preference.Preference.{Preference}
 use Rattle.defs_soar.specs.Agents.{LiveFiring}
 use Rattle.defs_soar.specs.Preferences.{without_firings}
 use Rattle.defs_soar.specs.Settling.{Supports, settled, kept_triples}
 use Rattle.defs_soar.specs.Trimming.{numbers_of}
 use Rattle.soar_prefs.specs.Memory.{PreferenceMemory}
-use Rattle.goal_trimming.specs.declared.live.Live.{Live}
+use Rattle.live_firings.specs.declared.live.Live.{Live}
 use Rattle.goal_trimming.specs.Broken.{highest_broken_by}
-use Rattle.goal_trimming.specs.Living.{live_above, live_from, live_seen}
+use Rattle.live_firings.specs.Living.{live_above, live_from, live_seen}
+
+-- the rows of preference memory, and how many there may be
+pub record Room : Type 0 where
+  pub rows : List Preference
+  pub limit : ℕ
+
+abbrev pub room_of : PreferenceMemory → Room
+room_of p = record { rows = p.rows; limit = p.limit }
 
 -- the goals, the tags on which each below the top depends, preference memory, the inputs and the live firings
 pub record Held : Type 0 where
   pub goals : List Goal
   pub depends : List (List ℕ)
-  pub prefs : PreferenceMemory
+  pub prefs : Room
   pub inputs : List Triple
   pub live : List LiveFiring
 
 abbrev pub held_by : List Goal → List (List ℕ) → PreferenceMemory → List Triple → List Live → Held
-held_by goals depends prefs inputs live = record { goals = goals; depends = depends; prefs = prefs; inputs = inputs; live = map live_seen live }
+held_by goals depends prefs inputs live = record { goals = goals; depends = depends; prefs = room_of prefs; inputs = inputs; live = map live_seen live }
 
 abbrev pub supports_held : Held → Supports
 supports_held h = record { rows = h.prefs.rows; inputs = h.inputs }

@@ -1,4 +1,3 @@
 pub mod Broken
 pub mod Held
-pub mod Living
 pub mod Trims

@@ -1,45 +1,57 @@
-ghost use Rattle.std.specs.Prelude.{◌≡◌, ◌≤◌, ◌-◌, suc, map, length, take, IfOk, OnOk, List as ListOf};
+ghost use Rattle.std.specs.Prelude.{◌≡◌, ◌≤◌, ◌-◌, [], suc, map, length, take, OnOk, List as ListOf};
 ghost use Rattle.defs_soar.specs.History.{RecordedFiring};
 ghost use Rattle.defs_soar.specs.Preferences.{without_firings};
 ghost use Rattle.defs_soar.specs.Trimming.{numbers_of};
+ghost use Rattle.settle_changes.specs.Rest.{GrowsBy, IsAtRest, IsTracked};
 ghost use Rattle.goal_trimming.specs.Held.{held_by, kept_held};
-ghost use Rattle.goal_trimming.specs.Living.{live_above, live_from, live_seen};
+ghost use Rattle.live_firings.specs.Living.{live_above, live_from, live_seen};
 ghost use Rattle.goal_trimming.specs.Trims.{AreDependencies, KeepsFirst, Trims};
 
 use crate::broken::highest_broken;
-use crate::leaving::leave_goals;
-use crate::live::Live;
+use input_memory::Inputs;
+use kept_triples::Kept;
+use live_firings::{Live, leave_goals};
+use settle_changes::{changes_are_tracked, rest_is_kept, settle_changes};
 use soar_goals::Goals;
 use soar_prefs::Prefs;
-use soar_settle::settle;
 use soar_sym::{List, NoMemory, Triple};
 use soar_wm::Memory;
 use std::alloc::Global;
 
 /// Settles, and as long as a goal below the top has lost an element on which it depends takes the highest such goal
-/// away with all below it, and settles again (Soar manual, chapter 2, goal dependency sets). Gives the triples that
-/// are kept in the end. `depends` has the tags on which each goal below the top depends, those of depth 2 first;
-/// `memory` is working memory from before. Where memory is refused nothing is promised.
+/// away with all below it, and settles again (Soar manual, chapter 2, goal dependency sets). `depends` has the tags on
+/// which each goal below the top depends, those of depth 2 first; `changed` names the inputs that changed since all was
+/// settled, and `memory` is working memory from then. Looks only at what changed, and notes in `touched` the triples that
+/// it looked at. Where memory is refused nothing is promised.
 pub fn trim(
     alloc: Global,
     goals: &mut Goals,
     depends: &mut List<List<u32>>,
     prefs: &mut Prefs,
-    inputs: &mut List<Triple>,
+    inputs: &mut Inputs,
+    changed: &mut List<Triple>,
     live: &mut List<Live>,
+    kept: &mut Kept,
+    touched: &mut List<Triple>,
     memory: &Memory,
-) -> Result<List<Triple>, NoMemory>
-    requires { suc (length depends.old) ≡ length goals.old }
+) -> Result<(), NoMemory>
+    requires fits { suc (length depends.old) ≡ length goals.old }
+    requires tracked { IsTracked prefs.old inputs.old changed.old kept.old }
     ensures trims { let old = held_by goals.old depends.old prefs.old inputs.old live.old in
-        (history : ListOf RecordedFiring) → AreDependencies history old
-        → IfOk result (λ kept. Trims history memory.now.elements old (held_by goals.new depends.new prefs.new inputs.new live.new) kept) }
+        let new = held_by goals.new depends.new prefs.new inputs.new live.new in
+        (history : ListOf RecordedFiring) → AreDependencies history old → OnOk result (Trims history memory.now.elements old new (kept_held new)) }
     ensures keeps { OnOk result (KeepsFirst (held_by goals.old depends.old prefs.old inputs.old live.old) (held_by goals.new depends.new prefs.new inputs.new live.new)) }
-    ensures kept { IfOk result (λ kept. kept ≡ kept_held (held_by goals.new depends.new prefs.new inputs.new live.new)) }
+    ensures rest { OnOk result (IsAtRest goals.new prefs.new.rows inputs.new kept.new) }
+    ensures taken { OnOk result (prefs.new.settled ≡ prefs.new.rows) }
+    ensures changed { OnOk result (changed.new ≡ []) }
+    ensures touched { OnOk result (GrowsBy touched.old touched.new kept.old kept.new) }
 {
+    rest_is_kept();
+    changes_are_tracked();
     'rounds: loop {
-        let kept = settle(alloc, goals.list(), prefs, inputs)?;
-        match highest_broken(alloc, memory, depends.as_slice(), kept.as_slice())? {
-            None => return Ok(kept),
+        settle_changes(alloc, goals.list(), prefs, inputs, changed, kept, touched)?;
+        match highest_broken(memory, depends.as_slice(), kept) {
+            None => return Ok(()),
             Some(depth) => remove_from(depth, goals, depends, prefs, live),
         }
     }

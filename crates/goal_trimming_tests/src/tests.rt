@@ -1,11 +1,17 @@
 // A triple is written as the number of its state and its value. Each has the attribute `name`.
+ghost use Rattle.std.specs.Prelude.{◌≡◌, [], IfOk, OnOk};
+
 use defs_match::Instance;
 use defs_soar::{Impasse, PrefKind, Preference, Wish};
-use goal_trimming::{Live, leave_goals, trim};
+use goal_trimming::trim;
+use input_memory::Inputs;
+use kept_triples::Kept;
+use live_firings::{Live, leave_goals};
+use settle_changes::changes_are_tracked;
 use soar_goals::Goals;
 use soar_prefs::Prefs;
 use soar_sym::architecture::NAME;
-use soar_sym::{List, NoMemory, Sym, Triple, is_triple};
+use soar_sym::{List, NoMemory, Sym, Triple};
 use soar_wm::Memory;
 use std::alloc::Global;
 use std::test::Fail;
@@ -16,7 +22,7 @@ struct Scene {
     goals: Goals,
     depends: List<List<u32>>,
     prefs: Prefs,
-    inputs: List<Triple>,
+    inputs: Inputs,
     live: List<Live>,
     memory: Memory,
 }
@@ -77,18 +83,33 @@ fn four_names(alloc: Global) -> Result<Memory, NoMemory> {
     Ok(memory)
 }
 
-/// Rows, each of a firing, the number of a state, a value, and whether it has operator support.
-fn rows_of(alloc: Global, rows: &[(u64, u32, i64, bool)]) -> Result<Prefs, NoMemory> {
+/// Rows, each of a firing, the number of a state, a value, and whether it has operator support. None was settled yet.
+fn rows_of(alloc: Global, rows: &[(u64, u32, i64, bool)]) -> Result<Prefs, NoMemory>
+    ensures { IfOk result (λ prefs. prefs.settled ≡ []) }
+{
     let mut prefs = Prefs::new(alloc, 9)?;
-    for (firing, number, value, operator_support) in rows {
-        if prefs
-            .add(row(*firing, triple(*number, *value), *operator_support))
-            .is_err()
-        {
-            return Err(NoMemory);
-        }
+    'rows: for (firing, number, value, operator_support) in rows {
+        let row = row(*firing, triple(*number, *value), *operator_support);
+        add_row(&mut prefs, row)?;
     }
     Ok(prefs)
+}
+
+fn add_row(prefs: &mut Prefs, row: Preference) -> Result<(), NoMemory>
+    ensures { OnOk result (prefs.new.settled ≡ prefs.old.settled) }
+{
+    match prefs.add(row) {
+        Ok(()) => Ok(()),
+        Err(_) => Err(NoMemory),
+    }
+}
+
+fn inputs_of(alloc: Global, triples: &[Triple]) -> Result<Inputs, NoMemory> {
+    let mut inputs = Inputs::new(alloc);
+    for triple in triples {
+        inputs.add(*triple)?;
+    }
+    Ok(inputs)
 }
 
 /// Firings, each with the depth of its match goal.
@@ -120,7 +141,9 @@ fn tags_of(alloc: Global, tags: &[u32]) -> Result<List<List<u32>>, NoMemory> {
 
 /// The four goals, which depend on these tags. S1's name 1 is held by an operator, its name 3 by firing 6 of depth 4;
 /// its names 2 and 4 are in working memory and nothing holds them.
-fn four_deep(alloc: Global, tags: [u32; 3]) -> Result<Scene, NoMemory> {
+fn four_deep(alloc: Global, tags: [u32; 3]) -> Result<Scene, NoMemory>
+    ensures { IfOk result (λ scene. scene.prefs.settled ≡ []) }
+{
     let rows = [
         (1, 1, 1, true),
         (6, 1, 3, false),
@@ -133,26 +156,36 @@ fn four_deep(alloc: Global, tags: [u32; 3]) -> Result<Scene, NoMemory> {
         goals: four_goals(alloc)?,
         depends: tags_of(alloc, &tags)?,
         prefs: rows_of(alloc, &rows)?,
-        inputs: List::from_slice(alloc, &[triple(1, 5), triple(2, 5)])?,
+        inputs: inputs_of(alloc, &[triple(1, 5), triple(2, 5)])?,
         live: live_of(alloc, &firings)?,
         memory: four_names(alloc)?,
     })
 }
 
-/// Trims, where each goal below the top has its tags.
-fn trim_scene(alloc: Global, scene: &mut Scene) -> Result<List<Triple>, NoMemory> {
+/// Trims, where each goal below the top has its tags, and tells what is kept. All inputs came since nothing was there.
+fn trim_scene(alloc: Global, scene: &mut Scene) -> Result<Kept, NoMemory>
+    requires { scene.old.prefs.settled ≡ [] }
+{
+    changes_are_tracked();
     if scene.goals.list().len() - 1 != scene.depends.len() {
         return Err(NoMemory);
     }
+    let mut changed = scene.inputs.all(alloc)?;
+    let mut kept = Kept::new(alloc)?;
+    let mut touched = List::new(alloc);
     trim(
         alloc,
         &mut scene.goals,
         &mut scene.depends,
         &mut scene.prefs,
         &mut scene.inputs,
+        &mut changed,
         &mut scene.live,
+        &mut kept,
+        &mut touched,
         &scene.memory,
-    )
+    )?;
+    Ok(kept)
 }
 
 /// Whether these firings are live, in order.
@@ -182,15 +215,6 @@ fn has_rows_of(prefs: &Prefs, alloc: Global, firings: &[u64]) -> Result<bool, No
     Ok(true)
 }
 
-fn has(triples: &List<Triple>, triple: Triple) -> bool {
-    for other in triples.as_slice() {
-        if is_triple(*other, triple) {
-            return true;
-        }
-    }
-    false
-}
-
 /// Whether goals with these tags come to so many goals, with these live firings and rows of these firings.
 fn come_to(
     alloc: Global,
@@ -202,8 +226,8 @@ fn come_to(
     let mut scene = four_deep(alloc, tags)?;
     let kept = trim_scene(alloc, &mut scene)?;
     let stack = scene.goals.list().len() == goals && scene.depends.len() < goals;
-    let held = scene.inputs.len() == 1 && has(&kept, triple(1, 5)) && has(&kept, triple(1, 9));
-    let below = has(&kept, triple(1, 3)) == (goals == 4) && !has(&kept, triple(2, 5));
+    let held = scene.inputs.len() == 1 && kept.has(triple(1, 5)) && kept.has(triple(1, 9));
+    let below = kept.has(triple(1, 3)) == (goals == 4) && !kept.has(triple(2, 5));
     let left = are_live(&scene.live, live) && has_rows_of(&scene.prefs, alloc, rows)?;
     Ok(stack && held && below && left)
 }

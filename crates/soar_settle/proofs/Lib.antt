@@ -1,13 +1,11 @@
 pub mod AddingLemmas
-pub mod DroppingLemmas
 pub mod FilterLemmas
 pub mod KeyLemmas
+pub mod KnownLemmas
 pub mod MarkingLemmas
-pub mod PlacingLemmas
-pub mod PlanLemmas
-pub mod RejectingLemmas
+pub mod MemberLemmas
+pub mod MergeLemmas
 pub mod RemovingLemmas
 pub mod RenewalLemmas
-pub mod SettlingLemmas
 pub mod TaggingLemmas
 pub mod TripleOrderLemmas

@@ -1,48 +1,18 @@
 -- The elements after tagging are those that stay and those that come.
-use Rattle.std.proofs.Common.{◌≡◌, ℕ, ◌+◌, ◌-◌, ◌<◌, ◌≤◌, Bool, true, false, cond, not, ◌&&◌, List, [], ◌∷◌, length, get_or, drop, filter, map, refl, sym, subst, ◌∙◌, ap, ap₂, arith, zero, suc, length-append}
-use Rattle.std.proofs.lemmas.List.{drop_more}
-use Rattle.std.proofs.lemmas.List.Elements.{filter_agree}
+use Rattle.std.proofs.Common.{◌≡◌, ℕ, ◌+◌, ◌-◌, ◌≤◌, Bool, not, List, [], ◌∷◌, length, filter, refl, sym, ◌∙◌, ap, ap₂, arith, length-append}
 use Rattle.std.proofs.lemmas.List.Filters.{length-filter_both}
-use Rattle.soar_sym.specs.Equality.{mark_eq}
 use Rattle.soar_sym.specs.Words.{Texts}
 use Rattle.soar_sym.specs.declared.symbol.Triple.{Triple}
 use Rattle.soar_wm.specs.declared.element.Element.{Element}
-use Rattle.soar_wm.specs.WorkingMemory.{WorkingMemory, IsLawful, triple_of}
+use Rattle.soar_wm.specs.WorkingMemory.{WorkingMemory, IsLawful}
 use Rattle.defs_soar.specs.declared.goal.Goal.{Goal}
 use Rattle.defs_soar.specs.Limits.{elements_to, first_passed, tags_to}
 use Rattle.defs_soar.specs.Resettling.{without_elements}
-use Rattle.defs_soar.specs.Goals.{is_goal}
-use Rattle.defs_soar.specs.Settling.{new_triples, stays, tagged}
-use Rattle.defs_soar.specs.Sorted.{in_order}
-use Rattle.defs_soar.specs.Values.{has_triple_among}
-use Rattle.soar_settle.specs.Known.{AreTriplesKnown}
+use Rattle.defs_soar.specs.Settling.{stays, tagged}
 use Rattle.soar_settle.specs.Plans.{coming, staying}
 use Rattle.soar_settle.specs.Settles.{after_of, last_of, passed_by}
-use Rattle.soar_settle.specs.Tagging.{IsTripleKnown, without_each}
+use Rattle.soar_settle.specs.Tagging.{without_each}
 use Rattle.soar_settle.proofs.RemovingLemmas.{gone_elements, new_elements, length-tagged, without_each-filter}
-use Rattle.soar_settle.proofs.TripleOrderLemmas.{known_in_order, no_triple}
-
--- ---- known symbols
-
-known_after : (words : Texts) (at : ℕ) (kept : List Triple) → AreTriplesKnown words kept → AreTriplesKnown words (drop at kept)
-known_after words zero kept known = known
-known_after words (suc at) [] known = tt
-known_after words (suc at) (t ∷ kept) known = known_after words at kept known.1
-
-pub known_at : (words : Texts) (kept : List Triple) (at : ℕ) → at < length kept → AreTriplesKnown words kept → IsTripleKnown words (get_or kept at no_triple)
-known_at words kept at less known =
-    let P : List Triple → Type 0 = AreTriplesKnown words in (subst P (drop_more kept at no_triple less) (known_after words at kept known)).0
-
-pub known_new : (words : Texts) (elements : List Element) (kept : List Triple) → AreTriplesKnown words kept → AreTriplesKnown words (new_triples elements kept)
-known_new words elements [] known = tt
-known_new words elements (t ∷ kept) known = by (has_triple_among (map triple_of elements) t) (known_new words elements kept known.1)
-  where
-    by : (b : Bool) → AreTriplesKnown words (new_triples elements kept) → AreTriplesKnown words (cond (not b) (t ∷ new_triples elements kept) (new_triples elements kept))
-    by true later = later
-    by false later = (known.0, later)
-
-pub known_in_order_after : (words : Texts) (at : ℕ) (triples : List Triple) → AreTriplesKnown words triples → AreTriplesKnown words (in_order words (drop at triples))
-known_in_order_after words at triples known = known_in_order words (drop at triples) (known_after words at triples known)
 
 -- ---- what the steps leave
 

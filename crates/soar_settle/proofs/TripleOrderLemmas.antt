@@ -1,9 +1,8 @@
 -- Triples in their order rise, so none of them stands twice.
-use Rattle.std.proofs.Common.{◌≡◌, ◌∙◌, ap, ap₂, sym, refl, subst, ℕ, ◌+◌, ◌<◌, Bool, true, false, cond, ◌&&◌, List, [], ◌∷◌, ◌++◌, length, get_or, take, drop, append_assoc, Ordering, Less, Equal, Greater, is_lt}
+use Rattle.std.proofs.Common.{◌≡◌, ◌∙◌, ap, sym, refl, subst, Bool, true, false, cond, ◌&&◌, List, [], ◌∷◌, Ordering, Less, Equal, Greater, is_lt}
 use Rattle.std.specs.Cmp.{IsTotalOrder, bool_cmp_total}
-use Rattle.std.specs.Ordering.{bool_cmp, ordering_reverse}
+use Rattle.std.specs.Ordering.{bool_cmp}
 use Rattle.std.proofs.lemmas.Cmp.{on_total, then_total, tied_itself}
-use Rattle.std.proofs.lemmas.List.{drop_more, take-append-drop, take_more}
 use Rattle.soar_sym.specs.Equality.{mark_eq, symbol_eq}
 use Rattle.soar_sym.specs.Order.{mark_cmp, triple_cmp}
 use Rattle.soar_sym.specs.Words.{Texts}
@@ -12,6 +11,7 @@ use Rattle.soar_sym.specs.declared.symbol.Triple.{Triple}
 use Rattle.defs_soar.specs.Sorted.{in_order, with_triple_at}
 use Rattle.defs_soar.specs.Values.{triple_eq}
 use Rattle.soar_settle.specs.Known.{AreTriplesKnown}
+use Rattle.soar_settle.specs.Merging.{IsFirst, Rises}
 use Rattle.soar_settle.specs.Tagging.{IsTripleKnown}
 use Rattle.settling_laws.proofs.SymbolOrderLemmas.{symbol_same, symbols_total}
 
@@ -69,51 +69,19 @@ before_is_other words t u h = by (triple_eq t u) refl
     by true e = absurd (apart (sym (tied_itself (triples_total words) t) ∙ ap (triple_cmp words t) (triple_same t u e) ∙ h))
     by false e = refl
 
--- ---- one triple more, by one comparison
-
-one_compared : (words : Texts) (t u : Triple) (triples : List Triple) (o : Ordering) → o ≡ triple_cmp words t u
-    → with_triple_at words (u ∷ triples) t ≡ cond (is_lt o) (t ∷ u ∷ triples) (cond (is_lt (ordering_reverse o)) (u ∷ with_triple_at words triples t) (u ∷ triples))
-one_compared words t u triples o h =
-    ap₂ (λ p q. cond (is_lt p) (t ∷ u ∷ triples) (cond (is_lt q) (u ∷ with_triple_at words triples t) (u ∷ triples)))
-    (sym h) ((triples_total words).antisymm u t ∙ ap ordering_reverse (sym h))
-
-pub there_already : (words : Texts) (t d : Triple) (triples : List Triple) (at : ℕ) → at < length triples → Equal ≡ triple_cmp words t (get_or triples at d)
-    → take at triples ++ with_triple_at words (drop at triples) t ≡ triples
-there_already words t d triples at less same =
-    ap (λ l. take at triples ++ l)
-    (ap (λ l. with_triple_at words l t) (drop_more triples at d less) ∙ one_compared words t (get_or triples at d) (drop (at + 1) triples) Equal same ∙ sym (drop_more triples at d less))
-    ∙ take-append-drop at triples
-
-pub passed_by : (words : Texts) (t d : Triple) (triples : List Triple) (at : ℕ) → at < length triples → Greater ≡ triple_cmp words t (get_or triples at d)
-    → take at triples ++ with_triple_at words (drop at triples) t ≡ take (at + 1) triples ++ with_triple_at words (drop (at + 1) triples) t
-passed_by words t d triples at less after =
-    ap (λ l. take at triples ++ l)
-    (ap (λ l. with_triple_at words l t) (drop_more triples at d less) ∙ one_compared words t (get_or triples at d) (drop (at + 1) triples) Greater after)
-    ∙ sym (append_assoc (take at triples) (get_or triples at d ∷ []) (with_triple_at words (drop (at + 1) triples) t))
-    ∙ ap (λ l. l ++ with_triple_at words (drop (at + 1) triples) t) (sym (take_more triples at d less))
-
 -- ---- lists in order
 
 module _ (words : Texts) where
-  -- the triple comes before each of these
-  abbrev IsFirst : Triple → List Triple → Type 0
-  IsFirst t [] = Unit {0}
-  IsFirst t (u ∷ triples) = (triple_cmp words t u ≡ Less) × IsFirst t triples
-
-  abbrev Rises : List Triple → Type 0
-  Rises [] = Unit {0}
-  Rises (t ∷ triples) = IsFirst t triples × Rises triples
-
-  first_before : (t u : Triple) (triples : List Triple) → triple_cmp words t u ≡ Less → IsFirst u triples → IsFirst t triples
+  pub first_before : (t u : Triple) (triples : List Triple) → triple_cmp words t u ≡ Less → IsFirst words u triples → IsFirst words t triples
   first_before t u [] e h = tt
   first_before t u (v ∷ triples) e h = ((triples_total words).trans t u v e h.0, first_before t u triples e h.1)
 
-  first_with : (t u : Triple) (triples : List Triple) → triple_cmp words t u ≡ Less → IsFirst t triples → IsFirst t (with_triple_at words triples u)
+  first_with : (t u : Triple) (triples : List Triple) → triple_cmp words t u ≡ Less → IsFirst words t triples → IsFirst words t (with_triple_at words triples u)
   first_with t u [] e h = (e, tt)
   first_with t u (v ∷ triples) e h = by (is_lt (triple_cmp words u v)) (is_lt (triple_cmp words v u)) (first_with t u triples e h.1)
     where
-      by : (b d : Bool) → IsFirst t (with_triple_at words triples u)
-          → IsFirst t (cond b (u ∷ v ∷ triples) (cond d (v ∷ with_triple_at words triples u) (v ∷ triples)))
+      by : (b d : Bool) → IsFirst words t (with_triple_at words triples u)
+          → IsFirst words t (cond b (u ∷ v ∷ triples) (cond d (v ∷ with_triple_at words triples u) (v ∷ triples)))
       by true d later = (e, h)
       by false true later = (h.0, later)
       by false false later = h
@@ -123,17 +91,17 @@ module _ (words : Texts) where
   is_less Equal e = cc
   is_less Greater e = cc
 
-  rises_with : (t : Triple) (triples : List Triple) → Rises triples → Rises (with_triple_at words triples t)
+  rises_with : (t : Triple) (triples : List Triple) → Rises words triples → Rises words (with_triple_at words triples t)
   rises_with t [] h = (tt, tt)
   rises_with t (u ∷ triples) h = by (is_lt (triple_cmp words t u)) (is_lt (triple_cmp words u t)) refl refl (rises_with t triples h.1)
     where
-      by : (b d : Bool) → is_lt (triple_cmp words t u) ≡ b → is_lt (triple_cmp words u t) ≡ d → Rises (with_triple_at words triples t)
-          → Rises (cond b (t ∷ u ∷ triples) (cond d (u ∷ with_triple_at words triples t) (u ∷ triples)))
+      by : (b d : Bool) → is_lt (triple_cmp words t u) ≡ b → is_lt (triple_cmp words u t) ≡ d → Rises words (with_triple_at words triples t)
+          → Rises words (cond b (t ∷ u ∷ triples) (cond d (u ∷ with_triple_at words triples t) (u ∷ triples)))
       by true d before after later = let e = is_less (triple_cmp words t u) before in ((e, first_before t u triples e h.0), h)
       by false true before after later = (first_with u t triples (is_less (triple_cmp words u t) after) h.0, later)
       by false false before after later = h
 
-  rises_in_order : (triples : List Triple) → Rises (in_order words triples)
+  pub rises_in_order : (triples : List Triple) → Rises words (in_order words triples)
   rises_in_order [] = tt
   rises_in_order (t ∷ triples) = rises_with t (in_order words triples) (rises_in_order triples)
 

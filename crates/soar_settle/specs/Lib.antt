@@ -1,10 +1,7 @@
 pub mod Known
 pub mod Marks
-pub mod Passes
+pub mod Merging
 pub mod Plans
-pub mod Reached
-pub mod Recent
-pub mod Rejecting
 pub mod Renewal
 pub mod Settles
 pub mod Tagging

@@ -1,17 +1,12 @@
--- What a plan of tagging says. No public clause cites this module.
-use Rattle.std.specs.Prelude.{◌≡◌, ◌+◌, ◌-◌, ◌≤◌, ◌^◌, not, List, length, filter, Some, None, Result, Ok, Err}
+-- Which elements stay, and which triples come.
+use Rattle.std.specs.Prelude.{List, filter}
 use Rattle.soar_sym.specs.Words.{Texts}
 use Rattle.soar_sym.specs.declared.symbol.Triple.{Triple}
 use Rattle.soar_wm.specs.declared.element.Element.{Element}
-use Rattle.soar_wm.specs.WorkingMemory.{WorkingMemory, IsLawful}
+use Rattle.soar_wm.specs.WorkingMemory.{WorkingMemory}
 use Rattle.defs_soar.specs.declared.goal.Goal.{Goal}
 use Rattle.defs_soar.specs.Settling.{new_triples, stays}
 use Rattle.defs_soar.specs.Sorted.{in_order}
-use Rattle.defs_soar.specs.Values.{has_triple_among}
-use Rattle.soar_settle.specs.Settles.{after_of, passed_by}
-use Rattle.soar_settle.specs.declared.tagging.planning.Plan.{Plan}
-use Rattle.soar_settle.specs.declared.stop.Stop.{Stop}
-use Rattle.soar_settle.specs.declared.stop.Stop.TheVariants as stop
 
 -- the elements that keep their tags
 abbrev pub staying : List Goal → List Triple → WorkingMemory → List Element
@@ -20,17 +15,3 @@ staying goals kept m = filter (stays goals kept) m.elements
 -- the triples that get the next tags, in turn
 abbrev pub coming : Texts → List Goal → List Triple → WorkingMemory → List Triple
 coming words goals kept m = in_order words (new_triples (staying goals kept m) kept)
-
-pub record IsPlan (words : Texts) (goals : List Goal) (kept : List Triple) (m : WorkingMemory) (plan : Plan) : Type 0 where
-  pub lawful : IsLawful m
-  pub going_are : plan.going ≡ filter (λ e. not (stays goals kept e)) m.elements
-  pub triples_are : plan.triples ≡ coming words goals kept m
-  pub room : length (staying goals kept m) + length plan.triples ≤ 4000000
-  pub left : m.last + length plan.triples ≤ 2 ^ 32 - 1
-  pub within : passed_by (after_of words goals kept m) m ≡ None
-
--- each answer, exactly where it comes; only want of memory is free
-abbrev pub Plans : Texts → List Goal → List Triple → WorkingMemory → Result Plan Stop → Type 0
-Plans words goals kept m (Ok plan) = IsPlan words goals kept m plan
-Plans words goals kept m (Err (stop.Limit which)) = passed_by (after_of words goals kept m) m ≡ Some which
-Plans words goals kept m (Err stop.NoMemory) = Unit {0}

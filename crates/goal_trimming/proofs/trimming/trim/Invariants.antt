@@ -1,5 +1,6 @@
 use Rattle.std.proofs.Common.{◌≡◌, suc, length}
 use Rattle.goal_trimming.specs.Held.{held_by, trimmed_held}
+use Rattle.settle_changes.specs.Rest.{GrowsBy, IsTracked}
 use Rattle.goal_trimming.proofs.trimming.trim.Given as goal
 
 abbrev pub invariant-rounds : goal.invariant-rounds
@@ -7,6 +8,8 @@ invariant-rounds l = record {
   fits : suc (length l.depends) ≡ length l.goals;
   rest : trimmed_held l.memory.elements (held_by l.goals l.depends l.prefs l.inputs l.live)
       ≡ trimmed_held l.memory.elements (held_by l.initial.goals l.initial.depends l.initial.prefs l.initial.inputs l.initial.live);
+  tracked : IsTracked l.prefs l.inputs l.changed l.kept;
+  grows : GrowsBy l.initial.touched l.touched l.initial.kept l.kept;
 }
 
 abbrev pub decreases-rounds : goal.decreases-rounds

@@ -12,6 +12,7 @@ gone-preserved c =
     let n = slice_index_or gone i 0 in
     record {
       limit = ap (λ p. p.limit) c.retract.ensures ∙ c.gone.invariant.limit;
+      settled = ap (λ p. p.settled) c.retract.ensures ∙ c.gone.invariant.settled;
       rows = ap (λ p. without_firings p.rows (drop (i + 1) gone)) c.retract.ensures
           ∙ one_left c.gone.prefs.rows n (drop (i + 1) gone)
           ∙ sym (at_drop_more (without_firings c.gone.prefs.rows) gone i 0 c.gone-test.true)
@@ -22,7 +23,7 @@ pub returns-clause-rows : goal.returns-clause-rows
 returns-clause-rows c =
     let rows : c.gone.prefs.rows ≡ without_firings c.args.prefs.now.rows c.args.gone.now =
     sym (none_left c.gone.prefs.rows) ∙ sym (at_drop_all (without_firings c.gone.prefs.rows) c.args.gone.now c.gone.number-index c.gone-test.false) ∙ c.gone.invariant.rows in
-    λ k. record { rows = rows k; limit = c.gone.invariant.limit k }
+    λ k. record { rows = rows k; limit = c.gone.invariant.limit k; settled = c.gone.invariant.settled k }
 
 pub returns-clause-fewer : goal.returns-clause-fewer
 returns-clause-fewer c =

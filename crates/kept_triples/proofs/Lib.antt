@@ -1,0 +1,5 @@
+pub mod BalanceLemmas
+pub mod HeldLemmas
+pub mod KeyLemmas
+pub mod LookLemmas
+pub mod SetLemmas

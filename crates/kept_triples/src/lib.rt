@@ -1,0 +1,12 @@
+//! The triples that are held, kept up under changes, with the levels over them.
+#![tactic(auto)]
+
+mod kept;
+mod laws;
+mod looking;
+mod own;
+mod triples;
+
+pub use kept::Kept;
+pub use laws::kept_levels_are_levels;
+pub use own::Own;

@@ -1,0 +1,4 @@
+pub mod Rest
+pub mod Naming
+pub mod Leaving
+pub mod Stages

@@ -1,0 +1,12 @@
+pub mod ChangedLemmas
+pub mod CountLemmas
+pub mod FirstLemmas
+pub mod KnownLemmas
+pub mod LimitLemmas
+pub mod LookedLemmas
+pub mod MemberLemmas
+pub mod MemoryLemmas
+pub mod PlanLemmas
+pub mod SameLemmas
+pub mod SoughtLemmas
+pub mod TagLemmas

@@ -1,0 +1,6 @@
+use Rattle.std.proofs.Common.{◌≡◌, take}
+use Rattle.defs_soar.specs.Goals.{goal_ids}
+use Rattle.touched_tags.proofs.changed_goals.ids_of.Given as goal
+
+abbrev pub invariant-goals : goal.invariant-goals
+invariant-goals l = l.ids ≡ goal_ids (take l.goal-index l.goals)
