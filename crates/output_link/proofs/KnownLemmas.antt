@@ -23,9 +23,14 @@ known_filter words p (t ∷ triples) known = by (p t) (known_filter words p trip
     by true rest = (known.0, rest)
     by false rest = rest
 
-pub known_triples : (words : Texts) (elements : List Element) → AreElementsKnown words elements → AreTriplesKnown words (map triple_of elements)
-known_triples words [] known = tt
-known_triples words (e ∷ elements) known = (known.0, known_triples words elements known.1)
+-- triples of some of the elements
+pub known_shown : (words : Texts) (p : Element → Bool) (elements : List Element) → AreElementsKnown words elements → AreTriplesKnown words (map triple_of (filter p elements))
+known_shown words p [] known = tt
+known_shown words p (e ∷ elements) known = by (p e) (known_shown words p elements known.1)
+  where
+    by : (b : Bool) → AreTriplesKnown words (map triple_of (filter p elements)) → AreTriplesKnown words (map triple_of (cond b (e ∷ filter p elements) (filter p elements)))
+    by true rest = (known.0, rest)
+    by false rest = rest
 
 -- an answer that is known triples
 pub known_answer : {E : Type 0} (words : Texts) (result : Result (List Triple) E) (triples : List Triple) → IfOk result (λ out. out ≡ triples) → AreTriplesKnown words triples

@@ -1,3 +1,4 @@
 pub mod KnownLemmas
-pub mod ShownLemmas
+pub mod TagLemmas
+pub mod ValueLemmas
 pub mod WalkLemmas

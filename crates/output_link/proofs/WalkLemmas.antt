@@ -1,87 +1,131 @@
--- Walks that go on through no other goal are walks over the triples that they go on along.
-use Rattle.std.proofs.Common.{◌≡◌, Bool, true, false, cond, ◌||◌, not, ◌⊎◌, List, [], ◌∷◌, filter, Some, None, is_some, refl, sym, ap, subst, ◌∙◌, inl, inr}
+-- Walks from the output link, from their first identifier to their last.
+use Rattle.std.proofs.Common.{◌≡◌, ℕ, ◌+◌, ◌<◌, ◌≤◌, Bool, true, false, cond, ◌||◌, not, List, [], ◌∷◌, length, map, take, get_or, refl, sym, ap, subst, ◌∙◌, inl, inr, arith}
+use Rattle.std.proofs.lemmas.List.{take_all}
+use Rattle.std.proofs.lemmas.List.Folds.{list_any_at, list_any_more}
 use Rattle.soar_sym.specs.Equality.{symbol_eq}
 use Rattle.soar_sym.specs.declared.symbol.Sym.{Sym}
-use Rattle.soar_sym.specs.declared.symbol.Triple.{Triple}
-use Rattle.defs_soar.specs.declared.goal.Goal.{Goal}
-use Rattle.defs_soar.specs.Levels.{goes_on_at, level, or_reached, reached_from}
+use Rattle.soar_sym.specs.declared.symbol.Sym.TheVariants.{Ident}
+use Rattle.soar_wm.specs.declared.element.Element.{Element}
+use Rattle.soar_wm.specs.WorkingMemory.{elements_of, triple_of, IsRising}
+use Rattle.defs_soar.specs.Architecture.{output_identifier}
+use Rattle.defs_soar.specs.Levels.{reached_from}
 use Rattle.defs_soar.specs.Sorted.{has_symbol}
-use Rattle.level_laws.specs.Labels.{has_edge, leads, Walks, starts, goes_on}
-use Rattle.level_laws.proofs.ReachedLemmas.{leads_parts, or_first, or_second, or_split, reached_walked, walked_reached}
-use Rattle.level_laws.proofs.SymbolLemmas.{symbol_same}
+use Rattle.level_laws.specs.Labels.{has_edge, Walks, starts, goes_on}
+use Rattle.level_laws.proofs.ReachedLemmas.{or_first, or_split, reached_walked, walked_reached}
+use Rattle.level_laws.proofs.SymbolLemmas.{symbol_same, symbol_self}
+use Rattle.output_link.specs.Walking.{goes_on_at, gone_on, kept_with, shown, Tagged, tagged, Tells, Walked, with_values}
+use Rattle.output_link.proofs.TagLemmas.{kept_more}
+use Rattle.output_link.proofs.ValueLemmas.{edge_at, edge_of, front, grows, has_values, only_values}
 
--- the triples along which a walk goes on
-abbrev pub along : List Sym → Sym → List Triple → List Triple
-along goals own triples = filter (λ t. goes_on_at goals own t.id) triples
+-- ---- the start
 
-edge_kept : (goals : List Sym) (own : Sym) (ts : List Triple) (x y : Sym) → has_edge ts x y ≡ true → goes_on_at goals own x ≡ true → has_edge (along goals own ts) x y ≡ true
-edge_kept goals own [] x y h go = cc
-edge_kept goals own (t ∷ ts) x y h go = by (goes_on_at goals own t.id) refl (or_split (leads x y t) (has_edge ts x y) h) (λ e. edge_kept goals own ts x y e go)
+none_kept : (is_goal : Sym → Bool) (es : List Element) → [] ≡ tagged (shown (λ s. false) is_goal es)
+none_kept is_goal [] = refl
+none_kept is_goal (e ∷ es) = none_kept is_goal es
+
+pub walked_first : (is_goal : Sym → Bool) (elements : List Element) → IsRising elements → Walked is_goal elements (output_identifier ∷ []) 0 []
+walked_first is_goal elements rising = record {
+  rising = rising;
+  own = or_first (symbol_eq output_identifier output_identifier) false (symbol_self output_identifier);
+  sound = λ ids tells s h. elim (or_split (symbol_eq s output_identifier) false h) [
+    | inl e ↦ subst (Walks (has_edge (map triple_of elements)) ids output_identifier) (sym (symbol_same s output_identifier e)) starts
+    | inr e ↦ absurd (cc)
+  ];
+  closed = λ x y h go k. absurd (cc);
+  are_kept = none_kept is_goal elements;
+}
+
+-- ---- a step
+
+abbrev at_place : List Sym → ℕ → Sym
+at_place reached i = get_or reached i (Ident 0 0)
+
+grows_on : (is_goal : Sym → Bool) (elements : List Element) (reached : List Sym) (id s : Sym) → has_symbol reached s ≡ true → has_symbol (gone_on is_goal elements reached id) s ≡ true
+grows_on is_goal elements reached id s h = by (goes_on_at is_goal id)
   where
-    by : (b : Bool) → goes_on_at goals own t.id ≡ b → (leads x y t ≡ true) ⊎ (has_edge ts x y ≡ true) → (has_edge ts x y ≡ true → has_edge (along goals own ts) x y ≡ true)
-        → has_edge (cond b (t ∷ along goals own ts) (along goals own ts)) x y ≡ true
-    by true e (inl f) rest = or_first (leads x y t) (has_edge (along goals own ts) x y) f
-    by true e (inr f) rest = or_second (leads x y t) (has_edge (along goals own ts) x y) (rest f)
-    by false e (inl f) rest = absurd (let g : goes_on_at goals own t.id ≡ true = ap (goes_on_at goals own) (sym (leads_parts x y t f).0) ∙ go in cc)
-    by false e (inr f) rest = rest f
+    by : (b : Bool) → has_symbol (cond b (with_values reached (elements_of id elements)) reached) s ≡ true
+    by true = grows (elements_of id elements) reached s h
+    by false = h
 
-edge_whole : (goals : List Sym) (own : Sym) (ts : List Triple) (x y : Sym) → has_edge (along goals own ts) x y ≡ true → (has_edge ts x y ≡ true) × (goes_on_at goals own x ≡ true)
-edge_whole goals own [] x y h = cc
-edge_whole goals own (t ∷ ts) x y h = by (goes_on_at goals own t.id) refl h (edge_whole goals own ts x y)
+front_on : (is_goal : Sym → Bool) (elements : List Element) (reached : List Sym) (id : Sym) (n : ℕ) → n ≤ length reached → take n (gone_on is_goal elements reached id) ≡ take n reached
+front_on is_goal elements reached id n h = by (goes_on_at is_goal id)
   where
-    later : (has_edge ts x y ≡ true) × (goes_on_at goals own x ≡ true) → (has_edge (t ∷ ts) x y ≡ true) × (goes_on_at goals own x ≡ true)
-    later (e, go) = (or_second (leads x y t) (has_edge ts x y) e, go)
-
-    by : (b : Bool) → goes_on_at goals own t.id ≡ b → has_edge (cond b (t ∷ along goals own ts) (along goals own ts)) x y ≡ true
-        → (has_edge (along goals own ts) x y ≡ true → (has_edge ts x y ≡ true) × (goes_on_at goals own x ≡ true)) → (has_edge (t ∷ ts) x y ≡ true) × (goes_on_at goals own x ≡ true)
-    by true e k rest = elim (or_split (leads x y t) (has_edge (along goals own ts) x y) k) [
-      | inl f ↦ (or_first (leads x y t) (has_edge ts x y) f, ap (goes_on_at goals own) (leads_parts x y t f).0 ∙ e)
-      | inr f ↦ later (rest f)
-    ]
-    by false e k rest = later (rest k)
-
--- from the only goal a walk goes on through all
-goes_on_alone : (own x : Sym) → goes_on_at (own ∷ []) own x ≡ true
-goes_on_alone own x = by (symbol_eq x own)
-  where
-    by : (b : Bool) → (b || not (b || false)) ≡ true
-    by true = refl
+    by : (b : Bool) → take n (cond b (with_values reached (elements_of id elements)) reached) ≡ take n reached
+    by true = front (elements_of id elements) n reached h
     by false = refl
 
-walk_kept : (goals : List Sym) (own : Sym) (ts : List Triple) (s : Sym) → Walks (has_edge ts) goals own s → Walks (has_edge (along goals own ts)) (own ∷ []) own s
-walk_kept goals own ts s starts = starts
-walk_kept goals own ts s (goes_on x y w go e) = goes_on x y (walk_kept goals own ts x w) (goes_on_alone own x) (edge_kept goals own ts x y e go)
+-- one more from which walks have gone on
+one_more : (is_goal : Sym → Bool) (elements : List Element) (reached : List Sym) (i : ℕ) → i < length reached → (s : Sym)
+    → has_symbol (take (i + 1) (gone_on is_goal elements reached (at_place reached i))) s ≡ (has_symbol (take i reached) s || symbol_eq s (at_place reached i))
+one_more is_goal elements reached i within s =
+    ap (λ l. has_symbol l s) (front_on is_goal elements reached (at_place reached i) (i + 1) (omega (arith, within))) ∙ list_any_more (symbol_eq s) reached i (Ident 0 0) within
 
-walk_whole : (goals : List Sym) (own : Sym) (ts : List Triple) (s : Sym) → Walks (has_edge (along goals own ts)) (own ∷ []) own s → Walks (has_edge ts) goals own s
-walk_whole goals own ts s starts = starts
-walk_whole goals own ts s (goes_on x y w go e) =
-    let (edge, on) = edge_whole goals own ts x y e in
-    goes_on x y (walk_whole goals own ts x w) on edge
+is_there : (reached : List Sym) (i : ℕ) → i < length reached → has_symbol reached (at_place reached i) ≡ true
+is_there reached i within = list_any_at (symbol_eq (at_place reached i)) reached i (Ident 0 0) within (symbol_self (at_place reached i))
+
+sound_on : (is_goal : Sym → Bool) (elements : List Element) (ids : List Sym) → Tells is_goal ids → (reached : List Sym) (id : Sym)
+    → ((s : Sym) → has_symbol reached s ≡ true → Walks (has_edge (map triple_of elements)) ids output_identifier s) → has_symbol reached id ≡ true
+    → (s : Sym) → has_symbol (gone_on is_goal elements reached id) s ≡ true → Walks (has_edge (map triple_of elements)) ids output_identifier s
+sound_on is_goal elements ids tells reached id old there = by (goes_on_at is_goal id) refl
+  where
+    by : (b : Bool) → goes_on_at is_goal id ≡ b → (s : Sym) → has_symbol (cond b (with_values reached (elements_of id elements)) reached) s ≡ true → Walks (has_edge (map triple_of elements)) ids output_identifier s
+    by false g = old
+    by true g = only_values (Walks (has_edge (map triple_of elements)) ids output_identifier) (elements_of id elements) reached old (λ x y k.
+        let p = edge_of id elements x y k in
+        goes_on x y (old x (ap (has_symbol reached) p.0 ∙ there))
+        (ap (λ b. symbol_eq x output_identifier || not b) (sym (tells x)) ∙ ap (goes_on_at is_goal) p.0 ∙ g) p.1)
+
+pub walked_on : (is_goal : Sym → Bool) (elements : List Element) (reached : List Sym) (i : ℕ) (kept : Tagged) → Walked is_goal elements reached i kept → i < length reached
+    → Walked is_goal elements (gone_on is_goal elements reached (at_place reached i)) (i + 1) (kept_with is_goal elements kept (at_place reached i))
+walked_on is_goal elements reached i kept walked within = record {
+  rising = walked.rising;
+  own = grows_on is_goal elements reached id output_identifier walked.own;
+  sound = λ ids tells. sound_on is_goal elements ids tells reached id (walked.sound ids tells) (is_there reached i within);
+  closed = λ x y h go k. elim (or_split (has_symbol (take i reached) x) (symbol_eq x id) (sym (more x) ∙ h)) [
+    | inl f ↦ grows_on is_goal elements reached id y (walked.closed x y f go k)
+    | inr f ↦
+        let same = symbol_same x id f in
+        ap (λ b. has_symbol (cond b (with_values reached (elements_of id elements)) reached) y) (ap (goes_on_at is_goal) (sym same) ∙ go)
+        ∙ has_values (elements_of id elements) reached id y (edge_at id elements y (ap (λ w. has_edge (map triple_of elements) w y) (sym same) ∙ k))
+  ];
+  are_kept = ap (λ l. kept_with is_goal elements l id) walked.are_kept
+      ∙ kept_more is_goal elements walked.rising id (has_symbol (take i reached)) (has_symbol (take (i + 1) (gone_on is_goal elements reached id))) more;
+}
+  where
+    id : Sym
+    id = at_place reached i
+
+    more : (s : Sym) → has_symbol (take (i + 1) (gone_on is_goal elements reached id)) s ≡ (has_symbol (take i reached) s || symbol_eq s id)
+    more = one_more is_goal elements reached i within
+
+-- ---- the end
 
 same_truth : (a b : Bool) → (a ≡ true → b ≡ true) → (b ≡ true → a ≡ true) → a ≡ b
 same_truth true b f g = sym (f refl)
 same_truth false true f g = g refl
 same_truth false false f g = refl
 
--- a goal reaches along these triples alone, as the only goal, what it reaches
-reaches_along : (goals : List Sym) (own : Sym) (ts : List Triple) (s : Sym) → has_symbol (reached_from (own ∷ []) (along goals own ts) own) s ≡ has_symbol (reached_from goals ts own) s
-reaches_along goals own ts s =
-    same_truth _ _ (λ h. walked_reached goals ts own s (walk_whole goals own ts s (reached_walked (own ∷ []) (along goals own ts) own s h)))
-    (λ h. walked_reached (own ∷ []) (along goals own ts) own s (walk_kept goals own ts s (reached_walked goals ts own s h)))
+walk_met : (is_goal : Sym → Bool) (elements : List Element) (ids : List Sym) → Tells is_goal ids → (reached : List Sym) → has_symbol reached output_identifier ≡ true
+    → ((x y : Sym) → has_symbol reached x ≡ true → goes_on_at is_goal x ≡ true → has_edge (map triple_of elements) x y ≡ true → has_symbol reached y ≡ true)
+    → (s : Sym) → Walks (has_edge (map triple_of elements)) ids output_identifier s → has_symbol reached s ≡ true
+walk_met is_goal elements ids tells reached own closed s starts = own
+walk_met is_goal elements ids tells reached own closed s (goes_on x y w go e) =
+    closed x y (walk_met is_goal elements ids tells reached own closed x w) (ap (λ b. symbol_eq x output_identifier || not b) (tells x) ∙ go) e
 
--- under a single goal just what it reaches has a level
-level_of_one : (g : Goal) (ts : List Triple) (s : Sym) → is_some (level (g ∷ []) ts s) ≡ has_symbol (reached_from (g.id ∷ []) ts g.id) s
-level_of_one g ts s = by (symbol_eq s g.id) refl (has_symbol (reached_from (g.id ∷ []) ts g.id) s) refl
+-- where walks have gone on from all that is reached, what is kept is what is shown
+pub walked_all : (is_goal : Sym → Bool) (elements : List Element) (reached : List Sym) (i : ℕ) (kept : Tagged) → Walked is_goal elements reached i kept → length reached ≤ i
+    → (ids : List Sym) → Tells is_goal ids → kept ≡ tagged (shown (has_symbol (reached_from ids (map triple_of elements) output_identifier)) (has_symbol ids) elements)
+walked_all is_goal elements reached i kept walked past ids tells =
+    walked.are_kept ∙ ap (λ p. tagged (shown p is_goal elements)) (λ j s. met s j) ∙ ap (λ p. tagged (shown (has_symbol (reached_from ids (map triple_of elements) output_identifier)) p elements)) (λ j s. tells s j)
   where
-    own_reached : symbol_eq s g.id ≡ true → has_symbol (reached_from (g.id ∷ []) ts g.id) s ≡ true
-    own_reached e = walked_reached (g.id ∷ []) ts g.id s (subst (Walks (has_edge ts) (g.id ∷ []) g.id) (sym (symbol_same s g.id e)) starts)
+    all : take i reached ≡ reached
+    all = take_all i reached past
 
-    by : (b : Bool) → symbol_eq s g.id ≡ b → (c : Bool) → has_symbol (reached_from (g.id ∷ []) ts g.id) s ≡ c → is_some (or_reached (cond b (Some 1) None) (cond c (Some 1) None)) ≡ c
-    by true e true f = refl
-    by true e false f = absurd (let k = own_reached e in cc)
-    by false e true f = refl
-    by false e false f = refl
+    closed : (x y : Sym) → has_symbol reached x ≡ true → goes_on_at is_goal x ≡ true → has_edge (map triple_of elements) x y ≡ true → has_symbol reached y ≡ true
+    closed x y h = walked.closed x y (ap (λ l. has_symbol l x) all ∙ h)
 
--- just what a goal reaches has a level under it alone, over the triples along which its walks go on
-pub level_along : (goals : List Sym) (g : Goal) (ts : List Triple) (s : Sym) → is_some (level (g ∷ []) (along goals g.id ts) s) ≡ has_symbol (reached_from goals ts g.id) s
-level_along goals g ts s = level_of_one g (along goals g.id ts) s ∙ reaches_along goals g.id ts s
+    met : (s : Sym) → has_symbol (take i reached) s ≡ has_symbol (reached_from ids (map triple_of elements) output_identifier) s
+    met s =
+        ap (λ l. has_symbol l s) all
+        ∙ same_truth _ _ (λ h. walked_reached ids (map triple_of elements) output_identifier s (walked.sound ids tells s h))
+        (λ h. walk_met is_goal elements ids tells reached walked.own closed s (reached_walked ids (map triple_of elements) output_identifier s h))

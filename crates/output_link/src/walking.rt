@@ -1,18 +1,23 @@
-// Levels of what walks from the output link reach, as if it were the only goal.
-ghost use Rattle.std.specs.Prelude.{◌≡◌, IfOk, [], ◌∷◌};
+// Walks from the output link, identifier by identifier.
+ghost use Rattle.std.specs.Prelude.{◌≡◌, IfOk, OnOk, List as ListOf, map};
+ghost use Rattle.std.specs.BTreeMap.{insert_entry};
+ghost use Rattle.std.specs.Ordering.{nat_cmp};
 ghost use Rattle.soar_sym.specs.declared.symbol.Sym.{Sym as SymOf};
-ghost use Rattle.soar_wm.specs.WorkingMemory.{triple_of};
+ghost use Rattle.soar_wm.specs.WorkingMemory.{triple_of, IsRising};
+ghost use Rattle.defs_soar.specs.Architecture.{output_identifier};
 ghost use Rattle.defs_soar.specs.Goals.{is_goal};
+ghost use Rattle.defs_soar.specs.Levels.{reached_from, with_reached};
+ghost use Rattle.defs_soar.specs.Sorted.{has_symbol};
+ghost use Rattle.defs_soar.specs.Values.{is_identifier};
 ghost use Rattle.level_graph.specs.Marks.{has_mark};
-ghost use Rattle.soar_levels.specs.Told.{TellsLevels};
 ghost use Rattle.output_link.specs.Walking as walking;
 
-use defs_soar::{Goal, Impasse};
+use defs_soar::Goal;
 use level_graph::Marks;
-use soar_levels::Levels;
 use soar_sym::{List, NoMemory, Sym, Triple, is_symbol};
-use soar_wm::Element;
+use soar_wm::{Element, Memory};
 use std::alloc::Global;
+use std::collections::BTreeMap;
 
 /// The identifier of the output link.
 const OUTPUT: Sym = Sym::Ident {
@@ -31,56 +36,132 @@ pub fn ids_of(alloc: Global, goals: &[Goal]) -> Result<Marks, NoMemory>
     Ok(ids)
 }
 
-/// The triples of the identifiers through which a walk from the output link goes on, in order of tag.
-pub fn leading(alloc: Global, ids: &Marks, elements: &[Element]) -> Result<List<Triple>, NoMemory>
-    ensures { IfOk result (λ out. out ≡ walking.leading (has_mark ids.now) elements.now) }
+/// The triples of what walks from the output link reach and is no goal, by tag.
+pub fn shown_by_tag(
+    alloc: Global,
+    memory: &Memory,
+    goals: &Marks,
+) -> Result<BTreeMap<u32, Triple>, NoMemory>
+    ensures { (ids : ListOf SymOf) → walking.Tells (has_mark goals.now) ids → IfOk result (λ kept. kept.entries ≡ walking.tagged (walking.shown (has_symbol (reached_from ids (map triple_of memory.now.elements) output_identifier)) (has_symbol ids) memory.now.elements)) }
 {
-    let mut out = List::new(alloc);
-    'elements: for element in elements {
-        if goes_on_at(ids, element.id) {
-            out.push(triple_of(*element))?;
+    law(memory);
+    let mut met = Marks::new(alloc);
+    let mut reached = List::new(alloc);
+    meet(&mut met, &mut reached, OUTPUT)?;
+    let mut kept = BTreeMap::new(alloc);
+    let mut at = 0;
+    'reached: while at < reached.len() {
+        let id = reached.as_slice()[at];
+        go_on(alloc, memory, goals, id, &mut met, &mut reached, &mut kept)?;
+        at += 1;
+    }
+    Ok(kept)
+}
+
+/// Tells that tags rise in working memory. Nothing is done.
+fn law(memory: &Memory)
+    ensures { IsRising memory.now.elements }
+{
+    let _ = memory.get(0);
+}
+
+/// Goes on from an identifier that is reached, and keeps its triples where it is no goal.
+fn go_on(
+    alloc: Global,
+    memory: &Memory,
+    goals: &Marks,
+    id: Sym,
+    met: &mut Marks,
+    reached: &mut List<Sym>,
+    kept: &mut BTreeMap<u32, Triple>,
+) -> Result<(), NoMemory>
+    requires { (s : SymOf) → has_mark met.old s ≡ has_symbol reached.old s }
+    ensures met { OnOk result ((s : SymOf) → has_mark met.new s ≡ has_symbol reached.new s) }
+    ensures reached { OnOk result (reached.new ≡ walking.gone_on (has_mark goals.now) memory.now.elements reached.old id) }
+    ensures kept { OnOk result (kept.new.entries ≡ walking.kept_with (has_mark goals.now) memory.now.elements kept.old.entries id) }
+{
+    if goes_on_at(goals, id) {
+        let elements = memory.of_id(alloc, id)?;
+        meet_values(met, reached, elements.as_slice())?;
+        if !goals.has(id) {
+            keep(kept, elements.as_slice())?;
         }
     }
-    Ok(out)
+    Ok(())
 }
 
 /// Whether a walk from the output link goes on through an identifier: its own, or that of no goal.
-fn goes_on_at(ids: &Marks, id: Sym) -> bool
-    ensures { result ≡ walking.goes_on_at (has_mark ids.now) id }
+fn goes_on_at(goals: &Marks, id: Sym) -> bool
+    ensures { result ≡ walking.goes_on_at (has_mark goals.now) id }
 {
-    is_symbol(id, OUTPUT) || !ids.has(id)
+    is_symbol(id, OUTPUT) || !goals.has(id)
 }
 
-fn triple_of(element: Element) -> Triple
-    ensures { result ≡ triple_of element }
+/// Reaches the identifiers among the values of elements.
+fn meet_values(
+    met: &mut Marks,
+    reached: &mut List<Sym>,
+    elements: &[Element],
+) -> Result<(), NoMemory>
+    requires { (s : SymOf) → has_mark met.old s ≡ has_symbol reached.old s }
+    ensures met { OnOk result ((s : SymOf) → has_mark met.new s ≡ has_symbol reached.new s) }
+    ensures reached { OnOk result (reached.new ≡ walking.with_values reached.old elements.now) }
 {
-    Triple {
+    'elements: for element in elements {
+        meet_value(met, reached, element.value)?;
+    }
+    Ok(())
+}
+
+fn meet_value(met: &mut Marks, reached: &mut List<Sym>, value: Sym) -> Result<(), NoMemory>
+    requires { (s : SymOf) → has_mark met.old s ≡ has_symbol reached.old s }
+    ensures met { OnOk result ((s : SymOf) → has_mark met.new s ≡ has_symbol reached.new s) }
+    ensures reached { OnOk result (reached.new ≡ walking.with_value reached.old value) }
+{
+    if is_identifier(value) {
+        meet(met, reached, value)?;
+    }
+    Ok(())
+}
+
+/// Reaches an identifier, where it was not met.
+fn meet(met: &mut Marks, reached: &mut List<Sym>, id: Sym) -> Result<(), NoMemory>
+    requires { (s : SymOf) → has_mark met.old s ≡ has_symbol reached.old s }
+    ensures met { OnOk result ((s : SymOf) → has_mark met.new s ≡ has_symbol reached.new s) }
+    ensures reached { OnOk result (reached.new ≡ with_reached reached.old id) }
+{
+    if !met.has(id) {
+        met.add(id)?;
+        reached.push(id)?;
+    }
+    Ok(())
+}
+
+/// Keeps the triples of elements, each at its tag.
+fn keep(kept: &mut BTreeMap<u32, Triple>, elements: &[Element]) -> Result<(), NoMemory>
+    ensures { OnOk result (kept.new.entries ≡ walking.with_elements elements.now kept.old.entries) }
+{
+    'elements: for element in elements {
+        keep_one(kept, *element)?;
+    }
+    Ok(())
+}
+
+fn keep_one(kept: &mut BTreeMap<u32, Triple>, element: Element) -> Result<(), NoMemory>
+    ensures { OnOk result (kept.new.entries ≡ insert_entry nat_cmp kept.old.entries element.tag (triple_of element)) }
+{
+    let triple = Triple {
         id: element.id,
         attr: element.attr,
         value: element.value,
         accept: element.accept,
-    }
+    };
+    kept.insert(element.tag, triple)?;
+    Ok(())
 }
 
-/// Levels over these triples, with the output link as the only goal.
-pub fn levels_from_output(alloc: Global, triples: &List<Triple>) -> Result<Levels, NoMemory>
-    ensures { IfOk result (λ levels. TellsLevels levels (walking.output_goal ∷ []) triples.now) }
+fn is_identifier(symbol: Sym) -> bool
+    ensures { result ≡ is_identifier symbol }
 {
-    let mut goals = List::new(alloc);
-    goals.push(output_goal(alloc))?;
-    let mut levels = Levels::new(alloc)?;
-    levels.refresh(triples, &goals)?;
-    Ok(levels)
-}
-
-/// The output link as a goal.
-fn output_goal(alloc: Global) -> Goal
-    ensures { result ≡ walking.output_goal }
-{
-    Goal {
-        id: OUTPUT,
-        impasse: Impasse::Top,
-        items: List::new(alloc),
-        selected: None,
-    }
+    matches!(symbol, Sym::Ident { .. })
 }
