@@ -8,8 +8,8 @@ ghost use Rattle.soar_rule.specs.Productions.{production_seen};
 ghost use Rattle.std.specs.Option.{option_map};
 
 use crate::bodies::same_body;
-use defs_match::Rule;
 use defs_soar::{Candidate, Cause, Learned, Learning};
+use rule_shelf::Rules;
 use soar_rule::{Production, canonical};
 use soar_sym::{NoMemory, Sym};
 use std::alloc::Global;
@@ -21,7 +21,7 @@ const MOST_CHUNKS: u32 = 50;
 pub fn unless_reused(
     alloc: Global,
     c: &Candidate,
-    rules: &[Rule],
+    rules: &Rules,
     s: &Learning,
 ) -> Result<Learned, NoMemory>
     ensures { IfOk result (λ l. learned_from (candidate_seen c.now) (meaning.unless_reused s.now (reused_by (option_map production_seen c.now.general) (map rule_seen rules.now))) ≡ Some (learned_seen l)) }
@@ -63,7 +63,7 @@ pub fn justified(alloc: Global, c: &Candidate, why: Cause) -> Result<Learned, No
 fn reused(
     alloc: Global,
     general: &Option<Production>,
-    rules: &[Rule],
+    rules: &Rules,
 ) -> Result<Option<Sym>, NoMemory>
     ensures { IfOk result (λ name. name ≡ reused_by (option_map production_seen general.now) (map rule_seen rules.now)) }
 {
@@ -78,10 +78,10 @@ fn reused(
 }
 
 /// The name of the first rule whose canonical form has the body of this one.
-fn first_like(alloc: Global, form: &Production, rules: &[Rule]) -> Result<Option<Sym>, NoMemory>
+fn first_like(alloc: Global, form: &Production, rules: &Rules) -> Result<Option<Sym>, NoMemory>
     ensures { IfOk result (λ name. name ≡ like_form (production_seen form.now) (map rule_seen rules.now)) }
 {
-    'rules: for rule in rules {
+    'rules: for rule in rules.iter() {
         let other = canonical(alloc, &rule.production)?;
         if same_body(form, &other) {
             return Ok(Some(rule.production.name));

@@ -16,9 +16,9 @@ use crate::forms::{justified, unless_reused};
 use crate::stale::{blocked, tag_lost};
 use chain_identifiers::Identifiers;
 use chunk_negations::taken_over;
-use defs_match::Rule;
 use defs_soar::{Candidate, Cause, Chain, Learned, Learning, Step};
-use soar_sym::{List, NoMemory};
+use rule_shelf::Rules;
+use soar_sym::NoMemory;
 use soar_wm::{Element, Memory};
 use std::alloc::Global;
 
@@ -29,7 +29,7 @@ pub fn outcome(
     alloc: Global,
     c: &Candidate,
     chain: &Chain,
-    rules: &List<Rule>,
+    rules: &Rules,
     w: &Memory,
     s: &Learning,
 ) -> Result<Learned, NoMemory>
@@ -38,7 +38,7 @@ pub fn outcome(
 {
     let depth = depth_of(chain.steps.as_slice());
     let told = Identifiers::of(alloc, chain, depth)?;
-    let found = learned(alloc, c, &told, rules.as_slice(), w, s)?;
+    let found = learned(alloc, c, &told, rules, w, s)?;
     Ok(found)
 }
 
@@ -60,7 +60,7 @@ fn learned(
     alloc: Global,
     c: &Candidate,
     told: &Identifiers<'_>,
-    rules: &[Rule],
+    rules: &Rules,
     w: &Memory,
     s: &Learning,
 ) -> Result<Learned, NoMemory>
@@ -77,7 +77,7 @@ fn unless_blocked(
     alloc: Global,
     c: &Candidate,
     told: &Identifiers<'_>,
-    rules: &[Rule],
+    rules: &Rules,
     w: &Memory,
     s: &Learning,
 ) -> Result<Learned, NoMemory>
@@ -106,7 +106,7 @@ fn unless_groundless(
     alloc: Global,
     c: &Candidate,
     told: &Identifiers<'_>,
-    rules: &[Rule],
+    rules: &Rules,
     s: &Learning,
 ) -> Result<Learned, NoMemory>
     ensures { IfOk result (λ l. learned_from (candidate_seen c.now) (unless_groundless_told (candidate_seen c.now) (chain_seen told.now.chain.now) told.now.depth (map rule_seen rules.now) s.now) ≡ Some (learned_seen l)) }
@@ -134,7 +134,7 @@ fn unless_justified(
     alloc: Global,
     c: &Candidate,
     told: &Identifiers<'_>,
-    rules: &[Rule],
+    rules: &Rules,
     s: &Learning,
 ) -> Result<Learned, NoMemory>
     ensures { IfOk result (λ l. learned_from (candidate_seen c.now) (unless_justified_told (candidate_seen c.now) (map rule_seen rules.now) s.now (cause_told (candidate_seen c.now) (chain_seen told.now.chain.now) told.now.depth s.now)) ≡ Some (learned_seen l)) }

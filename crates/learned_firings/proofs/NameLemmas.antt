@@ -1,5 +1,5 @@
 -- Names of learned rules: texts that join the table, and numbers up to the limit.
-use Rattle.std.proofs.Common.{◌≡◌, ◌<◌, ◌≤◌, ◌∙◌, ◌+◌, ◌-◌, ◌^◌, ℕ, zero, suc, nat_lt, Bool, true, false, cond, List, [], ◌∷◌, ◌++◌, length, Option, Some, None, Err, refl, sym, ap, arith, length-append}
+use Rattle.std.proofs.Common.{◌≡◌, ◌<◌, ◌≤◌, ◌∙◌, ◌+◌, ◌-◌, ◌^◌, ℕ, zero, suc, nat_lt, Bool, true, false, cond, List, [], ◌∷◌, ◌++◌, length, Option, Some, None, Ok, Err, refl, sym, ap, subst, arith, length-append}
 use Rattle.std.specs.Option.{option_map}
 use Rattle.std.specs.Prelude.{unwrap_or, slice_get}
 use Rattle.soar_sym.specs.Words.{Texts, has_text, place_of, text_of, with_text, word_of}
@@ -13,7 +13,9 @@ use Rattle.defs_soar.specs.LearnedRules.{free_number, is_loaded, learned_name}
 use Rattle.defs_soar.specs.Limits.{Total, counts_to, words_to, first_passed, or_limit}
 use Rattle.soar_settle.specs.declared.stop.Stop.{Stop}
 use Rattle.soar_settle.specs.declared.stop.Stop.TheVariants as stop
-use Rattle.learned_firings.specs.Naming.{FindsNumber, Names}
+use Rattle.learned_firings.specs.Naming.{IsName, IsNamed, Names, Tries}
+use Rattle.learned_firings.specs.NameTotals.{totals_of_name}
+use Rattle.learned_firings.specs.declared.names.LearnedName.{LearnedName}
 use Rattle.learned_firings.specs.Totals.{Reaches}
 
 -- ---- limits
@@ -101,10 +103,11 @@ spent words rules front tries k n whole limit is taken over q =
     (h.0, omega (arith, h.1, high, same))
 
 -- a number that none can follow, whose name a rule has
-pub number_over : (words : Texts) (rules : List RuleOf) (front : List ℕ) (tries k n whole : ℕ) (e : Stop) → tries ≡ suc k → is_loaded words rules (learned_name front n) ≡ true
-    → Reaches {A = ℕ} (counts_to (suc n) ∷ []) (Err e) → free_number tries words rules front n ≡ whole → FindsNumber whole (Err e)
-number_over words rules front tries k n whole (stop.Limit limit) is taken over q = spent words rules front tries k n whole limit is taken over q
-number_over words rules front tries k n whole stop.NoMemory is taken over q = tt
+pub number_over : (words after : Texts) (rules : List RuleOf) (front : List ℕ) (tries k n whole : ℕ) (e : Stop) → tries ≡ suc k → is_loaded words rules (learned_name front n) ≡ true
+    → Reaches {A = ℕ} (counts_to (suc n) ∷ []) (Err e) → free_number tries words rules front n ≡ whole → IsName words front whole after (Err e)
+number_over words after rules front tries k n whole (stop.Limit limit) is taken over q =
+    let h = spent words rules front tries k n whole limit is taken over q in count_first whole (words_to (length (with_text words (learned_name front whole)))) h.1 ∙ ap Some (sym h.0)
+number_over words after rules front tries k n whole stop.NoMemory is taken over q = tt
 
 -- and so for the first number
 pub first_over : (words : Texts) (rules : List RuleOf) (front : List ℕ) (last : ℕ) (after : Texts) (e : Stop) → Reaches {A = ℕ} (counts_to (suc last) ∷ []) (Err e) → Names words rules front last after (Err e)
@@ -114,3 +117,17 @@ first_over words rules front last after (stop.Limit limit) over =
     let number = free_number (length rules) words rules front (suc last) in
     count_first number (words_to (length (with_text words (learned_name front number)))) (omega (arith, h.1, high)) ∙ ap Some (sym h.0)
 first_over words rules front last after stop.NoMemory over = tt
+
+-- ---- a number whose name is free
+
+module _ (words after : Texts) (rules : List RuleOf) (front : List ℕ) (tries k n whole : ℕ) (is : tries ≡ suc k) (q : free_number tries words rules front n ≡ whole) where
+  number_free : is_loaded words rules (learned_name front n) ≡ false → n ≡ whole
+  number_free free =
+      sym (ap (λ (t : ℕ). free_number t words rules front n) is ∙ ap (λ (b : Bool). elim b [ true ↦ free_number k words rules front (suc n) | false ↦ n ]) free) ∙ q
+
+  pub tried_over : (e : Stop) → Tries words rules front n after (Err e) → IsName words front whole after (Err e)
+  tried_over stop.NoMemory over = tt
+  tried_over (stop.Limit limit) over = subst (λ m. first_passed (totals_of_name words front m) ≡ Some limit) (number_free over.0) over.1
+
+  pub tried_named : (it : LearnedName) → Tries words rules front n after (Ok (Some it)) → IsNamed words front whole after it
+  tried_named it tried = subst (λ m. IsNamed words front m after it) (number_free tried.0) tried.1

@@ -1,16 +1,13 @@
 // Names of learned rules: `chunk*N`, `justification*N`.
 ghost use Rattle.std.specs.Prelude.{◌≡◌, length, map, string_bytes, IfOk};
-ghost use Rattle.std.specs.Str.{bytes_eq};
 ghost use Rattle.defs_match.specs.Rules.{rule_seen};
-ghost use Rattle.defs_soar.specs.LearnedRules.{free_number, is_loaded, learned_name};
-ghost use Rattle.soar_sym.specs.declared.symbol.Sym.TheVariants.{Word};
-ghost use Rattle.defs_soar.specs.Naming.{text_of_name};
+ghost use Rattle.defs_soar.specs.LearnedRules.{free_number, learned_name};
 ghost use Rattle.soar_fire.specs.Growth.{OnlyGrows};
-ghost use Rattle.learned_firings.specs.Naming.{FindsNumber, IsName, Names, Spells};
+ghost use Rattle.learned_firings.specs.Naming.{IsName, Names, Spells, Tries};
 
 use crate::counts::next_count;
-use defs_match::Rule;
 use defs_soar::Which;
+use rule_shelf::Rules;
 use soar_settle::Stop;
 use soar_sym::{InternFault, Sym, SymTable};
 use std::alloc::{AllocError, Global};
@@ -27,7 +24,7 @@ pub struct LearnedName {
 pub fn new_name(
     alloc: Global,
     table: &mut SymTable,
-    rules: &[Rule],
+    rules: &Rules,
     front: &str,
     last: u64,
 ) -> Result<LearnedName, Stop>
@@ -35,8 +32,49 @@ pub fn new_name(
     ensures grown { OnlyGrows table.old table.new }
 {
     let first = next_count(last)?;
-    let number = free_number(alloc, table, rules, front, first)?;
+    first_free(alloc, table, rules, front, first)
+}
+
+/// The name of the first number from this one on whose name no rule has. As many as there are rules can be in the way.
+fn first_free(
+    alloc: Global,
+    table: &mut SymTable,
+    rules: &Rules,
+    front: &str,
+    first: u64,
+) -> Result<LearnedName, Stop>
+    ensures answer { IsName table.old front.now (free_number (length rules.now) table.old (map rule_seen rules.now) front.now first) table.new result }
+    ensures grown { OnlyGrows table.old table.new }
+{
+    let mut number = first;
+    'tries: for _ in 0..rules.len() {
+        match name_tried(alloc, table, rules, front, number)? {
+            Some(name) => return Ok(name),
+            None => number = next_count(number)?,
+        }
+    }
     spelled(alloc, table, front, number)
+}
+
+/// The name of this number, where no rule has it. A name that a rule has is in the table, which stays.
+fn name_tried(
+    alloc: Global,
+    table: &mut SymTable,
+    rules: &Rules,
+    front: &str,
+    number: u64,
+) -> Result<Option<LearnedName>, Stop>
+    ensures answer { Tries table.old (map rule_seen rules.now) front.now number table.new result }
+    ensures grown { OnlyGrows table.old table.new }
+{
+    table.law();
+    let count = table.word_count();
+    let name = spelled(alloc, table, front, number)?;
+    if table.word_count() == count && rules.has_name(name.name) {
+        Ok(None)
+    } else {
+        Ok(Some(name))
+    }
 }
 
 /// The name of a number joins the table.
@@ -52,78 +90,6 @@ fn spelled(
     let text = name_text(alloc, front, number)?;
     let name = intern(table, text.as_str())?;
     Ok(LearnedName { number, name })
-}
-
-/// The first number from this one on whose name no rule has. As many as there are rules can be in the way.
-fn free_number(
-    alloc: Global,
-    table: &SymTable,
-    rules: &[Rule],
-    front: &str,
-    first: u64,
-) -> Result<u64, Stop>
-    ensures { FindsNumber (free_number (length rules.now) table.now (map rule_seen rules.now) front.now first) result }
-{
-    let mut number = first;
-    'tries: for _ in rules {
-        if !is_taken(alloc, table, rules, front, number)? {
-            return Ok(number);
-        }
-        number = next_count(number)?;
-    }
-    Ok(number)
-}
-
-/// Whether a rule has the name of this number.
-fn is_taken(
-    alloc: Global,
-    table: &SymTable,
-    rules: &[Rule],
-    front: &str,
-    number: u64,
-) -> Result<bool, AllocError>
-    ensures { IfOk result (λ taken. taken ≡ is_loaded table.now (map rule_seen rules.now) (learned_name front.now number)) }
-{
-    let text = name_text(alloc, front, number)?;
-    Ok(is_loaded(table, rules, text.as_str()))
-}
-
-fn is_loaded(table: &SymTable, rules: &[Rule], text: &str) -> bool
-    ensures { result ≡ is_loaded table.now (map rule_seen rules.now) text.now }
-{
-    'rules: for rule in rules {
-        if is_named(table, rule, text) {
-            return true;
-        }
-    }
-    false
-}
-
-fn is_named(table: &SymTable, rule: &Rule, text: &str) -> bool
-    ensures { result ≡ bytes_eq (text_of_name table.now (rule_seen rule.now).production.name) text.now }
-{
-    text_of(table, rule.production.name) == text
-}
-
-/// The text of a name, and none of another symbol.
-fn text_of(table: &SymTable, name: Sym) -> &str
-    ensures { result.now ≡ text_of_name table.now name }
-{
-    match name {
-        Sym::Word(word) => text_of_word(table, word),
-        _ => "",
-    }
-}
-
-#[tactic(auto, using(crate::proofs::NameLemmas::text_there, crate::proofs::NameLemmas::text_past))]
-fn text_of_word(table: &SymTable, word: u32) -> &str
-    ensures { result.now ≡ text_of_name table.now (Word word) }
-{
-    if word < table.word_count() {
-        table.text(word)
-    } else {
-        ""
-    }
 }
 
 fn name_text(alloc: Global, front: &str, number: u64) -> Result<String, AllocError>

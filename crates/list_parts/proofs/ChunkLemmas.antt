@@ -1,5 +1,5 @@
 -- The lines of chunks, and lines behind lines.
-use Rattle.std.proofs.Common.{◌≡◌, ℕ, ◌+◌, ◌<◌, Bool, true, false, cond, List, [], ◌∷◌, ◌++◌, ◌||◌, ◌∙◌, refl, sym, ap, map, flat_map, length, drop, get_or, drop-cons, add-one, append_assoc, append-nil, subst}
+use Rattle.std.proofs.Common.{◌≡◌, ℕ, Bool, true, false, cond, List, [], ◌∷◌, ◌++◌, ◌||◌, ◌∙◌, refl, sym, ap, map, flat_map, append_assoc, append-nil, subst}
 use Rattle.std.specs.List.{list_any}
 use Rattle.soar_sym.specs.Words.{Texts}
 use Rattle.defs_match.specs.Rules.{RuleOf, rule_seen}
@@ -93,28 +93,18 @@ pub is_left : (words : Texts) (rule : RuleOf) → is_chunk_rule rule ≡ false �
 is_left words rule is = ap (λ b. flat_map (rule_production words) (cond b (rule ∷ []) [])) is
 
 -- the next rule of a list, which is known
-rules_next : (rules : List Rule) (i : ℕ) (rule : Rule) → i < length rules → rule ≡ get_or rules i rule → drop i rules ≡ rule ∷ drop (i + 1) rules
-rules_next rules i rule within at = drop-cons rules i rule within ∙ rw (← at, add-one i) refl
-
-next_known : (words : Texts) (rules : List Rule) (i : ℕ) (rule : Rule) → i < length rules → rule ≡ get_or rules i rule → AreRulesKnown words (map rule_seen (drop i rules))
-    → AreRulesKnown words (map rule_seen (rule ∷ drop (i + 1) rules))
-next_known words rules i rule within at known = subst (λ (l : List Rule). AreRulesKnown words (map rule_seen l)) (rules_next rules i rule within at) known
-
-pub first_known : (words : Texts) (rules : List Rule) (i : ℕ) (rule : Rule) → i < length rules → rule ≡ get_or rules i rule → AreRulesKnown words (map rule_seen (drop i rules)) → AreRulesKnown words (rule_seen rule ∷ [])
-first_known words rules i rule within at known = ((next_known words rules i rule within at known).0, tt)
-
-pub rest_known : (words : Texts) (rules : List Rule) (i : ℕ) (rule : Rule) → i < length rules → rule ≡ get_or rules i rule → AreRulesKnown words (map rule_seen (drop i rules)) → AreRulesKnown words (map rule_seen (drop (i + 1) rules))
-rest_known words rules i rule within at known = (next_known words rules i rule within at known).1
+pub next_known : (words : Texts) (rules later : List Rule) (rule : Rule) → rules ≡ rule ∷ later → AreRulesKnown words (map rule_seen rules) → AreRulesKnown words (map rule_seen (rule ∷ later))
+next_known words rules later rule is known = subst (λ (l : List Rule). AreRulesKnown words (map rule_seen l)) is known
 
 -- what is still to be said once the next rule was
-pub one_said : (words : Texts) (rules : List Rule) (i : ℕ) (rule : Rule) (mid new_mid : Bool) (before after : List ℕ) → i < length rules → rule ≡ get_or rules i rule
+pub one_said : (words : Texts) (rules later : List Rule) (rule : Rule) (mid new_mid : Bool) (before after : List ℕ) → rules ≡ rule ∷ later
     → Says (chunk_texts words (rule_seen rule ∷ [])) mid before new_mid after
-    → (after ++ (written new_mid (chunk_texts words (map rule_seen (drop (i + 1) rules)))).text ≡ before ++ (written mid (chunk_texts words (map rule_seen (drop i rules)))).text)
-    × ((written new_mid (chunk_texts words (map rule_seen (drop (i + 1) rules)))).mid_line ≡ (written mid (chunk_texts words (map rule_seen (drop i rules)))).mid_line)
-one_said words rules i rule mid new_mid before after within at said =
+    → (after ++ (written new_mid (chunk_texts words (map rule_seen later))).text ≡ before ++ (written mid (chunk_texts words (map rule_seen rules))).text)
+    × ((written new_mid (chunk_texts words (map rule_seen later))).mid_line ≡ (written mid (chunk_texts words (map rule_seen rules))).mid_line)
+one_said words rules later rule mid new_mid before after is said =
     let one : List (List ℕ) = chunk_texts words (rule_seen rule ∷ []) in
-    let rest : List (List ℕ) = chunk_texts words (map rule_seen (drop (i + 1) rules)) in
-    let texts : chunk_texts words (map rule_seen (drop i rules)) ≡ one ++ rest =
-    ap (λ (l : List Rule). chunk_texts words (map rule_seen l)) (rules_next rules i rule within at) ∙ first_texts words (rule_seen rule) (map rule_seen (drop (i + 1) rules)) in
+    let rest : List (List ℕ) = chunk_texts words (map rule_seen later) in
+    let texts : chunk_texts words (map rule_seen rules) ≡ one ++ rest =
+    ap (λ (l : List Rule). chunk_texts words (map rule_seen l)) is ∙ first_texts words (rule_seen rule) (map rule_seen later) in
     let r = rest_said one rest mid new_mid before after said in
     (r.0 ∙ sym (ap (λ l. before ++ (written mid l).text) texts), r.1 ∙ sym (ap (λ l. (written mid l).mid_line) texts))

@@ -10,6 +10,7 @@ ghost use Rattle.list_parts.specs.Lists.{chunk_lines, chunk_texts, is_chunk_rule
 
 use crate::line::say_line;
 use defs_match::Rule;
+use rule_shelf::Rules;
 use session_parts::say_production;
 use soar_rule::Kind;
 use soar_sym::{NoMemory, SymTable, Text};
@@ -17,7 +18,7 @@ use soar_sym::{NoMemory, SymTable, Text};
 /// Appends all chunks by number, each as its production, one triple a line, or that there are none.
 pub fn list_chunks(
     table: &SymTable,
-    rules: &[Rule],
+    rules: &Rules,
     out: &mut Text,
     mid_line: &mut bool,
 ) -> Result<(), NoMemory>
@@ -35,7 +36,7 @@ pub fn list_chunks(
 /// Appends the chunks.
 fn list_found(
     table: &SymTable,
-    rules: &[Rule],
+    rules: &Rules,
     out: &mut Text,
     mid_line: &mut bool,
 ) -> Result<(), NoMemory>
@@ -52,10 +53,10 @@ fn list_found(
 }
 
 /// Whether a rule is a chunk.
-fn has_chunk(rules: &[Rule]) -> bool
+fn has_chunk(rules: &Rules) -> bool
     ensures { result ≡ list_any is_chunk_rule (map rule_seen rules.now) }
 {
-    'rules: for rule in rules {
+    'rules: for rule in rules.iter() {
         if is_chunk(rule.production.kind) {
             return true;
         }
@@ -66,14 +67,14 @@ fn has_chunk(rules: &[Rule]) -> bool
 /// Appends the chunks, of which want of memory may leave some.
 fn say_chunks(
     table: &SymTable,
-    rules: &[Rule],
+    rules: &Rules,
     out: &mut Text,
     mid_line: &mut bool,
 ) -> Result<(), NoMemory>
     requires { AreRulesKnown table.now (map rule_seen rules.now) }
     ensures { OnOk result (Says (chunk_texts table.now (map rule_seen rules.now)) mid_line.old out.old mid_line.new out.new) }
 {
-    'rules: for rule in rules {
+    'rules: for rule in rules.iter() {
         say_chunk(table, rule, out, mid_line)?;
     }
     Ok(())

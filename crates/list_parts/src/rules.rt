@@ -11,13 +11,13 @@ ghost use Rattle.list_parts.specs.Lists.{rule_line, rule_lines};
 
 use crate::line::say_line;
 use crate::texts::symbol_text;
-use defs_match::Rule;
+use rule_shelf::Rules;
 use soar_sym::{NoMemory, Sym, SymTable, Text};
 
 /// Appends the names of all productions, one a line, or that there are none.
 pub fn list_rules(
     table: &SymTable,
-    rules: &[Rule],
+    rules: &Rules,
     out: &mut Text,
     mid_line: &mut bool,
 ) -> Result<(), NoMemory>
@@ -25,7 +25,7 @@ pub fn list_rules(
     ensures ok { OnOk result (Says (rule_lines table.now (map rule_seen rules.now)) mid_line.old out.old mid_line.new out.new) }
     ensures err { OnErr result (SaysNothing mid_line.old out.old mid_line.new out.new) }
 {
-    if rules.is_empty() {
+    if rules.len() == 0 {
         return say_line(out, mid_line, "no rules");
     }
     let mut said = Text::new(out.allocator());
@@ -39,14 +39,14 @@ pub fn list_rules(
 /// Appends the names, of which want of memory may leave some.
 fn say_rules(
     table: &SymTable,
-    rules: &[Rule],
+    rules: &Rules,
     out: &mut Text,
     mid_line: &mut bool,
 ) -> Result<(), NoMemory>
     requires { AreRulesKnown table.now (map rule_seen rules.now) }
     ensures { OnOk result (Says (map (rule_line table.now) (map rule_seen rules.now)) mid_line.old out.old mid_line.new out.new) }
 {
-    'rules: for rule in rules {
+    'rules: for rule in rules.iter() {
         say_symbol(table, rule.production.name, out, mid_line)?;
     }
     Ok(())

@@ -10,6 +10,7 @@ use defs_soar::PrefKind;
 use list_parts::{
     Stats, list_elements, list_matches_of, list_preferences, list_rules, say_stats, show_wish,
 };
+use rule_shelf::Rules;
 use soar_sym::architecture::{NIL, OPERATOR};
 use soar_sym::{NoMemory, Sym, SymTable, Text};
 use std::alloc::Global;
@@ -108,9 +109,10 @@ fn lists(alloc: Global) -> Result<Text, NoMemory> {
 fn say_rules(table: &SymTable, out: &mut Text, mid_line: &mut bool) -> Result<(), NoMemory>
     requires { table.now ≡ architecture }
 {
-    let rules = rules(out.allocator())?;
-    list_rules(table, &[], out, mid_line)?;
-    list_rules(table, rules.as_slice(), out, mid_line)
+    let alloc = out.allocator();
+    let rules = rules(alloc)?;
+    list_rules(table, &Rules::new(alloc), out, mid_line)?;
+    list_rules(table, &rules, out, mid_line)
 }
 
 fn say_matches(table: &SymTable, out: &mut Text, mid_line: &mut bool) -> Result<(), NoMemory>

@@ -4,14 +4,14 @@ use Rattle.std.proofs.lemmas.List.Elements.{filter-append}
 use Rattle.std.proofs.lemmas.List.{map-append}
 use Rattle.soar_rule.specs.Variables.{bound_variables}
 use Rattle.soar_wm.specs.declared.element.Element.{Element}
-use Rattle.defs_match.specs.Contents.{is_numbered}
+use Rattle.defs_match.specs.Contents.{is_numbered, rule_numbered}
 use Rattle.defs_match.specs.Rules.{RuleOf}
 use Rattle.defs_match.specs.declared.instance.Instance.{Instance}
 use Rattle.defs_soar.specs.declared.goal.Goal.{Goal}
 use Rattle.defs_soar.specs.Agents.{LiveFiring}
 use Rattle.defs_soar.specs.Pending.{Firable, depth_of, firable_of, may_fire}
 use Rattle.pending_work.specs.Active.{depth_at}
-use Rattle.pending_work.specs.Candidates.{fires_by, fires_now, rule_numbered}
+use Rattle.pending_work.specs.Candidates.{fires_by, fires_now}
 use Rattle.pending_work.specs.Firables.{AreBound, IsBoundBy, IsInstance, firables_for, rules_of}
 
 -- ---- the one rule of an instance
@@ -54,6 +54,17 @@ binds_by_rule rules i rule h e =
     let same : one.0 ≡ rule = same_rule one.0 rule (sym one.2 ∙ e) in
     let bound : IsBoundBy i (one.0 ∷ []) = subst (IsBoundBy i) one.1 h.bound in
     bound.0 ∙ ap (λ (r : RuleOf). length (bound_variables r.production.conditions)) same
+
+-- it is there, and alone
+pub rule_there : (rules : List RuleOf) (i : Instance) → IsInstance rules i → rule_numbered i.rule rules ≡ None → ⊥
+rule_there rules i h none = let one = has_one rules i h in absurd_rule one.0 (sym one.2 ∙ none)
+  where
+    absurd_rule : (rule : RuleOf) → Some rule ≡ None → ⊥
+    absurd_rule rule e = cc
+
+pub rule_alone : (rules : List RuleOf) (i : Instance) (rule : RuleOf) → IsInstance rules i → rule_numbered i.rule rules ≡ Some rule → rules_of rules i.rule ≡ rule ∷ []
+rule_alone rules i rule h e =
+    let one = has_one rules i h in one.1 ∙ ap (λ (r : RuleOf). r ∷ []) (same_rule one.0 rule (sym one.2 ∙ e))
 
 -- ---- filters
 

@@ -8,13 +8,14 @@ use Rattle.std.specs.Ordering.{is_eq, match_ordering, nat_cmp, ordering_then}
 use Rattle.std.specs.declared.cmp.Ordering.{Ordering}
 use Rattle.std.specs.declared.cmp.Ordering.TheVariants.{Less, Equal, Greater}
 use Rattle.soar_wm.specs.declared.element.Element.{Element}
+use Rattle.defs_match.specs.Contents.{rule_numbered}
 use Rattle.defs_match.specs.Rules.{RuleOf}
 use Rattle.defs_match.specs.declared.instance.Instance.{Instance}
 use Rattle.defs_soar.specs.declared.goal.Goal.{Goal}
 use Rattle.defs_soar.specs.Agents.{LiveFiring}
 use Rattle.defs_soar.specs.Pending.{firable_of, instance_eq, is_justification, is_listed, is_of_operator_kind, tags_eq}
-use Rattle.goal_trimming.specs.declared.live.Live.{Live}
-use Rattle.pending_work.specs.Candidates.{fires_by, fires_now, rule_numbered}
+use Rattle.live_firings.specs.declared.live.Live.{Live}
+use Rattle.pending_work.specs.Candidates.{fires_by, fires_now}
 use Rattle.pending_work.specs.Keys.{Key, TellsLive, fires_but, fires_by_but, has_key, key_eq}
 
 -- ---- the order of keys

@@ -12,8 +12,8 @@ use Rattle.pending_work.specs.declared.work.Work.{Work}
 use Rattle.pending_work.specs.Active.{active_of, depth_at, level_of}
 use Rattle.pending_work.specs.Candidates.{fires_now}
 use Rattle.pending_work.specs.Firables.{AreBound, AreNumbered, IsPending, firables_for}
-use Rattle.goal_trimming.specs.Living.{live_seen}
-use Rattle.goal_trimming.specs.declared.live.Live.{Live}
+use Rattle.live_firings.specs.Living.{live_seen}
+use Rattle.live_firings.specs.declared.live.Live.{Live}
 use Rattle.soar_settle.specs.Known.{AreElementsKnown, AreInstancesKnown}
 use Rattle.pending_work.proofs.ConflictLemmas.{bound_conflict, bound_filter, known_conflict, known_filter}
 use Rattle.pending_work.proofs.FirableLemmas.{depths_agree, fires_agree, level_agrees}

@@ -1,17 +1,12 @@
 -- Whether an instance may fire by the rule of its number.
-use Rattle.std.specs.Prelude.{ℕ, Bool, false, List, [], ◌∷◌, Option, Some, None, if◌then◌else◌}
+use Rattle.std.specs.Prelude.{Bool, false, List, Option, Some, None}
 use Rattle.soar_wm.specs.declared.element.Element.{Element}
-use Rattle.defs_match.specs.Contents.{is_numbered}
+use Rattle.defs_match.specs.Contents.{rule_numbered}
 use Rattle.defs_match.specs.Rules.{RuleOf}
 use Rattle.defs_match.specs.declared.instance.Instance.{Instance}
 use Rattle.defs_soar.specs.declared.goal.Goal.{Goal}
 use Rattle.defs_soar.specs.Agents.{LiveFiring}
 use Rattle.defs_soar.specs.Pending.{firable_of, may_fire}
-
--- the first rule of a number
-abbrev pub rule_numbered : ℕ → List RuleOf → Option RuleOf
-rule_numbered number [] = None
-rule_numbered number (rule ∷ rules) = if is_numbered number rule then Some rule else rule_numbered number rules
 
 abbrev pub fires_by : Bool → List Element → List Goal → List LiveFiring → Instance → Option RuleOf → Bool
 fires_by proposing elements goals live i None = false

@@ -2,12 +2,12 @@
 use Rattle.std.specs.Prelude.{◌≡◌, ℕ, Bool, ◌&&◌, ◌==◌, not, List, map, Option, Some, None, false}
 use Rattle.std.specs.List.{list_any}
 use Rattle.soar_wm.specs.declared.element.Element.{Element}
+use Rattle.defs_match.specs.Contents.{rule_numbered}
 use Rattle.defs_match.specs.Rules.{RuleOf}
 use Rattle.defs_match.specs.declared.instance.Instance.{Instance}
 use Rattle.defs_soar.specs.declared.goal.Goal.{Goal}
 use Rattle.defs_soar.specs.Agents.{LiveFiring}
 use Rattle.defs_soar.specs.Pending.{Firable, firable_of, is_justification, is_listed, is_of_operator_kind, tags_eq}
-use Rattle.pending_work.specs.Candidates.{rule_numbered}
 
 abbrev pub Key : Type 0
 Key = ℕ × List ℕ

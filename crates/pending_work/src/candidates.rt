@@ -1,17 +1,16 @@
 // What is there to do at any level: live firings that match no more, and instances that may fire.
 ghost use Rattle.std.specs.Prelude.{◌≡◌, map, filter, not, length, IfOk};
-ghost use Rattle.std.specs.Option.{option_copied, option_map};
 ghost use Rattle.soar_rule.specs.Variables.{bound_variables};
 ghost use Rattle.defs_match.specs.Rules.{rule_seen};
 ghost use Rattle.defs_soar.specs.Pending.{firable_of, is_justification};
-ghost use Rattle.pending_work.specs.Candidates.{rule_numbered};
 ghost use Rattle.pending_work.specs.Firables.{AreBound, IsInstance};
 ghost use Rattle.pending_work.specs.Keys.{fires_but, has_key, may_fire_but};
 
 use crate::instances::InstanceSet;
 use defs_match::{Instance, Rule};
 use defs_soar::Goal;
-use goal_trimming::Live;
+use live_firings::Live;
+use rule_shelf::Rules;
 use soar_levels::operator_kind;
 use soar_rule::Kind;
 use soar_sym::{List, NoMemory};
@@ -55,7 +54,7 @@ fn copy_of(alloc: Global, firing: &Live) -> Result<Live, NoMemory>
 pub fn ready(
     alloc: Global,
     proposing: bool,
-    rules: &[Rule],
+    rules: &Rules,
     memory: &Memory,
     goals: &List<Goal>,
     live: &InstanceSet,
@@ -76,7 +75,7 @@ pub fn ready(
 /// Whether the instance may fire by its rule.
 fn fires(
     proposing: bool,
-    rules: &[Rule],
+    rules: &Rules,
     memory: &Memory,
     goals: &List<Goal>,
     live: &InstanceSet,
@@ -85,21 +84,10 @@ fn fires(
     requires bound { IsInstance (map rule_seen rules.now) instance.now }
     ensures { IfOk result (λ fires. fires ≡ fires_but proposing (map rule_seen rules.now) memory.now.elements goals.now live.now instance.now) }
 {
-    match rule_numbered(rules, instance.rule) {
+    match rules.get(instance.rule) {
         Some(rule) => may_fire(proposing, rule, memory, goals, live, instance),
         None => Ok(false),
     }
-}
-
-fn rule_numbered(rules: &[Rule], number: u64) -> Option<&Rule>
-    ensures { option_map rule_seen (option_copied result) ≡ rule_numbered number (map rule_seen rules.now) }
-{
-    'rules: for rule in rules {
-        if rule.number == number {
-            return Some(rule);
-        }
-    }
-    None
 }
 
 /// No live firing has the instance, the rule is no justification, and while proposing it is not of operator kind.

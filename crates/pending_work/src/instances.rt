@@ -2,11 +2,11 @@
 ghost use Rattle.std.specs.Prelude.{◌≡◌, ◌||◌, [], map, IfOk, OnOk};
 ghost use Rattle.defs_match.specs.declared.instance.Instance.{Instance as InstanceOf};
 ghost use Rattle.defs_soar.specs.Pending.{instance_eq, is_listed};
-ghost use Rattle.goal_trimming.specs.Living.{live_seen};
+ghost use Rattle.live_firings.specs.Living.{live_seen};
 ghost use Rattle.pending_work.specs.Keys.{has_key, IsKeyOf};
 
 use defs_match::Instance;
-use goal_trimming::Live;
+use live_firings::Live;
 use soar_sym::NoMemory;
 use std::alloc::Global;
 use std::collections::BTreeSet;

@@ -5,15 +5,16 @@ ghost use Rattle.defs_match.specs.Conflict.{conflict};
 ghost use Rattle.defs_soar.specs.Pending.{pending_in};
 ghost use Rattle.pending_work.specs.Working.{is_nothing};
 ghost use Rattle.pending_work.specs.Firables.{AreNumbered, AreBound, IsPending};
-ghost use Rattle.goal_trimming.specs.Living.{live_seen};
+ghost use Rattle.live_firings.specs.Living.{live_seen};
 ghost use Rattle.soar_settle.specs.Known.{AreElementsKnown, AreInstancesKnown};
 
 use crate::active::of_active_level;
 use crate::candidates::{ready, unmatched};
 use crate::instances::InstanceSet;
-use defs_match::{Instance, Rule};
+use defs_match::Instance;
 use defs_soar::Goal;
-use goal_trimming::Live;
+use live_firings::Live;
+use rule_shelf::Rules;
 use soar_sym::{List, NoMemory};
 use soar_wm::Memory;
 use std::alloc::Global;
@@ -39,7 +40,7 @@ impl Work {
 pub fn pending(
     alloc: Global,
     proposing: bool,
-    rules: &List<Rule>,
+    rules: &Rules,
     memory: &Memory,
     goals: &List<Goal>,
     live: &List<Live>,
@@ -53,7 +54,6 @@ pub fn pending(
     ensures bound { IfOk result (λ work. AreBound (map rule_seen rules.now) work.fired) }
     ensures known { IfOk result (λ work. (words : Texts) → AreElementsKnown words memory.now.elements → AreInstancesKnown words work.fired) }
 {
-    let rules = rules.as_slice();
     let live = live.as_slice();
     let matched = InstanceSet::of(alloc, instances.as_slice())?;
     let gone = unmatched(alloc, live, &matched)?;

@@ -1,7 +1,7 @@
 mod parts;
 
 use match_direct::conflict;
-use parts::{goals, live_of, memory, rules};
+use parts::{goals, listed, live_of, memory, rules};
 use pending_work::{Work, pending};
 use soar_sym::NoMemory;
 use std::alloc::Global;
@@ -44,7 +44,8 @@ fn is_pending(
     let goals = goals(alloc)?;
     let live = live_of(alloc, live)?;
     let elements = memory.all(alloc)?;
-    let instances = conflict(alloc, rules.as_slice(), elements.as_slice())?;
+    let listed = listed(alloc, &rules)?;
+    let instances = conflict(alloc, listed.as_slice(), elements.as_slice())?;
     let work = pending(alloc, proposing, &rules, &memory, &goals, &live, instances)?;
     Ok(is_work(&work, retracted, fired))
 }

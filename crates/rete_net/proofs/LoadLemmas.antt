@@ -1,12 +1,15 @@
 -- Chains and the requests for their nodes, as rules come and go.
 use Rattle.std.proofs.Common.{◌≡◌, ◌≢◌, refl, sym, ◌∙◌, ap, subst, ◌⊎◌, inl, inr, ℕ, zero, suc, ◌+◌, ◌<◌, false, length, List, [], ◌∷◌, ◌++◌, map, insert, remove, take, drop, drop-cons, take-append-drop, get_or, append_assoc, All, Option, Some, None, is_some, IsSome, option_and_then, Result, Ok, Err, OnOk, arith}
+use Rattle.std.specs.BTreeMap.{insert_entry, is_at}
 use Rattle.std.specs.List.{list_any}
+use Rattle.std.specs.Map.{lookup, remove_entry, values_of}
+use Rattle.std.specs.Ordering.{nat_cmp}
 use Rattle.std.proofs.lemmas.List.Elements.{All-append, All-take, All-drop}
 use Rattle.std.proofs.lemmas.Option.{same_Some}
 use Rattle.soar_rule.specs.Canonical.{canonical}
 use Rattle.soar_rule.specs.Conditions.{Conditions}
 use Rattle.soar_rule.specs.Productions.{production_seen}
-use Rattle.defs_match.specs.Contents.{is_numbered, with_rule}
+use Rattle.defs_match.specs.Contents.{is_numbered, with_rule, without_rule}
 use Rattle.defs_match.specs.Laws.{IsIn}
 use Rattle.defs_match.specs.Rules.{rule_seen}
 use Rattle.defs_match.specs.declared.rule.Rule.{Rule}
@@ -14,14 +17,14 @@ use Rattle.node_table.specs.declared.node.NodeKey.{NodeKey}
 use Rattle.node_table.specs.Nodes.{uppers}
 use Rattle.rete_beta.specs.Joins.{Asked, AreNodes}
 use Rattle.rete_net.specs.declared.chain.Chain.{Chain}
-use Rattle.rete_net.specs.Chains.{AreApart, IsServed, nodes_of, place_for_number, place_of_number, rule_of}
+use Rattle.rete_net.specs.Chains.{AreApart, AreNumbered, Entries, IsServed, nodes_of, rule_of}
 use Rattle.rete_net.specs.Loads.{IsWhole}
 use Rattle.rete_net.specs.Requests.{CanDropAll, DropsAll, Grows, Reads, key_in, requests_of, times}
 use Rattle.rete_net.proofs.AskLemmas.{stays_keyed, stays_rooted}
 use Rattle.rete_net.proofs.CountLemmas.{in_at, in_times, times_in, times_both, times_first, times_own, times_other, in_either, in_front, in_back, same_or_not}
 use Rattle.rete_net.proofs.GroundLemmas.{grounded_in}
 use Rattle.rete_net.proofs.LeadLemmas.{leads_kept, leads_grounded}
-use Rattle.rete_net.proofs.RuleLemmas.{inserted_rule, removed_rule, apart_with, apart_without}
+use Rattle.rete_net.proofs.RuleLemmas.{apart_with, apart_without, numbered_with, numbered_without, place_with, place_without, rules_in, rules_with, rules_without, with_chain, without_chain}
 
 -- the conditions that lead to the nodes of a chain
 abbrev pub led_by : Chain → Conditions
@@ -89,32 +92,43 @@ all_kept P Q cs f all k d l = f (get_or cs k d) (in_at cs k d l) (all k d l)
 
 -- ---- a rule comes
 
-pub whole_loaded : (cs : List Chain) (old new : ℕ → Option Asked) (c : Chain) → IsWhole cs old → Grows old new c.nodes → IsServed (key_in new) c → list_any (is_numbered c.rule.number) (map rule_of cs) ≡ false
-    → IsWhole (insert cs (place_for_number c.rule.number cs) c) new
-whole_loaded cs old new c whole grows served fresh =
-    let place : ℕ = place_for_number c.rule.number cs in
-    record {
-      root = stays_rooted old new c.nodes grows whole.root;
-      requests = λ k. omega (arith, grows.requests k, whole.requests k, times_first k 0 (nodes_of cs), times_first k 0 (nodes_of (insert cs place c)), times_inserted k cs place c);
-      served =
-          all_inserted (IsServed (key_in new)) cs place c
-          (all_kept (IsServed (key_in old)) (IsServed (key_in new)) cs
-          (λ d _ h. leads_kept (led_by d) (key_in old) (key_in new) 0 d.nodes d.last (λ k _ key. stays_keyed old new c.nodes k key grows) h) whole.served)
-          served;
-      apart = subst AreApart (sym (inserted_rule cs c)) (apart_with (map rule_of cs) (rule_of c) whole.apart fresh);
-    }
+whole_loaded : (cs : List Chain) (i : ℕ) (old new : ℕ → Option Asked) (c : Chain) → IsWhole cs old → Grows old new c.nodes → IsServed (key_in new) c → AreApart (map rule_of (insert cs i c)) → IsWhole (insert cs i c) new
+whole_loaded cs i old new c whole grows served apart = record {
+  root = stays_rooted old new c.nodes grows whole.root;
+  requests = λ k. omega (arith, grows.requests k, whole.requests k, times_first k 0 (nodes_of cs), times_first k 0 (nodes_of (insert cs i c)), times_inserted k cs i c);
+  served =
+      all_inserted (IsServed (key_in new)) cs i c
+      (all_kept (IsServed (key_in old)) (IsServed (key_in new)) cs
+      (λ d _ h. leads_kept (led_by d) (key_in old) (key_in new) 0 d.nodes d.last (λ k _ key. stays_keyed old new c.nodes k key grows) h) whole.served)
+      served;
+  apart = apart;
+}
+
+pub whole_with : (es : Entries) (old new : ℕ → Option Asked) (c : Chain) → AreNumbered es → IsWhole (values_of es) old → Grows old new c.nodes → IsServed (key_in new) c
+    → list_any (is_numbered c.rule.number) (rules_in es) ≡ false → IsWhole (values_of (with_chain es c)) new
+whole_with es old new c numbered whole grows served fresh =
+    let place = place_with es c numbered fresh in
+    let apart : AreApart (rules_in (with_chain es c)) = subst AreApart (sym (rules_with es c numbered fresh)) (apart_with (rules_in es) (rule_of c) whole.apart fresh) in
+    subst (λ cs. IsWhole cs new) (sym place.1)
+    (whole_loaded (values_of es) place.0 old new c whole grows served (subst (λ cs. AreApart (map rule_of cs)) place.1 apart))
 
 -- the same, by what the calls answer
-pub whole_inserted : (cs ds : List Chain) (old new : ℕ → Option Asked) (c : Chain) (number place : ℕ) → c.rule.number ≡ number → place ≡ place_for_number number cs → ds ≡ insert cs place c
-    → IsWhole cs old → Grows old new c.nodes → IsServed (key_in new) c → list_any (is_numbered number) (map rule_of cs) ≡ false → IsWhole ds new
-whole_inserted cs ds old new c number place is at inserted whole grows served fresh =
-    subst (λ l. IsWhole l new) (sym (inserted ∙ ap (λ i. insert cs i c) (at ∙ ap (λ n. place_for_number n cs) (sym is))))
-    (whole_loaded cs old new c whole grows served (subst (λ n. list_any (is_numbered n) (map rule_of cs) ≡ false) (sym is) fresh))
+module _ (es ds : Entries) (c : Chain) (number : ℕ) (is : c.rule.number ≡ number) (inserted : ds ≡ insert_entry nat_cmp es number c) (numbered : AreNumbered es)
+    (fresh : list_any (is_numbered number) (map rule_of (values_of es)) ≡ false) where
+  is_with : ds ≡ with_chain es c
+  is_with = inserted ∙ ap (λ n. insert_entry nat_cmp es n c) (sym is)
 
-pub rules_inserted : (cs ds : List Chain) (c : Chain) (r : Rule) (place : ℕ) → c.rule ≡ r → place ≡ place_for_number r.number cs → ds ≡ insert cs place c → map rule_of ds ≡ with_rule (map rule_of cs) (rule_seen r)
-rules_inserted cs ds c r place is at inserted =
-    ap (map rule_of) (inserted ∙ ap (λ i. insert cs i c) (at ∙ ap (λ (q : Rule). place_for_number q.number cs) (sym is))) ∙ inserted_rule cs c
-    ∙ ap (λ (q : Rule). with_rule (map rule_of cs) (rule_seen q)) is
+  new_here : list_any (is_numbered c.rule.number) (rules_in es) ≡ false
+  new_here = ap (λ n. list_any (is_numbered n) (rules_in es)) is ∙ fresh
+
+  pub numbered_inserted : AreNumbered ds
+  numbered_inserted = subst AreNumbered (sym is_with) (numbered_with es c numbered)
+
+  pub whole_inserted : (old new : ℕ → Option Asked) → IsWhole (values_of es) old → Grows old new c.nodes → IsServed (key_in new) c → IsWhole (values_of ds) new
+  whole_inserted old new whole grows served = subst (λ l. IsWhole (values_of l) new) (sym is_with) (whole_with es old new c numbered whole grows served new_here)
+
+  pub rules_inserted : (r : Rule) → c.rule ≡ r → map rule_of (values_of ds) ≡ with_rule (map rule_of (values_of es)) (rule_seen r)
+  rules_inserted r same = ap rules_in is_with ∙ rules_with es c numbered new_here ∙ ap (λ (q : Rule). with_rule (rules_in es) (rule_seen q)) same
 
 -- ---- a rule goes
 
@@ -156,7 +170,7 @@ module _ (cs : List Chain) (i : ℕ) (c : Chain) (nodes : ℕ → Option Asked) 
       apart : k ≢ 0
       apart e = keyless key (subst (λ j. key_in nodes j ≡ Some key) e keyed)
 
-  pub can_unload : CanDropAll nodes c.nodes
+  can_unload : CanDropAll nodes c.nodes
   can_unload = record {
     enough = λ k. omega (arith, counted k);
     grounded = (leads_grounded (led_by c) (key_in nodes) (λ u. u ≡ 0) 0 c.nodes c.last refl its_nodes).0;
@@ -164,8 +178,8 @@ module _ (cs : List Chain) (i : ℕ) (c : Chain) (nodes : ℕ → Option Asked) 
     elsewhere = elsewhere;
   }
 
-  pub whole_unloaded : (new : ℕ → Option Asked) (number : ℕ) → DropsAll nodes new c.nodes → i ≡ place_of_number number cs → IsWhole (remove cs i) new
-  whole_unloaded new number drops place = record {
+  whole_unloaded : (new : ℕ → Option Asked) → DropsAll nodes new c.nodes → AreApart (map rule_of (remove cs i)) → IsWhole (remove cs i) new
+  whole_unloaded new drops apart = record {
     root = record {
       live = some_requests (new 0) (omega (arith, drops.requests 0, counted 0, times_own 0));
       bare = drops.keys 0 (omega (arith, counted 0, times_own 0)) ∙ whole.root.bare;
@@ -175,13 +189,36 @@ module _ (cs : List Chain) (i : ℕ) (c : Chain) (nodes : ℕ → Option Asked) 
         all_kept (IsServed (key_in nodes)) (IsServed (key_in new)) (remove cs i)
         (λ d at h. leads_kept (led_by d) (key_in nodes) (key_in new) 0 d.nodes d.last (λ k there key keyed. drops.keys k (more_elsewhere k (nodes_in k d (remove cs i) at there)) ∙ keyed) h)
         (all_removed (IsServed (key_in nodes)) cs i whole.served);
-    apart =
-        subst (λ j. AreApart (map rule_of (remove cs j))) (sym place) (subst AreApart (sym (removed_rule cs number whole.apart)) (apart_without (map rule_of cs) number whole.apart));
+    apart = apart;
   }
     where
       some_requests : (o : Option Asked) → 0 < requests_of o → IsSome o
       some_requests None h = absurd (omega (arith, h))
       some_requests (Some a) h = refl
+
+-- the same, by what the calls answer
+module _ (es : Entries) (number : ℕ) (c : Chain) (nodes : ℕ → Option Asked) (there : Some c ≡ lookup (is_at (nat_cmp number)) es) (numbered : AreNumbered es) (whole : IsWhole (values_of es) nodes) where
+  place : (i : ℕ) × (i < length (values_of es)) × (c ≡ get_or (values_of es) i c) × (values_of (without_chain es number) ≡ remove (values_of es) i)
+  place = place_without es number c there
+
+  pub can_remove : CanDropAll nodes c.nodes
+  can_remove = can_unload (values_of es) place.0 c nodes whole place.1 place.2
+
+  module _ (ds : Entries) (removed : ds ≡ remove_entry (is_at (nat_cmp number)) es) where
+    still_apart : AreApart (rules_in (without_chain es number))
+    still_apart = subst AreApart (sym (rules_without es number numbered whole.apart)) (apart_without (rules_in es) number whole.apart)
+
+    pub numbered_removed : AreNumbered ds
+    numbered_removed = subst AreNumbered (sym removed) (numbered_without es number numbered)
+
+    pub whole_removed : (new : ℕ → Option Asked) → DropsAll nodes new c.nodes → IsWhole (values_of ds) new
+    whole_removed new drops =
+        subst (λ l. IsWhole l new) (sym (ap values_of removed ∙ place.3))
+        (whole_unloaded (values_of es) place.0 c nodes whole place.1 place.2 new drops (subst (λ cs. AreApart (map rule_of cs)) place.3 still_apart))
+
+pub rules_removed : (es ds : Entries) (number : ℕ) (nodes : ℕ → Option Asked) → AreNumbered es → IsWhole (values_of es) nodes → ds ≡ remove_entry (is_at (nat_cmp number)) es
+    → map rule_of (values_of ds) ≡ without_rule (map rule_of (values_of es)) number
+rules_removed es ds number nodes numbered whole removed = ap rules_in removed ∙ rules_without es number numbered whole.apart
 
 -- ---- what follows
 
@@ -213,3 +250,6 @@ whole_start nodes root others = record {
 pub on_ok_both : {T E P Q S : Type 0} (r : Result T E) → (P → Q → S) → OnOk r P → OnOk r Q → OnOk r S
 on_ok_both (Ok x) f p q = f p q
 on_ok_both (Err e) f p q = tt
+
+pub all_later : (P : Chain → Type 0) (c : Chain) (cs : List Chain) → All P (c ∷ cs) → All P cs
+all_later P c cs all k d l = all (suc k) d (omega (arith, l))

@@ -1,28 +1,45 @@
--- Chains by the numbers of their rules.
-use Rattle.std.proofs.Common.{◌≡◌, refl, sym, ◌∙◌, ap, ap₂, Bool, true, false, cond, not, ◌||◌, ◌==◌, nat_lt, ℕ, suc, ◌+◌, ◌≤◌, length, List, [], ◌∷◌, map, filter, insert, remove, arith, eqb-true}
+-- Chains by number.
+use Rattle.std.proofs.Common.{◌≡◌, refl, sym, ◌∙◌, ap, ap₂, Bool, true, false, cond, not, ◌||◌, ◌==◌, nat_lt, ℕ, suc, ◌<◌, length, List, [], ◌∷◌, map, filter, insert, remove, get_or, Some, arith}
+use Rattle.std.specs.BTreeMap.{insert_entry, is_at}
 use Rattle.std.specs.List.{list_any}
+use Rattle.std.specs.Map.{lookup, remove_entry, values_of}
+use Rattle.std.specs.Ordering.{is_eq, match_ordering, nat_cmp}
+use Rattle.std.specs.declared.cmp.Ordering.{Ordering}
+use Rattle.std.specs.declared.cmp.Ordering.TheVariants.{Less, Equal, Greater}
+use Rattle.std.proofs.lemmas.Bool.{eqb-false}
+use Rattle.std.proofs.lemmas.Option.{same_Some}
 use Rattle.defs_match.specs.Contents.{is_numbered, with_rule, without_rule}
 use Rattle.defs_match.specs.Rules.{RuleOf}
 use Rattle.rete_net.specs.declared.chain.Chain.{Chain}
-use Rattle.rete_net.specs.Chains.{AreApart, place_for_number, place_of_number, rule_of}
+use Rattle.rete_net.specs.Chains.{AreApart, AreNumbered, Entries, rule_of}
 
-one_more : (n : ℕ) → 1 + n ≡ suc n
-one_more n = omega arith
+-- the rules of chains
+abbrev pub rules_in : Entries → List RuleOf
+rules_in es = map rule_of (values_of es)
 
--- ---- a rule comes
+-- with a chain under the number of its rule, and without that of a number
+abbrev pub with_chain : Entries → Chain → Entries
+with_chain es c = insert_entry nat_cmp es c.rule.number c
 
-insert_later : (x y : Chain) (xs : List Chain) (n : ℕ) → insert (y ∷ xs) (1 + n) x ≡ y ∷ insert xs n x
-insert_later x y xs n = ap (λ m. insert (y ∷ xs) m x) (one_more n)
+abbrev pub without_chain : Entries → ℕ → Entries
+without_chain es number = remove_entry (is_at (nat_cmp number)) es
 
-pub inserted_rule : (cs : List Chain) (c : Chain) → map rule_of (insert cs (place_for_number c.rule.number cs) c) ≡ with_rule (map rule_of cs) (rule_of c)
-inserted_rule [] c = refl
-inserted_rule (d ∷ cs) c = by (nat_lt c.rule.number d.rule.number) (inserted_rule cs c)
-  where
-    by : (b : Bool) → map rule_of (insert cs (place_for_number c.rule.number cs) c) ≡ with_rule (map rule_of cs) (rule_of c)
-        → map rule_of (insert (d ∷ cs) (cond (not b) (1 + place_for_number c.rule.number cs) 0) c)
-        ≡ cond b (rule_of c ∷ rule_of d ∷ map rule_of cs) (rule_of d ∷ with_rule (map rule_of cs) (rule_of c))
-    by true later = refl
-    by false later = ap (map rule_of) (insert_later c d cs (place_for_number c.rule.number cs)) ∙ ap (λ l. rule_of d ∷ l) later
+less_is : (m n : ℕ) → nat_cmp m n ≡ Less → nat_lt m n ≡ true
+less_is m n h = grind arith
+
+equal_is : (m n : ℕ) → nat_cmp m n ≡ Equal → m ≡ n
+equal_is m n h = grind arith
+
+greater_is : (m n : ℕ) → nat_cmp m n ≡ Greater → nat_lt m n ≡ false
+greater_is m n h = grind arith
+
+same_is : (m n : ℕ) → is_eq (nat_cmp m n) ≡ true → m ≡ n
+same_is m n h = grind arith
+
+tested : (m n : ℕ) → is_eq (nat_cmp m n) ≡ (n == m)
+tested m n = grind arith
+
+-- ---- what holds of rules of which no two have one number
 
 swapped : (m n : ℕ) → (m == n) ≡ (n == m)
 swapped m n = grind arith
@@ -56,8 +73,6 @@ apart_with (q ∷ rs) r apart new = by (nat_lt r.number q.number) (apart_with rs
     by true later = (new, apart)
     by false later = (other, later)
 
--- ---- a rule goes
-
 still_none : (p q : RuleOf → Bool) (rs : List RuleOf) → list_any p rs ≡ false → list_any p (filter q rs) ≡ false
 still_none p q [] e = refl
 still_none p q (r ∷ rs) e = by (q r) (still_none p q rs (first_false (p r) (list_any p rs) e).1)
@@ -80,25 +95,82 @@ none_goes (r ∷ rs) number e =
     let parts = first_false (is_numbered number r) (list_any (is_numbered number) rs) e in
     ap (λ (l : List RuleOf). r ∷ l) (none_goes rs number parts.1) ∙ sym (ap (λ b. cond (not b) (r ∷ without_rule rs number) (without_rule rs number)) parts.0)
 
-remove_later : (y : Chain) (xs : List Chain) (n : ℕ) → remove (y ∷ xs) (1 + n) ≡ y ∷ remove xs n
-remove_later y xs n = ap (remove (y ∷ xs)) (one_more n)
+-- ---- a chain comes
 
-pub removed_rule : (cs : List Chain) (number : ℕ) → AreApart (map rule_of cs) → map rule_of (remove cs (place_of_number number cs)) ≡ without_rule (map rule_of cs) number
-removed_rule [] number apart = refl
-removed_rule (c ∷ cs) number apart = by (c.rule.number == number) refl (removed_rule cs number apart.1)
-  where
-    by : (b : Bool) → (c.rule.number == number) ≡ b → map rule_of (remove cs (place_of_number number cs)) ≡ without_rule (map rule_of cs) number
-        → map rule_of (remove (c ∷ cs) (cond (not b) (1 + place_of_number number cs) 0)) ≡ cond (not b) (rule_of c ∷ without_rule (map rule_of cs) number) (without_rule (map rule_of cs) number)
-    by true e later = none_goes (map rule_of cs) number (ap (λ n. list_any (is_numbered n) (map rule_of cs)) (sym (eqb-true c.rule.number number e)) ∙ apart.0)
-    by false e later = ap (map rule_of) (remove_later c cs (place_of_number number cs)) ∙ ap (λ l. rule_of c ∷ l) later
+-- under none of the numbers that are there
+others : (e : ℕ × Chain) (es : Entries) (c : Chain) → e.1.rule.number ≡ e.0 → list_any (is_numbered c.rule.number) (rules_in (e ∷ es)) ≡ false → nat_cmp c.rule.number e.0 ≡ Equal → ⊥
+others e es c own new same =
+    eqb-false e.1.rule.number c.rule.number (first_false (is_numbered c.rule.number (rule_of e.1)) (list_any (is_numbered c.rule.number) (rules_in es)) new).0
+    (own ∙ sym (equal_is c.rule.number e.0 same))
 
--- where the number is not there, its place is the end
-pub kept_rules : (cs : List Chain) (number : ℕ) → length cs ≤ place_of_number number cs → map rule_of cs ≡ without_rule (map rule_of cs) number
-kept_rules [] number h = refl
-kept_rules (c ∷ cs) number h = by (c.rule.number == number) (kept_rules cs number) h
+later_new : (e : ℕ × Chain) (es : Entries) (c : Chain) → list_any (is_numbered c.rule.number) (rules_in (e ∷ es)) ≡ false → list_any (is_numbered c.rule.number) (rules_in es) ≡ false
+later_new e es c new = (first_false (is_numbered c.rule.number (rule_of e.1)) (list_any (is_numbered c.rule.number) (rules_in es)) new).1
+
+pub numbered_with : (es : Entries) (c : Chain) → AreNumbered es → AreNumbered (with_chain es c)
+numbered_with [] c numbered = (refl, tt)
+numbered_with (e ∷ es) c numbered = by (nat_cmp c.rule.number e.0) refl (numbered_with es c numbered.1)
   where
-    by : (b : Bool) → (length cs ≤ place_of_number number cs → map rule_of cs ≡ without_rule (map rule_of cs) number)
-        → suc (length cs) ≤ cond (not b) (1 + place_of_number number cs) 0
-        → rule_of c ∷ map rule_of cs ≡ cond (not b) (rule_of c ∷ without_rule (map rule_of cs) number) (without_rule (map rule_of cs) number)
-    by true later h = absurd (omega (arith, h))
-    by false later h = ap (λ l. rule_of c ∷ l) (later (omega (arith, h)))
+    by : (o : Ordering) → nat_cmp c.rule.number e.0 ≡ o → AreNumbered (with_chain es c) → AreNumbered (match_ordering o ((c.rule.number, c) ∷ e ∷ es) ((e.0, c) ∷ es) (e ∷ with_chain es c))
+    by Less is later = (refl, numbered)
+    by Equal is later = (equal_is c.rule.number e.0 is, numbered.1)
+    by Greater is later = (numbered.0, later)
+
+-- it stands somewhere among the others
+pub place_with : (es : Entries) (c : Chain) → AreNumbered es → list_any (is_numbered c.rule.number) (rules_in es) ≡ false → (i : ℕ) × (values_of (with_chain es c) ≡ insert (values_of es) i c)
+place_with [] c numbered new = (0, refl)
+place_with (e ∷ es) c numbered new = by (nat_cmp c.rule.number e.0) refl (place_with es c numbered.1 (later_new e es c new))
+  where
+    by : (o : Ordering) → nat_cmp c.rule.number e.0 ≡ o → (i : ℕ) × (values_of (with_chain es c) ≡ insert (values_of es) i c)
+        → (i : ℕ) × (values_of (match_ordering o ((c.rule.number, c) ∷ e ∷ es) ((e.0, c) ∷ es) (e ∷ with_chain es c)) ≡ insert (e.1 ∷ values_of es) i c)
+    by Less is later = (0, refl)
+    by Equal is later = absurd (others e es c numbered.0 new is)
+    by Greater is later = (suc later.0, ap (λ (l : List Chain). e.1 ∷ l) later.1)
+
+pub rules_with : (es : Entries) (c : Chain) → AreNumbered es → list_any (is_numbered c.rule.number) (rules_in es) ≡ false → rules_in (with_chain es c) ≡ with_rule (rules_in es) (rule_of c)
+rules_with [] c numbered new = refl
+rules_with (e ∷ es) c numbered new = by (nat_cmp c.rule.number e.0) refl (rules_with es c numbered.1 (later_new e es c new))
+  where
+    told : Bool → List RuleOf
+    told b = cond b (rule_of c ∷ rule_of e.1 ∷ rules_in es) (rule_of e.1 ∷ with_rule (rules_in es) (rule_of c))
+
+    test : (b : Bool) → nat_lt c.rule.number e.0 ≡ b → told b ≡ told (nat_lt c.rule.number e.1.rule.number)
+    test b is = ap told (sym is ∙ ap (nat_lt c.rule.number) (sym numbered.0))
+
+    by : (o : Ordering) → nat_cmp c.rule.number e.0 ≡ o → rules_in (with_chain es c) ≡ with_rule (rules_in es) (rule_of c)
+        → rules_in (match_ordering o ((c.rule.number, c) ∷ e ∷ es) ((e.0, c) ∷ es) (e ∷ with_chain es c)) ≡ told (nat_lt c.rule.number e.1.rule.number)
+    by Less is later = test true (less_is c.rule.number e.0 is)
+    by Equal is later = absurd (others e es c numbered.0 new is)
+    by Greater is later = ap (λ (l : List RuleOf). rule_of e.1 ∷ l) later ∙ test false (greater_is c.rule.number e.0 is)
+
+-- ---- a chain goes
+
+pub numbered_without : (es : Entries) (number : ℕ) → AreNumbered es → AreNumbered (without_chain es number)
+numbered_without [] number numbered = tt
+numbered_without (e ∷ es) number numbered = by (is_eq (nat_cmp number e.0)) (numbered_without es number numbered.1)
+  where
+    by : (b : Bool) → AreNumbered (without_chain es number) → AreNumbered (cond b es (e ∷ without_chain es number))
+    by true later = numbered.1
+    by false later = (numbered.0, later)
+
+-- the chain of the number stood somewhere among the others
+pub place_without : (es : Entries) (number : ℕ) (c : Chain) → Some c ≡ lookup (is_at (nat_cmp number)) es
+    → (i : ℕ) × (i < length (values_of es)) × (c ≡ get_or (values_of es) i c) × (values_of (without_chain es number) ≡ remove (values_of es) i)
+place_without [] number c there = absurd (cc)
+place_without (e ∷ es) number c there = by (is_eq (nat_cmp number e.0)) there (place_without es number c)
+  where
+    by : (b : Bool) → Some c ≡ cond b (Some e.1) (lookup (is_at (nat_cmp number)) es)
+        → (Some c ≡ lookup (is_at (nat_cmp number)) es → (i : ℕ) × (i < length (values_of es)) × (c ≡ get_or (values_of es) i c) × (values_of (without_chain es number) ≡ remove (values_of es) i))
+        → (i : ℕ) × (i < length (values_of (e ∷ es))) × (c ≡ get_or (values_of (e ∷ es)) i c) × (values_of (cond b es (e ∷ without_chain es number)) ≡ remove (values_of (e ∷ es)) i)
+    by true is later = (0, omega arith, same_Some c e.1 is, refl)
+    by false is later = let found = later is in (suc found.0, omega (arith, found.1), found.2, ap (λ (l : List Chain). e.1 ∷ l) found.3)
+
+pub rules_without : (es : Entries) (number : ℕ) → AreNumbered es → AreApart (rules_in es) → rules_in (without_chain es number) ≡ without_rule (rules_in es) number
+rules_without [] number numbered apart = refl
+rules_without (e ∷ es) number numbered apart =
+    by (is_eq (nat_cmp number e.0)) refl (rules_without es number numbered.1 apart.1)
+    ∙ ap (λ b. cond (not b) (rule_of e.1 ∷ without_rule (rules_in es) number) (without_rule (rules_in es) number)) (tested number e.0 ∙ ap (λ n. n == number) (sym numbered.0))
+  where
+    by : (b : Bool) → is_eq (nat_cmp number e.0) ≡ b → rules_in (without_chain es number) ≡ without_rule (rules_in es) number
+        → rules_in (cond b es (e ∷ without_chain es number)) ≡ cond (not b) (rule_of e.1 ∷ without_rule (rules_in es) number) (without_rule (rules_in es) number)
+    by true is later = none_goes (rules_in es) number (ap (λ n. list_any (is_numbered n) (rules_in es)) (same_is number e.0 is ∙ sym numbered.0) ∙ apart.0)
+    by false is later = ap (λ (l : List RuleOf). rule_of e.1 ∷ l) later

@@ -1,6 +1,6 @@
 -- The chains of loaded rules.
-use Rattle.std.specs.Prelude.{◌≡◌, ℕ, false, ◌==◌, nat_lt, not, List, [], ◌∷◌, flat_map, Option}
-use Rattle.std.specs.List.{All, list_any, prefix_len}
+use Rattle.std.specs.Prelude.{◌≡◌, ℕ, false, List, [], ◌∷◌, flat_map, Option}
+use Rattle.std.specs.List.{All, list_any}
 use Rattle.soar_rule.specs.Canonical.{canonical}
 use Rattle.soar_rule.specs.Productions.{production_seen}
 use Rattle.defs_match.specs.Contents.{is_numbered}
@@ -33,12 +33,11 @@ AreApart (r ∷ rules) = (list_any (is_numbered r.number) rules ≡ false) × Ar
 abbrev pub numbered : ℕ → Instance → Instance
 numbered number i = record i { rule = number }
 
--- ---- places, each told by how many come before it
+-- chains by number
+abbrev pub Entries : Type 0
+Entries = List (ℕ × Chain)
 
--- the place for the chain of a new number
-abbrev pub place_for_number : ℕ → List Chain → ℕ
-place_for_number number chains = prefix_len (λ (c : Chain). not (nat_lt number c.rule.number)) chains
-
--- the place of the chain of a number, or the end
-abbrev pub place_of_number : ℕ → List Chain → ℕ
-place_of_number number chains = prefix_len (λ (c : Chain). not (c.rule.number == number)) chains
+-- each stands under the number of its rule
+abbrev pub AreNumbered : Entries → Type 0
+AreNumbered [] = Unit {0}
+AreNumbered (e ∷ entries) = (e.1.rule.number ≡ e.0) × AreNumbered entries

@@ -1,9 +1,10 @@
 -- The loaded rules, and the network that serves them.
 use Rattle.std.specs.Prelude.{◌≡◌, ℕ, false, map, List, ◌∷◌, Option}
+use Rattle.std.specs.Map.{values_of}
 use Rattle.rete_beta.specs.Joins.{Asked, node_at}
 use Rattle.rete_net.specs.declared.chain.Chain.{Chain}
 use Rattle.rete_net.specs.declared.loaded.Loaded.{Loaded}
-use Rattle.rete_net.specs.Chains.{AllServed, AreApart, nodes_of, rule_of}
+use Rattle.rete_net.specs.Chains.{AllServed, AreApart, AreNumbered, nodes_of, rule_of}
 use Rattle.rete_net.specs.Requests.{HasRoot, key_in, requests_of, times}
 
 -- A node has as many requests as the chains ask for it, and the root one.
@@ -15,4 +16,5 @@ pub record IsWhole (chains : List Chain) (nodes : ℕ → Option Asked) : Type 0
 
 pub record IsLoaded (l : Loaded) : Type 0 where
   pub works : l.joins.failed ≡ false
-  pub whole : IsWhole l.chains.items (node_at l.joins)
+  pub numbered : AreNumbered l.chains.entries
+  pub whole : IsWhole (values_of l.chains.entries) (node_at l.joins)

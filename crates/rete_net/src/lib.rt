@@ -6,7 +6,6 @@ mod chain;
 mod dropping;
 mod loaded;
 mod net;
-mod places;
 mod reading;
 
 pub use net::Net;

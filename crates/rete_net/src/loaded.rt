@@ -1,6 +1,7 @@
 // The loaded rules, and the network that serves them.
 ghost use Rattle.std.specs.Prelude.{◌≡◌, map, [], false, OnOk, IfOk};
 ghost use Rattle.std.specs.List.{list_any};
+ghost use Rattle.std.specs.Map.{values_of};
 ghost use Rattle.soar_wm.specs.WorkingMemory.{has_tag, without_tag};
 ghost use Rattle.defs_match.specs.Conflict as meaning;
 ghost use Rattle.defs_match.specs.Contents.{with_element, with_rule, without_rule, is_numbered, HasTag};
@@ -13,7 +14,6 @@ ghost use Rattle.rete_net.specs.Requests.{HasRoot, Grows, key_in};
 use crate::asking::ask_all;
 use crate::chain::Chain;
 use crate::dropping::drop_all;
-use crate::places::{place_for_number, place_of_number};
 use crate::reading;
 use defs_match::{Instance, Rule};
 use rete_beta::Joins;
@@ -21,12 +21,13 @@ use soar_rule::canonical;
 use soar_sym::{List, NoMemory};
 use soar_wm::Element;
 use std::alloc::Global;
+use std::collections::BTreeMap;
 
-/// The network, and the chains of the loaded rules in order of number.
+/// The network, and the chains of the loaded rules by number.
 #[derive(Drop)]
 pub struct Loaded {
     pub joins: Joins,
-    pub chains: Vec<Chain>,
+    pub chains: BTreeMap<u64, Chain>,
 }
 
 /// Asks for the nodes of a rule, whose variables are numbered by first occurrence.
@@ -49,14 +50,13 @@ fn chain_of(alloc: Global, joins: &mut Joins, rule: &Rule) -> Result<Chain, NoMe
 /// Loads a rule whose number is new.
 pub fn load(alloc: Global, loaded: &mut Loaded, rule: &Rule) -> Result<(), NoMemory>
     requires loaded { IsLoaded loaded.old }
-    requires new { list_any (is_numbered rule.now.number) (map rule_of loaded.old.chains.items) ≡ false }
+    requires new { list_any (is_numbered rule.now.number) (map rule_of (values_of loaded.old.chains.entries)) ≡ false }
     ensures loaded { OnOk result (IsLoaded loaded.new) }
-    ensures rules { OnOk result (map rule_of loaded.new.chains.items ≡ with_rule (map rule_of loaded.old.chains.items) (rule_seen rule.now)) }
+    ensures rules { OnOk result (map rule_of (values_of loaded.new.chains.entries) ≡ with_rule (map rule_of (values_of loaded.old.chains.entries)) (rule_seen rule.now)) }
     ensures elements { OnOk result (loaded.new.joins.elements ≡ loaded.old.joins.elements) }
 {
     let chain = chain_of(alloc, &mut loaded.joins, rule)?;
-    let place = place_for_number(loaded.chains.as_slice(), rule.number);
-    loaded.chains.insert(place, chain)?;
+    loaded.chains.insert(rule.number, chain)?;
     Ok(())
 }
 
@@ -64,12 +64,10 @@ pub fn load(alloc: Global, loaded: &mut Loaded, rule: &Rule) -> Result<(), NoMem
 pub fn unload(loaded: &mut Loaded, number: u64)
     requires loaded { IsLoaded loaded.old }
     ensures loaded { IsLoaded loaded.new }
-    ensures rules { map rule_of loaded.new.chains.items ≡ without_rule (map rule_of loaded.old.chains.items) number }
+    ensures rules { map rule_of (values_of loaded.new.chains.entries) ≡ without_rule (map rule_of (values_of loaded.old.chains.entries)) number }
     ensures elements { loaded.new.joins.elements ≡ loaded.old.joins.elements }
 {
-    let place = place_of_number(loaded.chains.as_slice(), number);
-    if place < loaded.chains.len() {
-        let chain = loaded.chains.remove(place);
+    if let Some(chain) = loaded.chains.remove(&number) {
         drop_all(&mut loaded.joins, chain.nodes);
     }
 }
@@ -79,7 +77,7 @@ pub fn add(loaded: &mut Loaded, element: Element) -> Result<(), NoMemory>
     requires loaded { IsLoaded loaded.old }
     requires new { list_any (has_tag element.tag) loaded.old.joins.elements ≡ false }
     ensures loaded { OnOk result (IsLoaded loaded.new) }
-    ensures chains { OnOk result (loaded.new.chains.items ≡ loaded.old.chains.items) }
+    ensures chains { OnOk result (loaded.new.chains.entries ≡ loaded.old.chains.entries) }
     ensures elements { OnOk result (loaded.new.joins.elements ≡ with_element loaded.old.joins.elements element) }
 {
     loaded.joins.add(element)
@@ -90,7 +88,7 @@ pub fn remove(loaded: &mut Loaded, tag: u32) -> Result<(), NoMemory>
     requires loaded { IsLoaded loaded.old }
     requires there { HasTag loaded.old.joins.elements tag }
     ensures loaded { OnOk result (IsLoaded loaded.new) }
-    ensures chains { OnOk result (loaded.new.chains.items ≡ loaded.old.chains.items) }
+    ensures chains { OnOk result (loaded.new.chains.entries ≡ loaded.old.chains.entries) }
     ensures elements { OnOk result (loaded.new.joins.elements ≡ without_tag tag loaded.old.joins.elements) }
 {
     loaded.joins.remove(tag)
@@ -99,20 +97,20 @@ pub fn remove(loaded: &mut Loaded, tag: u32) -> Result<(), NoMemory>
 /// The conflict set.
 pub fn conflict(alloc: Global, loaded: &Loaded) -> Result<List<Instance>, NoMemory>
     requires { IsLoaded loaded.now }
-    ensures { IfOk result (λ instances. instances ≡ meaning.conflict (map rule_of loaded.now.chains.items) loaded.now.joins.elements) }
+    ensures { IfOk result (λ instances. instances ≡ meaning.conflict (map rule_of (values_of loaded.now.chains.entries)) loaded.now.joins.elements) }
 {
-    reading::conflict(alloc, &loaded.joins, loaded.chains.as_slice())
+    reading::conflict(alloc, &loaded.joins, &loaded.chains)
 }
 
 /// No rule, and no element.
 pub fn start(alloc: Global) -> Result<Loaded, NoMemory>
     ensures loaded { IfOk result (λ loaded. IsLoaded loaded) }
-    ensures chains { IfOk result (λ loaded. loaded.chains.items ≡ []) }
+    ensures chains { IfOk result (λ loaded. loaded.chains.entries ≡ []) }
     ensures elements { IfOk result (λ loaded. loaded.joins.elements ≡ []) }
 {
     let joins = Joins::new(alloc)?;
     Ok(Loaded {
         joins,
-        chains: Vec::new(alloc),
+        chains: BTreeMap::new(alloc),
     })
 }

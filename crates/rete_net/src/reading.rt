@@ -1,5 +1,6 @@
 // The instances of loaded rules.
 ghost use Rattle.std.specs.Prelude.{◌≡◌, ◌++◌, map, false, OnOk, IfOk};
+ghost use Rattle.std.specs.Map.{values_of};
 ghost use Rattle.defs_match.specs.Conflict as meaning;
 ghost use Rattle.rete_beta.specs.Joins.{node_at};
 ghost use Rattle.rete_net.specs.Chains.{IsServed, AllServed, rule_of, numbered};
@@ -11,6 +12,7 @@ use net_laws::canonical_forms_match;
 use rete_beta::Joins;
 use soar_sym::{List, NoMemory};
 use std::alloc::Global;
+use std::collections::BTreeMap;
 
 /// Adds instances, under the number of a rule.
 fn add_numbered(
@@ -48,14 +50,18 @@ fn add_instances(
 }
 
 /// The instances of all rules: rule by rule, those of a rule by their tags.
-pub fn conflict(alloc: Global, joins: &Joins, chains: &[Chain]) -> Result<List<Instance>, NoMemory>
+pub fn conflict(
+    alloc: Global,
+    joins: &Joins,
+    chains: &BTreeMap<u64, Chain>,
+) -> Result<List<Instance>, NoMemory>
     requires works { joins.now.failed ≡ false }
     requires root { HasRoot (node_at joins.now) }
-    requires served { AllServed (key_in (node_at joins.now)) chains.now }
-    ensures { IfOk result (λ instances. instances ≡ meaning.conflict (map rule_of chains.now) joins.now.elements) }
+    requires served { AllServed (key_in (node_at joins.now)) (values_of chains.now.entries) }
+    ensures { IfOk result (λ instances. instances ≡ meaning.conflict (map rule_of (values_of chains.now.entries)) joins.now.elements) }
 {
     let mut out = List::new(alloc);
-    'chains: for chain in chains {
+    'chains: for chain in chains.values() {
         add_instances(alloc, joins, chain, &mut out)?;
     }
     Ok(out)

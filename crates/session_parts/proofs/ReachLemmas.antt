@@ -1,13 +1,14 @@
 -- A goal is reached, and what is answered tells the first level.
-use Rattle.std.proofs.Common.{◌≡◌, ℕ, suc, ◌-◌, ◌^◌, ◌==◌, min, Bool, true, false, cond, ◌||◌, List, [], ◌∷◌, Option, Some, None, is_some, refl, arith}
+use Rattle.std.proofs.Common.{◌≡◌, ap, ℕ, suc, ◌-◌, ◌^◌, ◌==◌, min, Bool, true, false, cond, ◌||◌, List, [], ◌∷◌, Option, Some, None, is_some, refl, arith}
 use Rattle.soar_sym.specs.Equality.{symbol_eq}
 use Rattle.soar_sym.specs.declared.symbol.Sym.{Sym}
 use Rattle.soar_sym.specs.declared.symbol.Triple.{Triple}
 use Rattle.defs_soar.specs.declared.goal.Goal.{Goal}
 use Rattle.defs_soar.specs.Goals.{goal_ids, is_goal}
-use Rattle.defs_soar.specs.Levels.{first_place, level, or_reached}
+use Rattle.defs_soar.specs.Levels.{first_place, level, or_reached, reaches}
 use Rattle.defs_soar.specs.Sorted.{has_symbol}
 use Rattle.soar_levels.specs.Told.{as_answered}
+use Rattle.session_parts.specs.TopGoals.{is_top_goal}
 
 has_place : (s : Sym) (n : ℕ) (ids : List Sym) → has_symbol ids s ≡ true → is_some (first_place (symbol_eq s) n ids) ≡ true
 has_place s n [] has = cc
@@ -37,3 +38,9 @@ one_capped depth = grind arith
 pub first_answered : (o : Option ℕ) → is_first (as_answered o) ≡ is_first o
 first_answered None = refl
 first_answered (Some depth) = one_capped depth
+
+-- the top goal is of the first level
+pub top_is_first : (goals : List Goal) (triples : List Triple) (s : Sym) → is_top_goal goals s ≡ true → is_first (level goals triples s) ≡ true
+top_is_first [] triples s h = absurd (cc)
+top_is_first (goal ∷ goals) triples s h =
+    ap (λ b. is_first (or_reached (cond b (Some 1) (first_place (symbol_eq s) 2 (goal_ids goals))) (first_place (λ reached. has_symbol reached s) 1 (reaches (goal ∷ goals) triples)))) h

@@ -5,3 +5,4 @@ pub mod Lookups
 pub mod Reasons
 pub mod Saying
 pub mod Stopping
+pub mod TopGoals

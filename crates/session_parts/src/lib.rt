@@ -23,7 +23,6 @@ pub use lookup::Lookup;
 pub use origin::Origin;
 pub use reasons::Reason;
 pub use refusing::say_refusal;
-pub use rules::rule_named;
 pub use said::{say_elements_of, say_matches, say_production};
 pub use slot::Slot;
 pub use stopping::say_stop;

@@ -13,7 +13,8 @@ ghost use Rattle.soar_settle.specs.Known.{AreElementsKnown, AreRulesKnown};
 ghost use Rattle.session_parts.specs.Saying.{Says, instance_line, match_lines};
 
 use crate::rules::rule_name;
-use defs_match::{Instance, Rule};
+use defs_match::Instance;
+use rule_shelf::Rules;
 use soar_rule::Production;
 use soar_show::{show_element, show_instance, show_production};
 use soar_sym::{List, NoMemory, Sym, SymTable, Text};
@@ -41,7 +42,7 @@ fn begin_line(out: &mut Text, mid_line: bool) -> Result<(), AllocError>
 /// Says a conflict set, or that there are no matches.
 pub fn say_matches(
     table: &SymTable,
-    rules: &List<Rule>,
+    rules: &Rules,
     instances: &List<Instance>,
     out: &mut Text,
     mid_line: &mut bool,
@@ -52,12 +53,12 @@ pub fn say_matches(
     if instances.is_empty() {
         return say_line(out, mid_line, "no matches");
     }
-    say_instances(table, rules.as_slice(), instances.as_slice(), out, mid_line)
+    say_instances(table, rules, instances.as_slice(), out, mid_line)
 }
 
 fn say_instances(
     table: &SymTable,
-    rules: &[Rule],
+    rules: &Rules,
     instances: &[Instance],
     out: &mut Text,
     mid_line: &mut bool,
@@ -73,7 +74,7 @@ fn say_instances(
 
 fn say_instance(
     table: &SymTable,
-    rules: &[Rule],
+    rules: &Rules,
     instance: &Instance,
     out: &mut Text,
     mid_line: &mut bool,

@@ -12,6 +12,7 @@ ghost use Rattle.soar_cmd.specs.Known.{IsAdditionKnown, IsOperandKnown};
 ghost use Rattle.session_parts.specs.Given.{HasLetter, is_given_by};
 ghost use Rattle.session_parts.specs.Labels.{next_identifier};
 ghost use Rattle.session_parts.specs.Lookups.{session_with};
+ghost use Rattle.session_parts.specs.TopGoals.{is_top_goal};
 
 use crate::elements::{tag_of_numbered, triples_of};
 use crate::labels::{label_in, letter_from};
@@ -19,9 +20,9 @@ use crate::lookup::Lookup;
 use crate::slot::Slot;
 use crate::texts::symbol_text;
 use defs_run::{Addition, Operand};
-use defs_soar::is_goal;
+use defs_soar::{Goal, is_goal};
 use soar_levels::Levels;
-use soar_sym::{Letters, NoMemory, Sym, SymTable, Text};
+use soar_sym::{Letters, NoMemory, Sym, SymTable, Text, is_symbol};
 use std::alloc::Global;
 
 impl Lookup<'_> {
@@ -117,8 +118,18 @@ impl Lookup<'_> {
         }
     }
 
-    /// Whether a symbol is an identifier of the first level.
+    /// Whether a symbol is an identifier of the first level. For the top goal itself nothing is looked up.
     pub fn is_top_level(&self, symbol: Sym) -> Result<bool, NoMemory>
+        ensures { (s : Session) → IfOk result (λ is_top. is_top ≡ is_top_level (session_with self.now s) symbol) }
+    {
+        if is_top_goal(self.goals.as_slice(), symbol) {
+            return Ok(true);
+        }
+        self.is_reached_first(symbol)
+    }
+
+    /// Whether the top goal reaches a symbol.
+    fn is_reached_first(&self, symbol: Sym) -> Result<bool, NoMemory>
         ensures { (s : Session) → IfOk result (λ is_top. is_top ≡ is_top_level (session_with self.now s) symbol) }
     {
         let levels = self.levels()?;
@@ -147,6 +158,16 @@ impl Lookup<'_> {
         let number = u64::from(self.letters.last(letter)) + 1;
         let elements = self.memory.all(self.alloc)?;
         Ok(tag_of_numbered(elements.as_slice(), slot, letter, number))
+    }
+}
+
+/// Whether a symbol is the identifier of the top goal.
+fn is_top_goal(goals: &[Goal], symbol: Sym) -> bool
+    ensures { result ≡ is_top_goal goals.now symbol }
+{
+    match goals.first() {
+        Some(goal) => is_symbol(symbol, goal.id),
+        None => false,
     }
 }
 

@@ -1,5 +1,5 @@
 -- One instance more, as the code fires it.
-use Rattle.std.proofs.Common.{◌≡◌, ◌<◌, ◌≤◌, ℕ, ◌+◌, ◌-◌, ◌^◌, suc, true, false, List, [], ◌∷◌, ◌++◌, length, flat_map, drop, get_or, Some, Ok, Err, sym, ap, ◌∙◌, subst, add-one, arith}
+use Rattle.std.proofs.Common.{◌≡◌, ◌<◌, ◌≤◌, ℕ, ◌+◌, ◌-◌, ◌^◌, suc, true, false, List, [], ◌∷◌, ◌++◌, length, flat_map, drop, get_or, Ok, Err, sym, ap, ◌∙◌, subst, add-one, arith}
 use Rattle.std.proofs.lemmas.List.{length-map}
 use Rattle.std.specs.Prelude.{nat_lt, if◌then◌else◌}
 use Rattle.soar_sym.specs.Words.{Texts}
@@ -8,22 +8,12 @@ use Rattle.defs_match.specs.declared.instance.Instance.{Instance}
 use Rattle.defs_soar.specs.declared.limit.Which.TheVariants as which
 use Rattle.defs_soar.specs.Pending.{Firable, firable_of}
 use Rattle.pending_work.specs.Firables.{firables_for, rules_of, IsInstance}
-use Rattle.wave_firings.specs.FiringOutcome.{Gathered, gathered, stopped, then_on, first_of, firing_outcome, next_outcome, firings_outcome, instances_outcome, Leaves, LeavesOne}
+use Rattle.wave_firings.specs.FiringOutcome.{Gathered, gathered, stopped, then_on, firing_outcome, next_outcome, firings_outcome, instances_outcome, Leaves, LeavesOne}
 use Rattle.wave_firings.specs.Held.{Against}
 use Rattle.wave_firings.specs.declared.firing.Fired.{Fired}
 use Rattle.soar_settle.specs.declared.stop.Stop.{Stop}
 use Rattle.soar_settle.specs.declared.stop.Stop.TheVariants as stop
 use Rattle.wave_firings.proofs.FiringKnown.{next_instance}
-
--- ---- the rule of an instance
-
-first_alone : (rules : List RuleOf) (rule : RuleOf) → length rules ≡ 1 → Some rule ≡ first_of rules → rules ≡ rule ∷ []
-first_alone [] rule one first = absurd (cc)
-first_alone (r ∷ []) rule one first = ap (λ x. x ∷ []) (grind arith)
-first_alone (r ∷ s ∷ rules) rule one first = absurd (omega (arith, one))
-
-pub rule_alone : (rules : List RuleOf) (i : Instance) (rule : RuleOf) → IsInstance rules i → Some rule ≡ first_of (rules_of rules i.rule) → rules_of rules i.rule ≡ rule ∷ []
-rule_alone rules i rule h first = first_alone (rules_of rules i.rule) rule h.one first
 
 -- ---- the next number
 

@@ -53,10 +53,6 @@ abbrev pub within_limits : Option Which → Gathered → Outcome
 within_limits None g = reached g
 within_limits (Some limit) g = stopped limit
 
-abbrev pub first_of : List RuleOf → Option RuleOf
-first_of [] = None
-first_of (rule ∷ rules) = Some rule
-
 -- ---- one firing
 
 abbrev pub made_for : List Goal → Firable → Texts → List ℕ → MadeSoFar

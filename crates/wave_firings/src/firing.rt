@@ -16,8 +16,9 @@ ghost use Rattle.wave_firings.specs.Numbered.{AreGoalsOf, AreMakersOfFirings, Ar
 
 use crate::scene::Scene;
 use crate::turns::fire_each;
-use defs_match::{Instance, Rule};
+use defs_match::Instance;
 use firing_records::Before;
+use rule_shelf::Rules;
 use soar_settle::Stop;
 use soar_sym::{Letters, List, SymTable};
 use std::alloc::Global;
@@ -39,7 +40,7 @@ pub fn fire_all(
     table: &mut SymTable,
     letters: &mut Letters,
     before: &Before<'_>,
-    rules: &List<Rule>,
+    rules: &Rules,
     instances: &List<Instance>,
     last: u64,
 ) -> Result<Fired, Stop>

@@ -1,6 +1,5 @@
-use defs_match::Rule;
 use firing_records::Before;
-use soar_sym::List;
+use rule_shelf::Rules;
 use std::alloc::Global;
 
 /// What the firings of a wave read and leave as it is.
@@ -8,5 +7,5 @@ use std::alloc::Global;
 pub struct Scene<'a> {
     pub alloc: Global,
     pub before: &'a Before<'a>,
-    pub rules: &'a List<Rule>,
+    pub rules: &'a Rules,
 }

@@ -1,15 +1,14 @@
 // Firings in turn, each under its number.
 ghost use Rattle.std.specs.Prelude.{◌≡◌, ◌≤◌, ◌+◌, ◌-◌, ◌^◌, length, map, IfErr, IfOk, OnErr, OnOk};
-ghost use Rattle.std.specs.Option.{option_copied, option_map};
 ghost use Rattle.soar_rule.specs.Symbols.{AreKnown};
 ghost use Rattle.soar_rule.specs.Variables.{bound_variables};
 ghost use Rattle.soar_fire.specs.Fires.{AreWishesKnown, IsFirable, made_of};
 ghost use Rattle.soar_fire.specs.Growth.{Grown, LettersKeep, OnlyGains};
 ghost use Rattle.defs_match.specs.Rules.{rule_seen};
 ghost use Rattle.defs_soar.specs.Pending.{firable_of};
-ghost use Rattle.pending_work.specs.Firables.{firables_for, rules_of, AreBound, IsInstance};
+ghost use Rattle.pending_work.specs.Firables.{firables_for, AreBound, IsInstance};
 ghost use Rattle.firing_records.specs.Recorded.{standing};
-ghost use Rattle.wave_firings.specs.FiringOutcome.{first_of, firing_outcome, gathered, instances_outcome, Leaves, LeavesOne, Makes, KnowsEntries, KnowsGoals, KnowsInstances, KnowsRules};
+ghost use Rattle.wave_firings.specs.FiringOutcome.{firing_outcome, gathered, instances_outcome, Leaves, LeavesOne, Makes, KnowsEntries, KnowsGoals, KnowsInstances, KnowsRules};
 ghost use Rattle.wave_entries.specs.Entries.{entry_seen};
 ghost use Rattle.wave_firings.specs.Held.{against};
 
@@ -86,22 +85,10 @@ fn fire_one(
     ensures words { Grown table.old table.new }
     ensures letters { LettersKeep letters.old letters.new }
 {
-    match rule_of(scene.rules.as_slice(), instance.rule) {
+    match scene.rules.get(instance.rule) {
         Some(rule) => fire_rule(scene, rule, instance, number, table, letters, fired),
         None => unreachable!(),
     }
-}
-
-/// The first rule of a number.
-fn rule_of(rules: &[Rule], number: u64) -> Option<&Rule>
-    ensures { option_map rule_seen (option_copied result) ≡ first_of (rules_of (map rule_seen rules.now) number) }
-{
-    'rules: for rule in rules {
-        if rule.number == number {
-            return Some(rule);
-        }
-    }
-    None
 }
 
 /// Fires a rule for an instance of it, and gathers what that makes. The goals among its symbols are found by the words

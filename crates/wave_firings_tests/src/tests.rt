@@ -6,7 +6,8 @@ mod parts;
 use crate::tests::parts::{S1, S2, goals, instance, memory, rule};
 use defs_soar::Preference;
 use firing_records::{Before, Recorded};
-use goal_trimming::Live;
+use live_firings::Live;
+use rule_shelf::Rules;
 use soar_prefs::Prefs;
 use soar_settle::Stop;
 use soar_sym::{Letters, List, Sym, SymTable, is_symbol};
@@ -31,7 +32,7 @@ fn fired_after(before: &Before<'_>) -> Result<Fired, Stop>
     let alloc = before.alloc;
     let mut table = SymTable::new(alloc)?;
     let mut letters = Letters::new();
-    let mut rules = List::new(alloc);
+    let mut rules = Rules::new(alloc);
     rules.push(rule(alloc)?)?;
     let mut instances = List::new(alloc);
     instances.push(instance(alloc, 1)?)?;

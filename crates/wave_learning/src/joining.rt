@@ -179,10 +179,14 @@ fn add_next(next: &mut List<u64>, is_higher: bool, number: u64) -> Result<(), Al
     Ok(())
 }
 
-fn add_rule(program: &mut Program, rule: Rule, chain: Chain) -> Result<(), AllocError>
+/// Adds a rule with its explanation, where the numbers of all others are below its own.
+fn add_rule(program: &mut Program, rule: Rule, chain: Chain) -> Result<(), NoMemory>
     ensures { OnOk result (program_seen program.new ≡ with_rule (program_seen program.old) (rule_seen rule) (chain_seen chain)) }
 {
     let number = rule.number;
+    if !program.rules.are_below(number) {
+        return Err(NoMemory);
+    }
     program.rules.push(rule)?;
     program.chains.push(LearnedRule {
         rule: number,

@@ -29,7 +29,7 @@ pub(crate) fn named(
     let name = new_name(
         alloc,
         table,
-        going.hand.program.rules.as_slice(),
+        &going.hand.program.rules,
         front_of(rule.why),
         last,
     )?;

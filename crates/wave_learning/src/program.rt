@@ -1,5 +1,5 @@
-use defs_match::Rule;
 use defs_soar::Chain;
+use rule_shelf::Rules;
 use soar_sym::List;
 
 /// The explanation of a learned rule, which is kept as long as the rule.
@@ -12,7 +12,7 @@ pub struct LearnedRule {
 /// The rules in order of number, and what is kept of those that were learned.
 #[derive(Drop)]
 pub struct Program {
-    pub rules: List<Rule>,
+    pub rules: Rules,
     /// The last number that a rule had.
     pub last_rule: u64,
     pub chains: List<LearnedRule>,

@@ -1,5 +1,5 @@
 // Preferences, elements, productions and instances.
-ghost use Rattle.std.specs.Prelude.{IfOk, map};
+ghost use Rattle.std.specs.Prelude.{◌≡◌, IfOk, map};
 ghost use Rattle.soar_sym.specs.Words.{IsKnown, architecture};
 ghost use Rattle.soar_rule.specs.Symbols.{AreKnown, symbols_of};
 ghost use Rattle.defs_match.specs.Rules.{rule_seen};
@@ -7,6 +7,7 @@ ghost use Rattle.soar_settle.specs.Known.{AreRulesKnown};
 
 use defs_match::{Instance, Rule};
 use defs_soar::{PrefKind, Preference, Wish};
+use rule_shelf::Rules;
 use soar_prefs::Prefs;
 use soar_rule::{Kind, Production, Support};
 use soar_sym::architecture::{NAME, OPERATOR, STATE};
@@ -100,10 +101,10 @@ pub fn memory(alloc: Global) -> Result<Memory, NoMemory> {
 }
 
 /// The productions `state` and `-5` under the numbers 3 and 8.
-pub fn rules(alloc: Global) -> Result<List<Rule>, NoMemory>
+pub fn rules(alloc: Global) -> Result<Rules, NoMemory>
     ensures { IfOk result (λ rules. AreRulesKnown architecture (map rule_seen rules)) }
 {
-    let mut rules = List::new(alloc);
+    let mut rules = Rules::new(alloc);
     rules.push(rule(alloc, 3, STATE))?;
     rules.push(rule(alloc, 8, Sym::Int(-5)))?;
     Ok(rules)
@@ -112,7 +113,8 @@ pub fn rules(alloc: Global) -> Result<List<Rule>, NoMemory>
 /// A production without conditions and actions.
 pub fn rule(alloc: Global, number: u64, name: Sym) -> Rule
     requires { IsKnown architecture name }
-    ensures { AreKnown architecture (symbols_of (rule_seen result).production) }
+    ensures known { AreKnown architecture (symbols_of (rule_seen result).production) }
+    ensures number { result.number ≡ number }
 {
     Rule {
         number,

@@ -7,7 +7,8 @@ ghost use Rattle.pending_work.specs.Firables.{AreNumbered};
 
 use defs_match::{Instance, Rule};
 use defs_soar::{Goal, Impasse};
-use goal_trimming::Live;
+use live_firings::Live;
+use rule_shelf::Rules;
 use soar_rule::{Atom, Cond, Field, Kind, Pattern, Production, Support, Test};
 use soar_sym::architecture::NAME;
 use soar_sym::{List, NoMemory, Sym, Triple};
@@ -58,13 +59,24 @@ pub fn memory(alloc: Global) -> Result<Memory, NoMemory> {
 }
 
 /// A rule that takes the elements with the attribute 1, and one of operator kind for the attribute 2.
-pub fn rules(alloc: Global) -> Result<List<Rule>, NoMemory>
+pub fn rules(alloc: Global) -> Result<Rules, NoMemory>
     ensures { IfOk result (λ rules. AreNumbered (map rule_seen rules)) }
 {
-    let mut rules = List::new(alloc);
+    let mut rules = Rules::new(alloc);
     rules.push(rule(alloc, 1, Sym::Int(1), Support::Instance)?)?;
     rules.push(rule(alloc, 2, Sym::Int(2), Support::Operator)?)?;
     Ok(rules)
+}
+
+/// Copies of all rules, in order.
+pub fn listed(alloc: Global, rules: &Rules) -> Result<List<Rule>, NoMemory>
+    ensures { IfOk result (λ listed. listed ≡ rules.now) }
+{
+    let mut listed = List::new(alloc);
+    'rules: for rule in rules.iter() {
+        listed.push(rule.copy(alloc)?)?;
+    }
+    Ok(listed)
 }
 
 fn rule(alloc: Global, number: u64, attr: Sym, support: Support) -> Result<Rule, NoMemory>

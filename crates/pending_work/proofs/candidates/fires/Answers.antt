@@ -7,5 +7,5 @@ use Rattle.pending_work.proofs.candidates.fires.Goals as goal
 pub may_fire-requires : goal.may_fire-requires
 may_fire-requires c = record {
   binds = binds_by_rule (map rule_seen c.args.rules.now) c.args.instance.now (rule_seen c.in-Some.rule.now) c.requires.bound
-      (sym c.rule_numbered.ensures ∙ ap (λ r. option_map rule_seen (option_copied r)) c.in-Some.is);
+      (sym c.get.ensures ∙ ap (λ r. option_map rule_seen (option_copied r)) c.in-Some.is);
 }

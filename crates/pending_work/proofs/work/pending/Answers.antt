@@ -1,12 +1,11 @@
-use Rattle.std.proofs.Common.{IfOk, ◌≡◌, ◌∙◌, ap, ap₂, filter, map, not, sym, subst}
+use Rattle.std.proofs.Common.{IfOk, ◌∙◌, ap, ap₂, filter, map, not, sym, subst}
 use Rattle.std.proofs.lemmas.Result.{IfOk-weaker}
-use Rattle.defs_match.specs.Conflict.{conflict}
 use Rattle.defs_match.specs.Rules.{rule_seen}
 use Rattle.defs_soar.specs.Pending.{is_listed}
 use Rattle.pending_work.specs.Active.{active_of}
 use Rattle.pending_work.specs.Candidates.{fires_now}
-use Rattle.pending_work.specs.Firables.{AreBound, AreNumbered}
-use Rattle.goal_trimming.specs.Living.{live_seen}
+use Rattle.pending_work.specs.Firables.{AreBound}
+use Rattle.live_firings.specs.Living.{live_seen}
 use Rattle.pending_work.proofs.ConflictLemmas.{bound_conflict}
 use Rattle.pending_work.proofs.KeyLemmas.{gone_agree, ready_agree}
 use Rattle.pending_work.proofs.PendingLemmas.{Promised, promised}
@@ -14,11 +13,9 @@ use Rattle.pending_work.proofs.work.pending.Goals as goal
 
 pub ready-requires : goal.ready-requires
 ready-requires c =
-    let seen = map rule_seen c.as_slice-rules.result.now in
+    let seen = map rule_seen c.args.rules.now in
     let elements = c.args.memory.now.elements in
-    let numbered = subst (λ rules. AreNumbered (map rule_seen rules)) (sym c.as_slice-rules.ensures) c.requires.numbered in
-    let is : c.args.instances ≡ conflict seen elements = c.requires.conflict ∙ ap (λ rules. conflict (map rule_seen rules) elements) (sym c.as_slice-rules.ensures) in
-    record { bound = subst (AreBound seen) (sym is) (bound_conflict seen elements numbered) }
+    record { bound = subst (AreBound seen) (sym c.requires.conflict) (bound_conflict seen elements c.requires.numbered) }
 
 pub returns : goal.returns
 returns c =
@@ -35,8 +32,8 @@ returns c =
     ∙ ap₂ (λ is ls. filter (λ l. not (is_listed is l.instance)) ls) (c.as_slice.ensures ∙ now) c.as_slice-live.ensures in
     let ready =
     c.in_ok-ready.ensures
-    ∙ ready_agree c.args.proposing (map rule_seen c.as_slice-rules.result.now) elements goals seen c.in_ok-living.living c.in_ok-living.ensures c.args.instances
-    ∙ ap₂ (λ rs ls. filter (fires (map rule_seen rs) elements goals (map live_seen ls)) c.args.instances) c.as_slice-rules.ensures c.as_slice-live.ensures
+    ∙ ready_agree c.args.proposing rules elements goals seen c.in_ok-living.living c.in_ok-living.ensures c.args.instances
+    ∙ ap (λ ls. filter (fires rules elements goals (map live_seen ls)) c.args.instances) c.as_slice-live.ensures
     ∙ ap (filter (fires rules elements goals live)) now in
     let active =
     ap (λ gs. active_of gs elements c.in_ok-gone.gone c.in_ok-ready.ready) c.as_slice-2.ensures

@@ -1,3 +1,4 @@
+use Rattle.std.specs.Map.{values_of}
 use Rattle.rete_beta.specs.Joins.{node_at}
 use Rattle.rete_net.proofs.LoadLemmas.{on_ok_both, whole_same}
 use Rattle.rete_net.proofs.loaded.add.Goals as goal
@@ -7,6 +8,7 @@ returns-clause-loaded c =
     on_ok_both c.add.result
     (λ works same. record {
       works = works.works;
-      whole = whole_same c.args.loaded.now.chains.items (node_at c.args.loaded.now.joins) (node_at c.add.new.self) same c.requires.loaded.whole;
+      numbered = c.requires.loaded.numbered;
+      whole = whole_same (values_of c.args.loaded.now.chains.entries) (node_at c.args.loaded.now.joins) (node_at c.add.new.self) same c.requires.loaded.whole;
     })
     c.add.ensures.works c.add.ensures.nodes

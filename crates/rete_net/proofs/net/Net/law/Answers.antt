@@ -1,4 +1,5 @@
 use Rattle.std.proofs.Common.{◌∙◌, ap, subst}
+use Rattle.std.specs.Map.{values_of}
 use Rattle.rete_beta.specs.Joins.{node_at}
 use Rattle.rete_net.specs.Nets.{IsShared, NetOf}
 use Rattle.rete_net.proofs.LoadLemmas.{needed}
@@ -13,5 +14,5 @@ returns c works =
       differ = are;
       root = loaded.whole.root;
       served = loaded.whole.served;
-      needed = needed c.self.inside.loaded.chains.items (node_at c.self.inside.loaded.joins) loaded.whole are;
+      needed = needed (values_of c.self.inside.loaded.chains.entries) (node_at c.self.inside.loaded.joins) loaded.whole are;
     })

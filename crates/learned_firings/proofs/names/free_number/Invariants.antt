@@ -1,8 +1,0 @@
-use Rattle.std.proofs.Common.{◌≡◌, ◌-◌, length, map}
-use Rattle.defs_match.specs.Rules.{rule_seen}
-use Rattle.defs_soar.specs.LearnedRules.{free_number}
-use Rattle.learned_firings.proofs.names.free_number.Given as goal
-
-abbrev pub invariant-tries : goal.invariant-tries
-invariant-tries l =
-    free_number (length l.rules - l.index) l.table (map rule_seen l.rules) l.front l.number ≡ free_number (length l.rules) l.table (map rule_seen l.rules) l.front l.first

@@ -1,0 +1,6 @@
+pub mod BelowLemmas
+pub mod EntryLemmas
+pub mod IndexLemmas
+pub mod KeyLemmas
+pub mod NameLemmas
+pub mod RuleLemmas

@@ -1,0 +1,28 @@
+use Rattle.std.proofs.Common.{◌∙◌, ◌<◌, ◌^◌, ◌++◌, ◌∷◌, [], ap, arith, map, subst, sym}
+use Rattle.defs_match.specs.Rules.{rule_seen}
+use Rattle.rule_shelf.specs.Marks.{Notes}
+use Rattle.rule_shelf.specs.Shelf.{AreBelow}
+use Rattle.rule_shelf.proofs.EntryLemmas.{rules_in, shelf_back, shelf_pushed, values_pushed}
+use Rattle.rule_shelf.proofs.IndexLemmas.{stands_nowhere}
+use Rattle.rule_shelf.proofs.rules.Rules.push.Goals as goal
+
+pub note-requires : goal.note-requires
+note-requires c =
+    stands_nowhere (rules_in c.self.inside.by_number.entries) c.self.inside.index c.args.rule.production.name c.args.rule.number c.self.invariant.indexed
+    (subst (λ rules. AreBelow c.args.rule.number (map rule_seen rules)) (sym c.self.view_is) c.requires)
+
+pub invariant_of-self-in-Ok : goal.invariant_of-self-in-Ok
+invariant_of-self-in-Ok c =
+    let small : c.args.rule.number < 2 ^ 64 = omega arith in
+    shelf_pushed _ _ _ _ c.args.rule c.self.invariant (subst (λ rules. AreBelow c.args.rule.number (map rule_seen rules)) (sym c.self.view_is) c.requires) c.in-Ok.ensures.entries small
+    (subst (λ b. Notes c.args.rule.production.name c.args.rule.number b c.self.inside.index c.note.new.self) c.is_justified.ensures c.in_ok-note.ensures.ok)
+
+pub returns-in-Ok-clause-ok : goal.returns-in-Ok-clause-ok
+returns-in-Ok-clause-ok c =
+    values_pushed _ _ _ c.note.new.self c.args.rule c.self.invariant (subst (λ rules. AreBelow c.args.rule.number (map rule_seen rules)) (sym c.self.view_is) c.requires) c.in-Ok.ensures.entries
+    ∙ ap (λ rules. rules ++ c.args.rule ∷ []) c.self.view_is
+
+pub invariant_of-self-in-Err : goal.invariant_of-self-in-Err
+invariant_of-self-in-Err c =
+    shelf_back _ _ _ _ _ c.args.rule c.is_justified.result c.self.invariant (subst (λ rules. AreBelow c.args.rule.number (map rule_seen rules)) (sym c.self.view_is) c.requires) c.in-Err.ensures.err
+    c.in_ok-note.ensures.ok c.forget.ensures
