@@ -79,6 +79,7 @@ fresh_sound a letters letter is sound =
       output_known = sound.output_known;
       live_known = sound.live_known;
       live_given = sound.live_given;
+      kept_up = sound.kept_up;
       past_named = sound.past_named;
       chains_known = sound.chains_known;
     }

@@ -35,20 +35,20 @@ abbrev in_cycle : ℕ → AgentStep → AgentStep
 in_cycle n s = record s { events = begins input_phase ∷ s.events; totals = counts_to n ∷ s.totals }
 
 -- the parts that are settled; nothing was learned in the new cycle
-abbrev pub with_inputs : PartsKept → List Triple → ℕ → PartsKept
-with_inputs a inputs cycles = record a { inputs = inputs; queue = []; cycles = cycles; learned = 0 }
+abbrev pub with_inputs : PartsKept → List Triple → List Triple → ℕ → PartsKept
+with_inputs a inputs moved cycles = record a { inputs = inputs; changed = moved; queue = []; cycles = cycles; learned = 0 }
 
-input_at : (a : PartsKept) (history : List RecordedFiring)
-    → after_input (agent_of a history) ≡ in_cycle (suc a.cycles) (resettled_now (agent_of (with_inputs a (with_changes a.inputs (map queued_seen a.queue)) (suc a.cycles)) history))
+input_at : (a : PartsKept) (history : List RecordedFiring) (moved : List Triple)
+    → after_input (agent_of a history) ≡ in_cycle (suc a.cycles) (resettled_now (agent_of (with_inputs a (with_changes a.inputs (map queued_seen a.queue)) moved (suc a.cycles)) history))
 unfolding after_input resettled
-input_at a history = refl
+input_at a history moved = refl
 
-input_is : (a : PartsKept) (history : List RecordedFiring) (inputs : List Triple) (cycles : ℕ) → inputs ≡ with_changes a.inputs (map queued_seen a.queue) → cycles ≡ a.cycles + 1
-    → after_input (agent_of a history) ≡ in_cycle cycles (resettled_now (agent_of (with_inputs a inputs cycles) history))
-input_is a history inputs cycles changed counted =
-    input_at a history
-    ∙ ap (λ n. in_cycle n (resettled_now (agent_of (with_inputs a (with_changes a.inputs (map queued_seen a.queue)) n) history))) (sym (add-one a.cycles) ∙ sym counted)
-    ∙ ap (λ l. in_cycle cycles (resettled_now (agent_of (with_inputs a l cycles) history))) (sym changed)
+input_is : (a : PartsKept) (history : List RecordedFiring) (inputs moved : List Triple) (cycles : ℕ) → inputs ≡ with_changes a.inputs (map queued_seen a.queue) → cycles ≡ a.cycles + 1
+    → after_input (agent_of a history) ≡ in_cycle cycles (resettled_now (agent_of (with_inputs a inputs moved cycles) history))
+input_is a history inputs moved cycles changed counted =
+    input_at a history moved
+    ∙ ap (λ n. in_cycle n (resettled_now (agent_of (with_inputs a (with_changes a.inputs (map queued_seen a.queue)) moved n) history))) (sym (add-one a.cycles) ∙ sym counted)
+    ∙ ap (λ l. in_cycle cycles (resettled_now (agent_of (with_inputs a l moved cycles) history))) (sym changed)
 
 -- ---- each answer
 
@@ -60,18 +60,18 @@ in_cycle_steps n s new (Ok settled) fits h = record {
 in_cycle_steps n s new (Err (stop.Limit limit)) fits h = ap (λ o. or_limit o (first_passed s.totals)) (within_counts n fits) ∙ h
 in_cycle_steps n s new (Err stop.NoMemory) fits h = tt
 
-pub takes_input : (a new : PartsKept) (inputs : List Triple) (cycles : ℕ) (result : Result Settled Stop) → inputs ≡ with_changes a.inputs (map queued_seen a.queue) → Counts (a.cycles + 1) (Ok cycles)
-    → ((s : Agent) → Stands (with_inputs a inputs cycles) s → Settles [] (resettled_now s) new result)
+pub takes_input : (a new : PartsKept) (inputs moved : List Triple) (cycles : ℕ) (result : Result Settled Stop) → inputs ≡ with_changes a.inputs (map queued_seen a.queue) → Counts (a.cycles + 1) (Ok cycles)
+    → ((s : Agent) → Stands (with_inputs a inputs moved cycles) s → Settles [] (resettled_now s) new result)
     → (s : Agent) → Stands a s → Settles (begins input_phase ∷ []) (after_input s) new result
-takes_input a new inputs cycles result changed counted settled =
+takes_input a new inputs moved cycles result changed counted settled =
     of_each_state (λ (s : Agent). Settles (begins input_phase ∷ []) (after_input s) new result) a
-    (λ history remembers. subst (λ (s : AgentStep). Settles (begins input_phase ∷ []) s new result) (sym (input_is a history inputs cycles changed counted.0))
-    (in_cycle_steps cycles (resettled_now (agent_of (with_inputs a inputs cycles) history)) new result (omega (arith, counted.0, counted.1))
-    (settled (agent_of (with_inputs a inputs cycles) history) (stands_at (with_inputs a inputs cycles) history (remembers_same a (with_inputs a inputs cycles) history refl refl refl refl remembers)))))
+    (λ history remembers. subst (λ (s : AgentStep). Settles (begins input_phase ∷ []) s new result) (sym (input_is a history inputs moved cycles changed counted.0))
+    (in_cycle_steps cycles (resettled_now (agent_of (with_inputs a inputs moved cycles) history)) new result (omega (arith, counted.0, counted.1))
+    (settled (agent_of (with_inputs a inputs moved cycles) history) (stands_at (with_inputs a inputs moved cycles) history (remembers_same a (with_inputs a inputs moved cycles) history refl refl refl refl remembers)))))
 
 stops_at : (a : PartsKept) (history : List RecordedFiring) → 18446744073709551615 < suc a.cycles → first_passed (after_input (agent_of a history)).totals ≡ Some which.Counts
 unfolding after_input resettled
-stops_at a history over = ap (λ o. or_limit o (first_passed (resettled_now (agent_of (with_inputs a (with_changes a.inputs (map queued_seen a.queue)) (suc a.cycles)) history)).totals)) (passed_counts (suc a.cycles) over)
+stops_at a history over = ap (λ o. or_limit o (first_passed (resettled_now (agent_of (with_inputs a (with_changes a.inputs (map queued_seen a.queue)) a.changed (suc a.cycles)) history)).totals)) (passed_counts (suc a.cycles) over)
 
 -- a cycle too many
 pub input_stops : (a new : PartsKept) (why : Stop) → Counts (a.cycles + 1) (Err why) → (s : Agent) → Stands a s → Settles (begins input_phase ∷ []) (after_input s) new (Err why)

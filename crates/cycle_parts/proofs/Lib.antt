@@ -5,6 +5,7 @@ pub mod InputNowLemmas
 pub mod LawfulLemmas
 pub mod ListLemmas
 pub mod LoadLemmas
+pub mod NamedLemmas
 pub mod NumberLemmas
 pub mod OutputLemmas
 pub mod QueueLemmas

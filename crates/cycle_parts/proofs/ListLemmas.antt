@@ -1,11 +1,5 @@
 -- One item less of a list that a loop goes through.
-use Rattle.std.proofs.Common.{◌≡◌, ℕ, zero, suc, ◌<◌, Bool, false, cond, List, [], ◌∷◌, ◌++◌, length, map, filter, take, drop, remove, get_or, refl, sym, ap, ◌∙◌, arith}
-
-pub map_remove : {A B : Type 0} (f : A → B) (xs : List A) (i : ℕ) → map f (remove xs i) ≡ remove (map f xs) i
-map_remove f [] zero = refl
-map_remove f [] (suc i) = refl
-map_remove f (x ∷ xs) zero = refl
-map_remove f (x ∷ xs) (suc i) = ap (λ rest. f x ∷ rest) (map_remove f xs i)
+use Rattle.std.proofs.Common.{◌≡◌, ℕ, zero, suc, ◌<◌, Bool, false, cond, List, [], ◌∷◌, ◌++◌, length, map, filter, take, drop, remove, get_or, sym, ap, ◌∙◌, arith}
 
 -- an item that a filter leaves out, taken away
 pub removed_next : {A B : Type 0} (f : A → B) (p : B → Bool) (xs : List A) (i : ℕ) (x : A) → i < length xs → x ≡ get_or xs i x → p (f x) ≡ false

@@ -1,5 +1,5 @@
 -- A rule under the next number, behind those that do not have its name.
-use Rattle.std.proofs.Common.{◌≡◌, ℕ, suc, ◌+◌, false, not, List, [], ◌∷◌, ◌++◌, map, Ok, refl, sym, ap, subst, ◌∙◌, arith}
+use Rattle.std.proofs.Common.{◌≡◌, ℕ, suc, ◌+◌, ◌<◌, false, not, List, [], ◌∷◌, ◌++◌, map, Ok, refl, sym, ap, subst, ◌∙◌, arith}
 use Rattle.std.specs.List.{list_any}
 use Rattle.std.proofs.lemmas.List.{map-append}
 use Rattle.soar_sym.specs.declared.symbol.Sym.{Sym}
@@ -12,6 +12,7 @@ use Rattle.defs_soar.specs.Agents.{Agent}
 use Rattle.defs_soar.specs.History.{RecordedFiring}
 use Rattle.defs_soar.specs.Limits.{counts_to}
 use Rattle.defs_run.specs.Carrying.{is_named}
+use Rattle.rule_shelf.specs.Shelf.{AreBelow}
 use Rattle.wave_learning.specs.Hands.{learned_rule_seen}
 use Rattle.wave_learning.specs.declared.program.LearnedRule.{LearnedRule}
 use Rattle.wave_parts.specs.Counting.{Counts}
@@ -34,6 +35,14 @@ pub number_is_new : (a : PartsKept) (rules : List Rule) (name : Sym) (number : �
 number_is_new a rules name number sound are next = none_numbered a.last_rule number (map rule_seen rules) (kept_given a rules name sound are) (omega arith)
 
 -- the matcher puts it where the agent does
+below_given : (last number : ℕ) (rules : List RuleOf) → AreUpTo last rules → last < number → AreBelow number rules
+below_given last number [] given less = tt
+below_given last number (rule ∷ rules) given less = (omega (arith, given.0, less), below_given last number rules given.1 less)
+
+pub number_is_last : (a : PartsKept) (rules : List Rule) (name : Sym) (number : ℕ) → IsSound a → map rule_seen rules ≡ unnamed name (map rule_seen a.rules) → number ≡ a.last_rule + 1
+    → AreBelow number (map rule_seen rules)
+number_is_last a rules name number sound are next = below_given a.last_rule number (map rule_seen rules) (kept_given a rules name sound are) (omega arith)
+
 pub joins_last : (a : PartsKept) (rules more : List Rule) (rule : Rule) (name : Sym) → IsSound a → map rule_seen rules ≡ unnamed name (map rule_seen a.rules) → rule.number ≡ a.last_rule + 1 → more ≡ rules ++ rule ∷ []
     → with_rule (map rule_seen rules) (rule_seen rule) ≡ map rule_seen more
 joins_last a rules more rule name sound are next pushed =

@@ -11,7 +11,7 @@ use Rattle.program_laws.specs.Taught.{AreNext}
 use Rattle.wave_parts.specs.Seen.{AreUpTo, IsSound}
 use Rattle.wave_parts.specs.Teaching.{AreRetaught, is_numbered_among, numbers_among, without_numbers}
 use Rattle.wave_parts.specs.declared.parts.Parts.{Parts as PartsKept}
-use Rattle.cycle_parts.specs.Retelling.{AreHeld, AreNewAbove, with_above, with_each_above, without_each_rule}
+use Rattle.cycle_parts.specs.Retelling.{AreEachNew, AreHeld, AreNewAbove, with_above, with_each_above, with_each_rule, without_each_rule}
 use Rattle.cycle_parts.proofs.NumberLemmas.{none_numbered, or_true, with_last_rule, without_none}
 use Rattle.cycle_parts.proofs.RuleLemmas.{up_to_filter, up_to_last}
 
@@ -88,6 +88,31 @@ not_above last held rule few = let low : nat_lt last rule.number ≡ false = gri
 
 is_above : (last : ℕ) (held : List RuleOf) (rule : RuleOf) → last < rule.number → with_above last held rule ≡ with_rule held rule
 is_above last held rule less = let high : nat_lt last rule.number ≡ true = grind arith in ap (λ b. cond b (with_rule held rule) held) high
+
+-- those above the last, and no others
+pub later_whole : (last : ℕ) (held rules : List RuleOf) → with_each_rule held (filter (λ rule. nat_lt last rule.number) rules) ≡ with_each_above last held rules
+later_whole last held [] = refl
+later_whole last held (rule ∷ rules) = by (nat_lt last rule.number) (later_whole last (with_rule held rule) rules) (later_whole last held rules)
+  where
+    later : List RuleOf
+    later = filter (λ r. nat_lt last r.number) rules
+
+    by : (b : Bool) → with_each_rule (with_rule held rule) later ≡ with_each_above last (with_rule held rule) rules → with_each_rule held later ≡ with_each_above last held rules
+        → with_each_rule held (cond b (rule ∷ later) later) ≡ with_each_above last (cond b (with_rule held rule) held) rules
+    by true taken passed = taken
+    by false taken passed = passed
+
+pub later_new : (last : ℕ) (held rules : List RuleOf) → AreNewAbove last held rules → AreEachNew held (filter (λ rule. nat_lt last rule.number) rules)
+later_new last held [] new = tt
+later_new last held (rule ∷ rules) new = by (nat_lt last rule.number) refl (λ h. later_new last h rules) new.1
+  where
+    later : List RuleOf
+    later = filter (λ r. nat_lt last r.number) rules
+
+    by : (b : Bool) → nat_lt last rule.number ≡ b → ((h : List RuleOf) → AreNewAbove last h rules → AreEachNew h later) → AreNewAbove last (cond b (with_rule held rule) held) rules
+        → AreEachNew held (cond b (rule ∷ later) later)
+    by true is behind rest = (new.0 (grind arith), behind (with_rule held rule) rest)
+    by false is behind rest = behind held rest
 
 -- those up to the last are passed over
 front_whole : (last : ℕ) (held kept more : List RuleOf) → AreUpTo last kept → with_each_above last held (kept ++ more) ≡ with_each_above last held more

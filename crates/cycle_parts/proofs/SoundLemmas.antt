@@ -1,33 +1,39 @@
 -- What is sound stays so where a step changes rules and explanations, inputs, what waits, what is shown, or how many cycles there were.
-use Rattle.std.proofs.Common.{◌≡◌, ℕ, ◌+◌, ◌<◌, ◌≤◌, Bool, true, false, not, cond, List, [], ◌∷◌, ◌++◌, map, filter, sym, ap, subst, ◌∙◌, arith, inl, inr, refl}
+use Rattle.std.proofs.Common.{◌≡◌, ℕ, ◌+◌, ◌<◌, ◌≤◌, Bool, true, false, ◌&&◌, ◌||◌, not, cond, List, [], ◌∷◌, ◌++◌, map, filter, sym, ap, subst, ◌∙◌, arith, inl, inr, refl}
 use Rattle.std.proofs.lemmas.List.{map-append}
+use Rattle.soar_sym.specs.Equality.{mark_eq, symbol_eq}
 use Rattle.soar_sym.specs.Words.{Texts, IsKnown}
 use Rattle.soar_sym.specs.declared.symbol.Sym.{Sym}
 use Rattle.soar_sym.specs.declared.symbol.Triple.{Triple}
+use Rattle.soar_sym.proofs.KeyLemmas.{symbol_turned}
 use Rattle.soar_rule.specs.Productions.{ProductionOf}
 use Rattle.soar_rule.specs.Symbols.{AreKnown, symbols_of}
 use Rattle.defs_match.specs.Rules.{RuleOf, rule_seen}
 use Rattle.defs_match.specs.declared.rule.Rule.{Rule}
 use Rattle.defs_soar.specs.Agents.{Learnt}
-use Rattle.defs_soar.specs.Values.{triple_eq}
+use Rattle.defs_soar.specs.Values.{has_triple_among, triple_eq}
 use Rattle.defs_run.specs.Carrying.{is_named}
 use Rattle.soar_settle.specs.Known.{AreRulesKnown, AreTriplesKnown}
 use Rattle.settling_laws.proofs.MemberLemmas.{filter_within}
+use Rattle.settling_laws.proofs.OrderLemmas.{has_filtered}
+use Rattle.soar_prefs.specs.Memory.{has_plain}
 use Rattle.input_queue.specs.Seen.{triple_queued}
 use Rattle.input_queue.specs.declared.queued.Queued.{Queued}
 use Rattle.pending_work.specs.Firables.{AreNumbered}
 use Rattle.program_laws.specs.Knowing.{AreChainsKnown}
 use Rattle.wave_learning.specs.Hands.{learned_rule_seen}
 use Rattle.wave_learning.specs.declared.program.LearnedRule.{LearnedRule}
+use Rattle.wave_parts.specs.KeptUp.{IsKeptUp}
 use Rattle.wave_parts.specs.Seen.{AreUpTo, IsSound}
 use Rattle.wave_parts.specs.declared.parts.Parts.{Parts as PartsKept}
+use Rattle.wave_parts.proofs.KeptUpLemmas.{kept_covered}
 use Rattle.cycle_parts.specs.Calls.{IsTripleGiven, IsTripleKnown, with_input}
 use Rattle.cycle_parts.specs.Dropping.{AreDropped, is_of_name, unnamed, unnamed_chains}
 use Rattle.cycle_parts.proofs.RuleLemmas.{numbered_filter, numbered_last, rules_filter, rules_last, up_to_filter, up_to_last}
 
-abbrev changed : PartsKept → List Rule → ℕ → List LearnedRule → List Triple → List Queued → ℕ → ℕ → List Triple → PartsKept
-changed a rules last_rule chains inputs queue cycles learned output =
-    record a { rules = rules; last_rule = last_rule; chains = chains; inputs = inputs; queue = queue; cycles = cycles; learned = learned; output = output }
+abbrev changed : PartsKept → List Rule → ℕ → List LearnedRule → List Triple → List Triple → List Queued → ℕ → ℕ → List Triple → PartsKept
+changed a rules last_rule chains inputs moved queue cycles learned output =
+    record a { rules = rules; last_rule = last_rule; chains = chains; inputs = inputs; changed = moved; queue = queue; cycles = cycles; learned = learned; output = output }
 
 -- what has to be true of the change
 record IsSoundChange (words : Texts) (last : ℕ) (rules : List RuleOf) (last_rule : ℕ) (chains : List Learnt) (inputs queued output : List Triple) : Type 0 where
@@ -40,10 +46,10 @@ record IsSoundChange (words : Texts) (last : ℕ) (rules : List RuleOf) (last_ru
   output_known : AreTriplesKnown words output
   chains_known : AreChainsKnown words chains
 
-still_sound : (a : PartsKept) (rules : List Rule) (last_rule : ℕ) (chains : List LearnedRule) (inputs : List Triple) (queue : List Queued) (cycles learned : ℕ) (output : List Triple) → IsSound a
+still_sound : (a : PartsKept) (rules : List Rule) (last_rule : ℕ) (chains : List LearnedRule) (inputs moved : List Triple) (queue : List Queued) (cycles learned : ℕ) (output : List Triple) → IsSound a
     → IsSoundChange a.table a.last_rule (map rule_seen rules) last_rule (map learned_rule_seen chains) inputs (map triple_queued queue) output
-    → IsSound (changed a rules last_rule chains inputs queue cycles learned output)
-still_sound a rules last_rule chains inputs queue cycles learned output sound change = record {
+    → IsKeptUp a.prefs inputs moved a.kept a.memory.elements → IsSound (changed a rules last_rule chains inputs moved queue cycles learned output)
+still_sound a rules last_rule chains inputs moved queue cycles learned output sound change kept_up = record {
   goals_some = sound.goals_some;
   goals_few = sound.goals_few;
   goals_known = sound.goals_known;
@@ -70,16 +76,17 @@ still_sound a rules last_rule chains inputs queue cycles learned output sound ch
   live_given = λ l is. omega (arith, sound.live_given l is, change.more_given);
   past_named = sound.past_named;
   chains_known = change.chains_known;
+  kept_up = kept_up;
 }
 
 -- ---- inputs, what waits and what is shown
 
 -- with the rules and explanations that there are
-with_same_rules : (a : PartsKept) (inputs : List Triple) (queue : List Queued) (cycles learned : ℕ) (output : List Triple) → IsSound a
-    → AreTriplesKnown a.table inputs → AreTriplesKnown a.table (map triple_queued queue) → AreTriplesKnown a.table output
-    → IsSound (changed a a.rules a.last_rule a.chains inputs queue cycles learned output)
-with_same_rules a inputs queue cycles learned output sound inputs_known queue_known output_known =
-    still_sound a a.rules a.last_rule a.chains inputs queue cycles learned output sound (record {
+with_same_rules : (a : PartsKept) (inputs moved : List Triple) (queue : List Queued) (cycles learned : ℕ) (output : List Triple) → IsSound a
+    → AreTriplesKnown a.table inputs → IsKeptUp a.prefs inputs moved a.kept a.memory.elements → AreTriplesKnown a.table (map triple_queued queue) → AreTriplesKnown a.table output
+    → IsSound (changed a a.rules a.last_rule a.chains inputs moved queue cycles learned output)
+with_same_rules a inputs moved queue cycles learned output sound inputs_known kept_up queue_known output_known =
+    still_sound a a.rules a.last_rule a.chains inputs moved queue cycles learned output sound (record {
       more_given = omega arith;
       numbered = sound.numbered;
       numbers_given = sound.numbers_given;
@@ -88,20 +95,22 @@ with_same_rules a inputs queue cycles learned output sound inputs_known queue_kn
       queue_known = queue_known;
       output_known = output_known;
       chains_known = sound.chains_known;
-    })
+    }) kept_up
 
 -- in a new cycle nothing waits, and nothing was learned
-pub sound_in_cycle : (a : PartsKept) (inputs : List Triple) (cycles : ℕ) → IsSound a → AreTriplesKnown a.table inputs → IsSound (record a { inputs = inputs; queue = []; cycles = cycles; learned = 0 })
-sound_in_cycle a inputs cycles sound known = with_same_rules a inputs [] cycles 0 a.output sound known tt sound.output_known
+pub sound_in_cycle : (a : PartsKept) (inputs moved : List Triple) (cycles : ℕ) → IsSound a → AreTriplesKnown a.table inputs → IsKeptUp a.prefs inputs moved a.kept a.memory.elements
+    → IsSound (record a { inputs = inputs; changed = moved; queue = []; cycles = cycles; learned = 0 })
+sound_in_cycle a inputs moved cycles sound known kept_up = with_same_rules a inputs moved [] cycles 0 a.output sound known kept_up tt sound.output_known
 
-abbrev pub with_inputs : PartsKept → List Triple → PartsKept
-with_inputs a inputs = record a { inputs = inputs }
+abbrev pub with_inputs : PartsKept → List Triple → List Triple → PartsKept
+with_inputs a inputs moved = record a { inputs = inputs; changed = moved }
 
-pub sound_with_inputs : (a : PartsKept) (inputs : List Triple) → IsSound a → AreTriplesKnown a.table inputs → IsSound (with_inputs a inputs)
-sound_with_inputs a inputs sound known = with_same_rules a inputs a.queue a.cycles a.learned a.output sound known sound.queue_known sound.output_known
+pub sound_with_inputs : (a : PartsKept) (inputs moved : List Triple) → IsSound a → AreTriplesKnown a.table inputs → IsKeptUp a.prefs inputs moved a.kept a.memory.elements
+    → IsSound (with_inputs a inputs moved)
+sound_with_inputs a inputs moved sound known kept_up = with_same_rules a inputs moved a.queue a.cycles a.learned a.output sound known kept_up sound.queue_known sound.output_known
 
 pub sound_with_output : (a : PartsKept) (output : List Triple) → IsSound a → AreTriplesKnown a.table output → IsSound (record a { output = output })
-sound_with_output a output sound known = with_same_rules a a.inputs a.queue a.cycles a.learned output sound sound.inputs_known sound.queue_known known
+sound_with_output a output sound known = with_same_rules a a.inputs a.changed a.queue a.cycles a.learned output sound sound.inputs_known sound.kept_up sound.queue_known known
 
 triples_filter : (p : Triple → Bool) (words : Texts) (triples : List Triple) → AreTriplesKnown words triples → AreTriplesKnown words (filter p triples)
 triples_filter p words [] known = tt
@@ -120,6 +129,51 @@ pub input_known : (words : Texts) (adds : Bool) (t : Triple) (inputs : List Trip
 input_known words true t inputs known one = triples_last words inputs t known one
 input_known words false t inputs known one = triples_filter (λ u. not (triple_eq u t)) words inputs known
 
+-- another identifier, attribute or value makes another triple
+never : (b : Bool) → (b && false) ≡ false
+never true = refl
+never false = refl
+
+and_true : (b : Bool) → (b && true) ≡ b
+and_true true = refl
+and_true false = refl
+
+other : (t u : Triple) → has_plain (t ∷ []) u ≡ false → triple_eq u t ≡ false
+other t u h =
+    by (symbol_eq t.id u.id) (symbol_eq t.attr u.attr) (symbol_eq t.value u.value) (symbol_eq u.id t.id) (symbol_eq u.attr t.attr) (symbol_eq u.value t.value)
+    (symbol_turned t.id u.id) (symbol_turned t.attr u.attr) (symbol_turned t.value u.value) h
+  where
+    by : (a b c x y z : Bool) → a ≡ x → b ≡ y → c ≡ z → ((a && (b && c)) || false) ≡ false → (x && (y && (z && mark_eq u.accept t.accept))) ≡ false
+    by true true true x y z p q r none = absurd (cc)
+    by false b c x y z p q r none = ap (λ k. k && (y && (z && mark_eq u.accept t.accept))) (sym p)
+    by true false c x y z p q r none = ap (λ k. x && (k && (z && mark_eq u.accept t.accept))) (sym q) ∙ never x
+    by true true false x y z p q r none = ap (λ k. x && (y && (k && mark_eq u.accept t.accept))) (sym r) ∙ ap (λ k. x && k) (never y) ∙ never x
+
+last_stays : (t u : Triple) (inputs : List Triple) → triple_eq u t ≡ false → has_triple_among (inputs ++ t ∷ []) u ≡ has_triple_among inputs u
+last_stays t u [] h = ap (λ b. b || false) h
+last_stays t u (x ∷ inputs) h = ap (λ b. triple_eq u x || b) (last_stays t u inputs h)
+
+rest_stays : (t u : Triple) (inputs : List Triple) → triple_eq u t ≡ false → has_triple_among (filter (λ x. not (triple_eq x t)) inputs) u ≡ has_triple_among inputs u
+rest_stays t u inputs h = has_filtered (λ x. not (triple_eq x t)) inputs u ∙ ap (λ b. has_triple_among inputs u && not b) h ∙ and_true (has_triple_among inputs u)
+
+-- but for the triple itself the same inputs are there
+others_stay : (t u : Triple) (inputs : List Triple) → has_plain (t ∷ []) u ≡ false → (adds : Bool) → has_triple_among (with_input adds t inputs) u ≡ has_triple_among inputs u
+others_stay t u inputs h true = last_stays t u inputs (other t u h)
+others_stay t u inputs h false = rest_stays t u inputs (other t u h)
+
+pub input_kept_up : (a : PartsKept) (inputs moved : List Triple) (adds : Bool) (t : Triple) → IsSound a → inputs ≡ with_input adds t a.inputs → moved ≡ a.changed ++ t ∷ []
+    → IsKeptUp a.prefs inputs moved a.kept a.memory.elements
+input_kept_up a inputs moved adds t sound are named =
+    subst (λ (ms : List Triple). IsKeptUp a.prefs inputs ms a.kept a.memory.elements) (sym named)
+    (kept_covered a.prefs a.inputs inputs a.changed (t ∷ []) a.kept a.memory.elements (λ u h. ap (λ (l : List Triple). has_triple_among l u) are ∙ others_stay t u a.inputs h adds) sound.kept_up)
+
+-- so it is where the queued changes were made
+pub queued_kept_up : (a : PartsKept) (inputs moved : List Triple) → IsSound a → ((u : Triple) → has_plain (map triple_queued a.queue) u ≡ false → has_triple_among inputs u ≡ has_triple_among a.inputs u)
+    → moved ≡ a.changed ++ map triple_queued a.queue → IsKeptUp a.prefs inputs moved a.kept a.memory.elements
+queued_kept_up a inputs moved sound covers named =
+    subst (λ (ms : List Triple). IsKeptUp a.prefs inputs ms a.kept a.memory.elements) (sym named)
+    (kept_covered a.prefs a.inputs inputs a.changed (map triple_queued a.queue) a.kept a.memory.elements covers sound.kept_up)
+
 -- what was given is known
 pub given_known : (a : PartsKept) (t : Triple) → IsTripleGiven a t → IsTripleKnown a.table t
 given_known a t given = ((given t.id (inl refl)).0, (given t.attr (inr (inl refl))).0, (given t.value (inr (inr (inl refl)))).0)
@@ -127,7 +181,7 @@ given_known a t given = ((given t.id (inl refl)).0, (given t.attr (inr (inl refl
 pub sound_queued : (a : PartsKept) (queue : List Queued) (q : Queued) → IsSound a → IsTripleKnown a.table q.triple → queue ≡ a.queue ++ q ∷ [] → IsSound (record a { queue = queue })
 sound_queued a queue q sound known are =
     let seen : map triple_queued queue ≡ map triple_queued a.queue ++ q.triple ∷ [] = ap (map triple_queued) are ∙ map-append triple_queued a.queue (q ∷ []) in
-    with_same_rules a a.inputs queue a.cycles a.learned a.output sound sound.inputs_known
+    with_same_rules a a.inputs a.changed queue a.cycles a.learned a.output sound sound.inputs_known sound.kept_up
     (subst (AreTriplesKnown a.table) (sym seen) (triples_last a.table (map triple_queued a.queue) q.triple sound.queue_known known)) sound.output_known
 
 -- ---- rules
@@ -137,7 +191,7 @@ with_other_rules : (a : PartsKept) (rules : List Rule) (last_rule : ℕ) (chains
     → map rule_seen rules ≡ are → map learned_rule_seen chains ≡ explained → a.last_rule ≤ last_rule → AreNumbered are → AreUpTo last_rule are → AreRulesKnown a.table are → AreChainsKnown a.table explained
     → IsSound (record a { rules = rules; last_rule = last_rule; chains = chains })
 with_other_rules a rules last_rule chains are explained sound is chains_are more numbered given known chains_known =
-    still_sound a rules last_rule chains a.inputs a.queue a.cycles a.learned a.output sound (record {
+    still_sound a rules last_rule chains a.inputs a.changed a.queue a.cycles a.learned a.output sound (record {
       more_given = more;
       numbered = subst AreNumbered (sym is) numbered;
       numbers_given = subst (AreUpTo last_rule) (sym is) given;
@@ -146,7 +200,7 @@ with_other_rules a rules last_rule chains are explained sound is chains_are more
       queue_known = sound.queue_known;
       output_known = sound.output_known;
       chains_known = subst (AreChainsKnown a.table) (sym chains_are) chains_known;
-    })
+    }) sound.kept_up
 
 fewer_chains : (words : Texts) (p : Learnt → Bool) (chains : List Learnt) → AreChainsKnown words chains → AreChainsKnown words (filter p chains)
 fewer_chains words p chains known l is = known l (filter_within p chains l is)

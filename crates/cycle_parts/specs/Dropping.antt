@@ -1,5 +1,5 @@
 -- Rules of a name that go, with their explanations; no public clause cites this file.
-use Rattle.std.specs.Prelude.{◌≡◌, ℕ, Bool, ◌==◌, ◌&&◌, not, List, filter, map}
+use Rattle.std.specs.Prelude.{◌≡◌, ℕ, Bool, false, ◌==◌, ◌&&◌, not, List, filter, map, Option, Some, None}
 use Rattle.std.specs.List.{list_any}
 use Rattle.soar_sym.specs.declared.symbol.Sym.{Sym}
 use Rattle.defs_match.specs.Rules.{RuleOf, rule_seen}
@@ -11,6 +11,11 @@ use Rattle.wave_parts.specs.declared.parts.Parts.{Parts as PartsKept}
 -- the rule of the number has the name
 abbrev pub is_of_name : Sym → List RuleOf → ℕ → Bool
 is_of_name name rules number = list_any (λ rule. (rule.number == number) && is_named name rule) rules
+
+-- so where the number tells the rule
+abbrev pub is_found_so : Sym → Option RuleOf → Bool
+is_found_so name None = false
+is_found_so name (Some rule) = is_named name rule
 
 -- those that do not have a name
 abbrev pub unnamed : Sym → List RuleOf → List RuleOf

@@ -25,6 +25,16 @@ abbrev pub with_each_above : ℕ → List RuleOf → List RuleOf → List RuleOf
 with_each_above last held [] = held
 with_each_above last held (rule ∷ rules) = with_each_above last (with_above last held rule) rules
 
+-- with the rules, in turn
+abbrev pub with_each_rule : List RuleOf → List RuleOf → List RuleOf
+with_each_rule held [] = held
+with_each_rule held (rule ∷ rules) = with_each_rule (with_rule held rule) rules
+
+-- each of them is new when its turn comes
+abbrev pub AreEachNew : List RuleOf → List RuleOf → Type 0
+AreEachNew held [] = Unit {0}
+AreEachNew held (rule ∷ rules) = IsNewRule held rule × AreEachNew (with_rule held rule) rules
+
 -- each of those is new when its turn comes
 abbrev pub AreNewAbove : ℕ → List RuleOf → List RuleOf → Type 0
 AreNewAbove last held [] = Unit {0}

@@ -1,12 +1,13 @@
 // Rules that go from an agent and from its matcher, with their explanations.
-ghost use Rattle.std.specs.Prelude.{◌≡◌, ◌==◌, ◌<◌, ◌&&◌, false, length, map, remove};
+ghost use Rattle.std.specs.Prelude.{◌≡◌, false, map};
+ghost use Rattle.defs_match.specs.Contents.{HasRule, without_rule};
 ghost use Rattle.defs_match.specs.Rules.{rule_seen};
-ghost use Rattle.defs_run.specs.Carrying.{is_named};
 ghost use Rattle.cycle_parts.specs.Dropping.{AreDropped, is_of_name, unnamed, unnamed_chains};
 ghost use Rattle.pending_work.specs.Firables.{AreNumbered};
 ghost use Rattle.wave_learning.specs.Hands.{learned_rule_seen};
 
-use defs_match::{Matcher, Rule};
+use defs_match::Matcher;
+use rule_shelf::Rules;
 use soar_sym::{List, Sym, is_symbol};
 use wave_learning::LearnedRule;
 use wave_parts::Parts;
@@ -23,12 +24,12 @@ pub fn drop_named<M: Matcher>(parts: &mut Parts, matcher: &mut M, name: Sym)
     ensures table { parts.new.table ≡ parts.old.table }
     ensures settings { parts.new.settings ≡ parts.old.settings }
 {
-    drop_chains(&mut parts.chains, parts.rules.as_slice(), name);
+    drop_chains(&mut parts.chains, &parts.rules, name);
     drop_rules(&mut parts.rules, matcher, name);
 }
 
 /// Takes the rules of a name away.
-fn drop_rules<M: Matcher>(rules: &mut List<Rule>, matcher: &mut M, name: Sym)
+fn drop_rules<M: Matcher>(rules: &mut Rules, matcher: &mut M, name: Sym)
     requires works { M.failed matcher.old ≡ false }
     requires held { M.rules matcher.old ≡ map rule_seen rules.old }
     requires numbered { AreNumbered (map rule_seen rules.old) }
@@ -37,34 +38,38 @@ fn drop_rules<M: Matcher>(rules: &mut List<Rule>, matcher: &mut M, name: Sym)
     ensures elements { M.elements matcher.new ≡ M.elements matcher.old }
     ensures dropped { map rule_seen rules.new ≡ unnamed name (map rule_seen rules.old) }
 {
-    let mut at = 0;
-    'rules: while at < rules.len() {
-        if is_named(name, &rules.as_slice()[at]) {
-            drop_at(rules, matcher, at);
-        } else {
-            at += 1;
+    'rules: loop {
+        match rules.first_named(name) {
+            Some(number) => drop_numbered(rules, matcher, number),
+            None => return,
         }
     }
 }
 
-/// Takes the rule at a place away.
-fn drop_at<M: Matcher>(rules: &mut List<Rule>, matcher: &mut M, at: usize)
-    requires there { at < length rules.old }
+/// Takes the rule of a number away.
+fn drop_numbered<M: Matcher>(rules: &mut Rules, matcher: &mut M, number: u64)
+    requires there { HasRule (map rule_seen rules.old) number }
     requires works { M.failed matcher.old ≡ false }
     requires held { M.rules matcher.old ≡ map rule_seen rules.old }
-    requires numbered { AreNumbered (map rule_seen rules.old) }
     ensures works { M.failed matcher.new ≡ false }
     ensures held { M.rules matcher.new ≡ map rule_seen rules.new }
     ensures elements { M.elements matcher.new ≡ M.elements matcher.old }
-    ensures numbered { AreNumbered (map rule_seen rules.new) }
-    ensures dropped { rules.new ≡ remove rules.old at }
+    ensures dropped { map rule_seen rules.new ≡ without_rule (map rule_seen rules.old) number }
 {
-    let rule = rules.remove(at);
-    matcher.remove_rule(rule.number);
+    let _ = rules.remove(number);
+    matcher.remove_rule(number);
 }
 
 /// Takes the explanations of the rules of a name away.
-fn drop_chains(chains: &mut List<LearnedRule>, rules: &[Rule], name: Sym)
+fn drop_chains(chains: &mut List<LearnedRule>, rules: &Rules, name: Sym)
+    ensures { map learned_rule_seen chains.new ≡ unnamed_chains name (map rule_seen rules.now) (map learned_rule_seen chains.old) }
+{
+    if rules.has_name(name) {
+        drop_chains_of(chains, rules, name);
+    }
+}
+
+fn drop_chains_of(chains: &mut List<LearnedRule>, rules: &Rules, name: Sym)
     ensures { map learned_rule_seen chains.new ≡ unnamed_chains name (map rule_seen rules.now) (map learned_rule_seen chains.old) }
 {
     let mut at = 0;
@@ -78,26 +83,12 @@ fn drop_chains(chains: &mut List<LearnedRule>, rules: &[Rule], name: Sym)
 }
 
 /// Whether the rule of a number has this name.
-fn is_of_name(name: Sym, rules: &[Rule], number: u64) -> bool
+fn is_of_name(name: Sym, rules: &Rules, number: u64) -> bool
     ensures { result ≡ is_of_name name (map rule_seen rules.now) number }
 {
-    'rules: for rule in rules {
-        if has_number_and_name(number, name, rule) {
-            return true;
-        }
+    rules.law();
+    match rules.get(number) {
+        Some(rule) => is_symbol(rule.production.name, name),
+        None => false,
     }
-    false
-}
-
-fn has_number_and_name(number: u64, name: Sym, rule: &Rule) -> bool
-    ensures { result ≡ ((rule.now.number == number) && is_named name (rule_seen rule.now)) }
-{
-    rule.number == number && is_named(name, rule)
-}
-
-/// Whether a rule has this name.
-fn is_named(name: Sym, rule: &Rule) -> bool
-    ensures { result ≡ is_named name (rule_seen rule.now) }
-{
-    is_symbol(rule.production.name, name)
 }

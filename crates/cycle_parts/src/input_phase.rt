@@ -14,8 +14,9 @@ ghost use Rattle.wave_parts.specs.Seen.{IsSound};
 ghost use Rattle.wave_parts.specs.Stands.{Stands};
 
 use crate::engine::Engine;
+use crate::triples::note_queued;
 use defs_match::Matcher;
-use input_queue::changed_inputs;
+use input_queue::make_changes;
 use soar_sym::{List, NoMemory, SymTable, Text};
 use std::alloc::Global;
 use step_report::{Settled, begin_part, say_settled, says_in_turn};
@@ -62,8 +63,8 @@ impl<M: Matcher> Engine<M> {
         ensures bond { OnOk result (Bond (M.rules self.new.matcher) (M.elements self.new.matcher) (M.failed self.new.matcher) self.new.parts) }
     {
         let cycles = count_more(self.parts.cycles, 1)?;
-        let inputs = changed_inputs(alloc, &self.parts.inputs, &self.parts.queue)?;
-        self.parts.inputs = inputs;
+        make_changes(&mut self.parts.inputs, self.parts.queue.as_slice())?;
+        note_queued(&mut self.parts.changed, self.parts.queue.as_slice())?;
         self.parts.queue = List::new(alloc);
         self.parts.cycles = cycles;
         self.parts.learned = 0;

@@ -9,7 +9,7 @@ ghost use Rattle.wave_parts.specs.Seen.{IsSound};
 ghost use Rattle.wave_parts.specs.Stands.{Stands};
 
 use crate::engine::Engine;
-use crate::triples::with_input;
+use crate::triples::change_input;
 use defs_match::Matcher;
 use soar_sym::{Text, Triple};
 use std::alloc::Global;
@@ -37,7 +37,8 @@ impl<M: Matcher> Engine<M> {
         ensures lawful { OnOk result (IsOfLawful self.new.parts) }
         ensures bond { OnOk result (Bond (M.rules self.new.matcher) (M.elements self.new.matcher) (M.failed self.new.matcher) self.new.parts) }
     {
-        self.parts.inputs = with_input(alloc, adds, triple, &self.parts.inputs)?;
+        change_input(&mut self.parts.inputs, adds, triple)?;
+        self.parts.changed.push(triple)?;
         let settled = self.resettle(alloc)?;
         say_settled(
             self.parts.settings.watch,

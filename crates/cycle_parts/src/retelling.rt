@@ -1,10 +1,10 @@
 // What a matcher is told of rules that go and come by themselves.
-ghost use Rattle.std.specs.Prelude.{◌≡◌, ◌<◌, false, map, OnOk};
-ghost use Rattle.defs_match.specs.Contents.{IsNewRule};
+ghost use Rattle.std.specs.Prelude.{◌≡◌, false, map, OnOk};
 ghost use Rattle.defs_match.specs.Rules.{rule_seen};
-ghost use Rattle.cycle_parts.specs.Retelling.{AreHeld, AreNewAbove, with_above, with_each_above, without_each_rule};
+ghost use Rattle.cycle_parts.specs.Retelling.{AreHeld, AreNewAbove, with_each_above, without_each_rule};
 
-use defs_match::{Matcher, Rule};
+use defs_match::Matcher;
+use rule_shelf::Rules;
 use soar_sym::NoMemory;
 
 /// Lets go of the rules of these numbers, one after the other. It takes no memory.
@@ -21,28 +21,14 @@ pub fn forget<M: Matcher>(matcher: &mut M, numbers: &[u64])
 }
 
 /// Takes in the rules that are numbered above the last before, in turn.
-pub fn take_up<M: Matcher>(matcher: &mut M, last: u64, rules: &[Rule]) -> Result<(), NoMemory>
+pub fn take_up<M: Matcher>(matcher: &mut M, last: u64, rules: &Rules) -> Result<(), NoMemory>
     requires works { M.failed matcher.old ≡ false }
     requires new { AreNewAbove last (M.rules matcher.old) (map rule_seen rules.now) }
     ensures works { OnOk result (M.failed matcher.new ≡ false) }
     ensures rules { OnOk result (M.rules matcher.new ≡ with_each_above last (M.rules matcher.old) (map rule_seen rules.now)) }
     ensures elements { OnOk result (M.elements matcher.new ≡ M.elements matcher.old) }
 {
-    'rules: for rule in rules {
-        take_up_rule(matcher, last, rule)?;
-    }
-    Ok(())
-}
-
-/// Takes a rule in, where it is numbered above the last before.
-fn take_up_rule<M: Matcher>(matcher: &mut M, last: u64, rule: &Rule) -> Result<(), NoMemory>
-    requires works { M.failed matcher.old ≡ false }
-    requires new { last < rule.now.number → IsNewRule (M.rules matcher.old) (rule_seen rule.now) }
-    ensures works { OnOk result (M.failed matcher.new ≡ false) }
-    ensures rules { OnOk result (M.rules matcher.new ≡ with_above last (M.rules matcher.old) (rule_seen rule.now)) }
-    ensures elements { OnOk result (M.elements matcher.new ≡ M.elements matcher.old) }
-{
-    if last < rule.number {
+    'rules: for (_, rule) in rules.after(last) {
         matcher.add_rule(rule)?;
     }
     Ok(())

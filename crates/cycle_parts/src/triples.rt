@@ -1,41 +1,30 @@
-// Triples of the inputs.
-ghost use Rattle.std.specs.Prelude.{◌≡◌, filter, not, IfOk};
-ghost use Rattle.defs_soar.specs.Values.{triple_eq};
+// Changes of the inputs.
+ghost use Rattle.std.specs.Prelude.{◌≡◌, ◌++◌, map, OnOk};
 ghost use Rattle.cycle_parts.specs.Calls.{with_input};
+ghost use Rattle.input_queue.specs.Seen.{triple_queued};
 
-use soar_sym::{List, NoMemory, Triple, is_triple};
-use std::alloc::Global;
+use input_memory::Inputs;
+use input_queue::Queued;
+use soar_sym::{List, NoMemory, Triple};
 
-/// The triples with one more at the end, or without it.
-pub fn with_input(
-    alloc: Global,
-    adds: bool,
-    triple: Triple,
-    triples: &List<Triple>,
-) -> Result<List<Triple>, NoMemory>
-    ensures { IfOk result (λ changed. changed ≡ with_input adds triple triples.now) }
+/// Adds a triple to the inputs, at the end, or takes it out.
+pub fn change_input(inputs: &mut Inputs, adds: bool, triple: Triple) -> Result<(), NoMemory>
+    ensures { OnOk result (inputs.new ≡ with_input adds triple inputs.old) }
 {
-    if !adds {
-        return without_triple(alloc, triples.as_slice(), triple);
+    if adds {
+        inputs.add(triple)
+    } else {
+        inputs.remove(triple);
+        Ok(())
     }
-    let mut more = List::from_slice(alloc, triples.as_slice())?;
-    more.push(triple)?;
-    Ok(more)
 }
 
-/// The triples without those that are this one.
-fn without_triple(
-    alloc: Global,
-    triples: &[Triple],
-    triple: Triple,
-) -> Result<List<Triple>, NoMemory>
-    ensures { IfOk result (λ kept. kept ≡ filter (λ t. not (triple_eq t triple)) triples.now) }
+/// Notes the triples of queued changes.
+pub fn note_queued(changed: &mut List<Triple>, queue: &[Queued]) -> Result<(), NoMemory>
+    ensures { OnOk result (changed.new ≡ changed.old ++ map triple_queued queue.now) }
 {
-    let mut kept = List::new(alloc);
-    'triples: for other in triples {
-        if !is_triple(*other, triple) {
-            kept.push(*other)?;
-        }
+    'queue: for queued in queue {
+        changed.push(queued.triple)?;
     }
-    Ok(kept)
+    Ok(())
 }

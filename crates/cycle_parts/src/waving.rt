@@ -8,7 +8,7 @@ ghost use Rattle.trace_laws.specs.Events.{AreEventsKnown};
 ghost use Rattle.step_report.specs.Reports.{report_events};
 ghost use Rattle.cycle_parts.specs.Bonds.{Bond};
 ghost use Rattle.cycle_parts.specs.Waving.{TellsWork, WavesFrom, is_proposing, waved_by};
-ghost use Rattle.goal_trimming.specs.Living.{live_seen};
+ghost use Rattle.live_firings.specs.Living.{live_seen};
 ghost use Rattle.pending_work.specs.Working.{is_nothing};
 ghost use Rattle.wave_parts.specs.Carrying.{CarriesOut, IsPendingIn};
 ghost use Rattle.pending_work.specs.Firables.{AreBound, IsPending};
@@ -118,7 +118,7 @@ impl<M: Matcher> Engine<M> {
         let done = self.parts.carry_out(alloc, work)?;
         tell(&mut self.matcher, &done.report.settled.changes)?;
         forget(&mut self.matcher, done.spent.as_slice());
-        take_up(&mut self.matcher, last, self.parts.rules.as_slice())?;
+        take_up(&mut self.matcher, last, &self.parts.rules)?;
         Ok(done)
     }
 }

@@ -117,6 +117,7 @@ pushed_sound a goal letters depends sound room keep known none depends_is =
       output_known = sound.output_known;
       live_known = sound.live_known;
       live_given = sound.live_given;
+      kept_up = sound.kept_up;
       past_named = sound.past_named;
       chains_known = sound.chains_known;
     }

@@ -23,8 +23,8 @@ use Rattle.defs_soar.specs.Walk.{View}
 use Rattle.decision_walk.specs.First.{AreFirst}
 use Rattle.decision_walk.specs.Known.{AreSelectionsKnown, IsSelectionKnown}
 use Rattle.decision_walk.specs.Makers.{AreFiringsUpTo, AreMakersUpTo, IsMakerUpTo}
-use Rattle.goal_trimming.specs.declared.live.Live.{Live}
-use Rattle.goal_trimming.specs.Living.{live_above, live_from, live_seen}
+use Rattle.live_firings.specs.declared.live.Live.{Live}
+use Rattle.live_firings.specs.Living.{live_above, live_from, live_seen}
 use Rattle.goal_trimming.proofs.TagLemmas.{left_depend}
 use Rattle.learning_laws.specs.LawfulAgents.{IsNumbered}
 use Rattle.row_laws.specs.Kept.{RetractedKeepRange}
@@ -35,6 +35,7 @@ use Rattle.soar_settle.specs.Known.{AreRowsKnown}
 use Rattle.soar_settle.proofs.FilterLemmas.{filter_shorter}
 use Rattle.settling_laws.proofs.MemberLemmas.{filter_within}
 use Rattle.wave_firings.specs.Numbered.{AreMakersOfFirings, AreOfFirings}
+use Rattle.wave_parts.proofs.KeptUpLemmas.{kept_renewed}
 use Rattle.wave_parts.specs.Modes.{is_fraction}
 use Rattle.wave_parts.specs.Remembers.{Remembers}
 use Rattle.wave_parts.specs.Seen.{AreGoalsKnown, AreLiveKnown, IsGoalKnown, IsSound, agent_of, IsSelectionKnown as IsSelectedKnown}
@@ -243,6 +244,7 @@ walked_sound a goals depends prefs live range sound first left known selections 
       output_known = sound.output_known;
       live_known = subst (AreLiveKnown a.table) (sym left.live_are) (live_filter a.table (λ l. nat_lt l.depth (suc (length goals))) (map live_seen a.live) sound.live_known);
       live_given = λ l is. sound.live_given l (filter_within (λ (m : LiveFiring). nat_lt m.depth (suc (length goals))) (map live_seen a.live) l (subst (IsIn l) left.live_are is));
+      kept_up = kept_renewed a.prefs prefs a.inputs a.changed a.kept a.memory.elements (ap (λ (p : PreferenceMemory). p.settled) left.prefs_are) sound.kept_up;
       past_named = sound.past_named;
       chains_known = sound.chains_known;
     }

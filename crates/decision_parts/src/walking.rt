@@ -8,7 +8,8 @@ ghost use Rattle.wave_parts.specs.Seen.{IsSound};
 ghost use Rattle.wave_parts.specs.Stands.{Stands};
 
 use decision_walk::{Decided, walk, walks_keep_goals};
-use goal_trimming::{cut_depends, leave_goals};
+use goal_trimming::cut_depends;
+use live_firings::leave_goals;
 use row_laws::rows_fit_decisions;
 use soar_decide::View;
 use soar_sym::NoMemory;

@@ -4,7 +4,7 @@ use Rattle.std.proofs.lemmas.List.{length-map}
 use Rattle.defs_match.specs.Rules.{rule_seen}
 use Rattle.defs_soar.specs.History.{RecordedFiring}
 use Rattle.defs_run.specs.Listing as listing
-use Rattle.goal_trimming.specs.Living.{live_seen}
+use Rattle.live_firings.specs.Living.{live_seen}
 use Rattle.list_parts.specs.Counted.{stats_line}
 use Rattle.list_parts.specs.declared.stats.Stats.{Stats}
 use Rattle.soar_cycle.specs.Counting.{counts_in}

@@ -1,5 +1,6 @@
 -- The rule of a name is alone under its number.
-use Rattle.std.proofs.Common.{◌≡◌, ℕ, ◌<◌, Bool, true, false, List, [], ◌∷◌, Option, Some, None, is_some, option_map, refl, subst, ◌∙◌}
+use Rattle.std.proofs.Common.{◌≡◌, ℕ, ◌<◌, Bool, true, false, List, [], ◌∷◌, Option, Some, None, ◌||◌, is_some, refl, subst, ◌∙◌}
+use Rattle.std.specs.List.{list_any}
 use Rattle.std.specs.Prelude.{if◌then◌else◌}
 use Rattle.soar_sym.specs.declared.symbol.Sym.{Sym}
 use Rattle.defs_match.specs.Rules.{RuleOf}
@@ -27,10 +28,13 @@ alone_named (rule ∷ rules) name found numbered is = by (is_named name rule) is
 
 -- ---- whether a rule is there
 
--- among rules that are kept
-pub is_seen : {A B : Type 0} (f : A → B) (o : Option A) → is_some (option_map f o) ≡ is_some o
-is_seen f None = refl
-is_seen f (Some a) = refl
+pub any_named : (name : Sym) (rules : List RuleOf) → is_some (rule_named rules name) ≡ list_any (is_named name) rules
+any_named name [] = refl
+any_named name (rule ∷ rules) = by (is_named name rule) (any_named name rules)
+  where
+    by : (b : Bool) → is_some (rule_named rules name) ≡ list_any (is_named name) rules → is_some (if b then Some rule else rule_named rules name) ≡ (b || list_any (is_named name) rules)
+    by true later = refl
+    by false later = later
 
 pub if_there : (o : Option RuleOf) (there missing : Carried) → elim o as (λ _. Carried) [ None ↦ missing | Some rule ↦ there ] ≡ (if is_some o then there else missing)
 if_there None there missing = refl

@@ -9,7 +9,7 @@ ghost use Rattle.soar_agent.specs.States.{IsReady};
 
 use crate::state::Session;
 use defs_match::Matcher;
-use session_parts::{Origin, Reason, rule_named};
+use session_parts::{Origin, Reason};
 use soar_cycle::Stop;
 use soar_sym::{Sym, Text};
 
@@ -21,8 +21,7 @@ impl<M: Matcher> Session<M> {
         ensures reply { Carries self.old self.new origin.now.source.now origin.now.line (carried_out run_learning (excise name)) out.old out.new result }
         ensures ready { IfOk result (λ _. IsReady self.new) }
     {
-        let loaded = rule_named(self.agent.rules().as_slice(), name).is_some();
-        if loaded {
+        if self.agent.rules().has_name(name) {
             self.take_away(name)
         } else {
             self.refuse_with(origin, &Reason::NoProduction(name), out)

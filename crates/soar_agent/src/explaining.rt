@@ -11,7 +11,7 @@ ghost use Rattle.soar_agent.specs.States.{IsReady};
 use crate::state::Session;
 use defs_match::Matcher;
 use list_parts::list_chain;
-use session_parts::{Origin, Reason, rule_named};
+use session_parts::{Origin, Reason};
 use soar_cycle::Stop;
 use soar_sym::{Sym, Text};
 
@@ -23,7 +23,7 @@ impl<M: Matcher> Session<M> {
         ensures reply { Carries self.old self.new origin.now.source.now origin.now.line (carried_out run_learning (explain name)) out.old out.new result }
         ensures ready { IfOk result (λ _. IsReady self.new) }
     {
-        match rule_named(self.agent.rules().as_slice(), name) {
+        match self.agent.rules().named(name) {
             Some(rule) => {
                 let number = rule.number;
                 self.explain_rule(origin, name, number, out)

@@ -16,7 +16,7 @@ use crate::state::Session;
 use defs_match::Matcher;
 use defs_run::Operand;
 use list_parts::list_matches_of;
-use session_parts::{Origin, Reason, rule_named, say_elements_of, say_matches, say_production};
+use session_parts::{Origin, Reason, say_elements_of, say_matches, say_production};
 use soar_cycle::Stop;
 use soar_sym::{Sym, Text};
 
@@ -59,7 +59,7 @@ impl<M: Matcher> Session<M> {
         let Ok(instances) = self.agent.conflict() else {
             return Err(Stop::NoMemory);
         };
-        match rule_named(self.agent.rules().as_slice(), name) {
+        match self.agent.rules().named(name) {
             Some(rule) => {
                 let mut mid_line = self.agent.mid_line();
                 list_matches_of(
@@ -130,7 +130,7 @@ impl<M: Matcher> Session<M> {
         ensures reply { Carries self.old self.new origin.now.source.now origin.now.line (carried_out run_learning (print_name name)) out.old out.new result }
         ensures ready { IfOk result (λ _. IsReady self.new) }
     {
-        match rule_named(self.agent.rules().as_slice(), name) {
+        match self.agent.rules().named(name) {
             Some(rule) => {
                 let mut mid_line = self.agent.mid_line();
                 say_production(self.agent.symbols(), &rule.production, out, &mut mid_line)?;

@@ -34,12 +34,7 @@ impl<M: Matcher> Session<M> {
     {
         let agent = &self.agent;
         let mut mid_line = agent.mid_line();
-        list_rules(
-            agent.symbols(),
-            agent.rules().as_slice(),
-            out,
-            &mut mid_line,
-        )?;
+        list_rules(agent.symbols(), agent.rules(), out, &mut mid_line)?;
         self.agent.set_mid_line(mid_line);
         Ok(false)
     }
@@ -52,12 +47,7 @@ impl<M: Matcher> Session<M> {
     {
         let agent = &self.agent;
         let mut mid_line = agent.mid_line();
-        list_chunks(
-            agent.symbols(),
-            agent.rules().as_slice(),
-            out,
-            &mut mid_line,
-        )?;
+        list_chunks(agent.symbols(), agent.rules(), out, &mut mid_line)?;
         self.agent.set_mid_line(mid_line);
         Ok(false)
     }

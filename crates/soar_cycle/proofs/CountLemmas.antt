@@ -2,11 +2,9 @@
 use Rattle.std.proofs.Common.{◌≡◌, ℕ, zero, suc, ◌+◌, ◌<◌, ◌≤◌, ◌∙◌, Bool, true, false, cond, List, [], ◌∷◌, length, map, Some, None, inl, inr, refl, sym, ap, ap₂, subst, arith}
 use Rattle.std.proofs.lemmas.Bool.{eq-eqb, ne_eqb}
 use Rattle.std.proofs.lemmas.Bool.Decides.{eqb_tells}
-use Rattle.std.proofs.lemmas.List.Recursion.{is_count_by}
-use Rattle.std.specs.List.{count_by}
 use Rattle.soar_wm.specs.WorkingMemory.{IsBelow, IsGiven, IsRising, element_of}
 use Rattle.soar_wm.specs.declared.element.Element.{Element}
-use Rattle.defs_match.specs.Rules.{rule_seen}
+use Rattle.defs_match.specs.Rules.{RuleOf, rule_seen}
 use Rattle.defs_match.specs.declared.rule.Rule.{Rule}
 use Rattle.defs_run.specs.Listing.{is_chunk}
 use Rattle.soar_cycle.specs.Counting.{chunks_among, count_at}
@@ -67,17 +65,27 @@ counts_all last (e ∷ elements) rising given =
     let one : 1 + length elements ≡ suc (length elements) = omega arith in
     with_first last e elements rising.0 given.1 ∙ (ap (λ n. 1 + n) (counts_all last elements rising.1 given.2) ∙ one)
 
--- ---- chunks
+-- ---- chunks among rules, one after the other
 
--- seen or as it is kept, a rule is a chunk alike
-pub chunks_counted : (rules : List Rule) → count_by (λ rule. is_chunk rule.production.kind) rules ≡ length (chunks_among (map rule_seen rules))
-chunks_counted rules = sym (is_count_by (λ (kept : List Rule). length (chunks_among (map rule_seen kept))) (λ rule. is_chunk rule.production.kind) refl one rules)
+-- a rule that is none
+pub chunks_on : (rule : Rule) (rest all : List Rule) (count : ℕ) → count + length (chunks_among (map rule_seen (rule ∷ rest))) ≡ length (chunks_among (map rule_seen all))
+    → is_chunk rule.production.kind ≡ false → count + length (chunks_among (map rule_seen rest)) ≡ length (chunks_among (map rule_seen all))
+chunks_on rule rest all count counted none =
+    let more : List RuleOf = chunks_among (map rule_seen rest) in sym (ap (λ b. count + length (cond b (rule_seen rule ∷ more) more)) none) ∙ counted
+
+chunks_short : (rules : List Rule) → length (chunks_among (map rule_seen rules)) ≤ length rules
+chunks_short [] = omega arith
+chunks_short (rule ∷ rules) = by (is_chunk rule.production.kind) (chunks_short rules)
   where
-    by : (rule : Rule) (kept : List Rule) (b : Bool) → length (cond b (rule_seen rule ∷ chunks_among (map rule_seen kept)) (chunks_among (map rule_seen kept)))
-        ≡ cond b (1 + length (chunks_among (map rule_seen kept))) (length (chunks_among (map rule_seen kept)))
-    by rule kept true = let more : suc (length (chunks_among (map rule_seen kept))) ≡ 1 + length (chunks_among (map rule_seen kept)) = omega arith in more
-    by rule kept false = refl
+    by : (b : Bool) → length (chunks_among (map rule_seen rules)) ≤ length rules
+        → length (cond b (rule_seen rule ∷ chunks_among (map rule_seen rules)) (chunks_among (map rule_seen rules))) ≤ suc (length rules)
+    by true few = omega (arith, few)
+    by false few = omega (arith, few)
 
-    one : (rule : Rule) (kept : List Rule) → length (chunks_among (map rule_seen (rule ∷ kept)))
-        ≡ cond (is_chunk rule.production.kind) (1 + length (chunks_among (map rule_seen kept))) (length (chunks_among (map rule_seen kept)))
-    one rule kept = by rule kept (is_chunk rule.production.kind)
+-- there are no more chunks than rules
+pub chunks_few : (rule : Rule) (rest all : List Rule) (count most : ℕ) → count + length (chunks_among (map rule_seen (rule ∷ rest))) ≡ length (chunks_among (map rule_seen all))
+    → is_chunk rule.production.kind ≡ true → most ≡ length all → most ≤ count → ⊥
+chunks_few rule rest all count most counted one is full =
+    let more : List RuleOf = chunks_among (map rule_seen rest) in
+    let here : count + suc (length more) ≡ length (chunks_among (map rule_seen all)) = sym (ap (λ b. count + length (cond b (rule_seen rule ∷ more) more)) one) ∙ counted in
+    let never : ⊥ = omega (arith, here, chunks_short all, is, full) in never

@@ -9,7 +9,7 @@ use Rattle.input_queue.specs.Seen.{triple_queued}
 use Rattle.learning_laws.specs.Lawful.{Grown}
 use Rattle.learning_laws.specs.LawfulAgents.{EachOnce}
 use Rattle.soar_record.specs.Recorded.{recorded}
-use Rattle.goal_trimming.specs.Living.{live_seen}
+use Rattle.live_firings.specs.Living.{live_seen}
 use Rattle.program_laws.specs.Knowing.{AreChainsKnown, AreNamed}
 use Rattle.session_laws.proofs.StepLaws.{words_keep}
 use Rattle.wave_firings.proofs.FiringKnown.{are_known_grown, are_rows_grown, are_rules_grown, known_grown}
@@ -60,6 +60,7 @@ sound_grown a words more sound = record {
   output_known = triples_grown a.table words a.output more sound.output_known;
   live_known = live_grown a.table words (map live_seen a.live) more sound.live_known;
   live_given = sound.live_given;
+  kept_up = sound.kept_up;
   past_named = named_grown a.table words (recorded a.past) more sound.past_named;
   chains_known = chains_grown a.table words (map learned_rule_seen a.chains) more sound.chains_known;
 }

@@ -16,10 +16,11 @@ use crate::counts::{Counts, counts_in};
 use crate::explaining::chain_of_rule;
 use crate::standing::Standing;
 use cycle_parts::Engine;
-use defs_match::{Matcher, Rule};
+use defs_match::Matcher;
 use defs_soar::{Chain, Goal};
+use rule_shelf::Rules;
 use soar_prefs::Prefs;
-use soar_sym::{Letters, List, NoMemory, SymTable, Triple, is_triple};
+use soar_sym::{Letters, List, NoMemory, SymTable, Triple};
 use soar_wm::Memory;
 use std::alloc::Global;
 use std::marker::Model;
@@ -108,7 +109,7 @@ impl<M: Matcher> Agent<M> {
     }
 
     /// The rules, in order of number.
-    pub fn rules(&self) -> &List<Rule>
+    pub fn rules(&self) -> &Rules
         ensures { result.now ≡ self.now.parts.rules }
     {
         &self.engine.parts.rules
@@ -132,12 +133,7 @@ impl<M: Matcher> Agent<M> {
     pub fn is_input(&self, triple: Triple) -> bool
         ensures { result ≡ has_triple_among self.now.parts.inputs triple }
     {
-        self.engine
-            .parts
-            .inputs
-            .as_slice()
-            .iter()
-            .any(|other| is_triple(triple, *other))
+        self.engine.parts.inputs.has(triple)
     }
 
     /// How it is set.

@@ -5,7 +5,7 @@ ghost use Rattle.defs_run.specs.Listing.{is_chunk};
 ghost use Rattle.soar_wm.specs.WorkingMemory.{IsLawful};
 ghost use Rattle.soar_cycle.specs.Counting.{chunks_among, count_at, counts_in};
 
-use defs_match::Rule;
+use rule_shelf::Rules;
 use soar_rule::Kind;
 use soar_wm::Memory;
 use wave_parts::Parts;
@@ -53,7 +53,7 @@ pub fn counts_in(parts: &Parts) -> Counts
         elements: count_elements(&parts.memory),
         preferences: parts.prefs.len() as u64,
         live: parts.live.len() as u64,
-        chunks: count_chunks(parts.rules.as_slice()) as u64,
+        chunks: count_chunks(&parts.rules) as u64,
     }
 }
 
@@ -82,13 +82,17 @@ fn count_at(memory: &Memory, tag: u32) -> u64
 }
 
 /// How many rules are chunks.
-fn count_chunks(rules: &[Rule]) -> usize
+fn count_chunks(rules: &Rules) -> usize
     ensures { result ≡ length (chunks_among (map rule_seen rules.now)) }
 {
-    rules
-        .iter()
-        .filter(|rule| is_chunk(rule.production.kind))
-        .count()
+    let most = rules.len();
+    let mut count = 0;
+    'rules: for rule in rules.iter() {
+        if is_chunk(rule.production.kind) && count < most {
+            count += 1;
+        }
+    }
+    count
 }
 
 fn is_chunk(kind: Kind) -> bool

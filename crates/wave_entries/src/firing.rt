@@ -1,13 +1,13 @@
 // A firing of the wave as it is live, and the rows that it holds itself.
 ghost use Rattle.std.specs.Prelude.{◌≡◌, ◌++◌, flat_map, IfOk, OnOk};
 ghost use Rattle.defs_soar.specs.History.{firing_seen};
-ghost use Rattle.goal_trimming.specs.Living.{live_seen};
+ghost use Rattle.live_firings.specs.Living.{live_seen};
 ghost use Rattle.wave_entries.specs.Left.{live_as, row_held};
 
 use crate::entry::HeldWish;
 use defs_match::Instance;
 use defs_soar::{Firing, Preference};
-use goal_trimming::Live;
+use live_firings::Live;
 use soar_sym::List;
 use std::alloc::{AllocError, Global};
 use trace_details::HeldBy;

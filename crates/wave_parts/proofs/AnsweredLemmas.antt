@@ -7,8 +7,8 @@ use Rattle.defs_match.specs.Rules.{RuleOf}
 use Rattle.defs_match.specs.declared.instance.Instance.{Instance}
 use Rattle.defs_soar.specs.Agents.{LiveFiring}
 use Rattle.defs_soar.specs.Pending.{Firable, Work as WorkOf, firable_of, is_none}
-use Rattle.goal_trimming.specs.Living.{live_seen}
-use Rattle.goal_trimming.specs.declared.live.Live.{Live}
+use Rattle.live_firings.specs.Living.{live_seen}
+use Rattle.live_firings.specs.declared.live.Live.{Live}
 use Rattle.pending_work.specs.Working.{is_nothing, is_without}
 use Rattle.pending_work.specs.Firables.{AreBound, IsPending, firables_for, rules_of}
 use Rattle.pending_work.specs.declared.work.Work.{Work}

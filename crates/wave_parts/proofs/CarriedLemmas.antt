@@ -13,7 +13,7 @@ use Rattle.defs_soar.specs.Preferences.{without_firings, with_rows}
 use Rattle.defs_soar.specs.Resettling.{AgentStep}
 use Rattle.defs_soar.specs.Trimming.{numbers_of}
 use Rattle.defs_soar.specs.Waves.{wave_of}
-use Rattle.goal_trimming.specs.Living.{live_seen}
+use Rattle.live_firings.specs.Living.{live_seen}
 use Rattle.soar_prefs.specs.Memory.{PreferenceMemory}
 use Rattle.pending_work.specs.Firables.{IsPending}
 use Rattle.pending_work.specs.declared.work.Work.{Work}

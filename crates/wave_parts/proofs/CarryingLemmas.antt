@@ -12,8 +12,8 @@ use Rattle.defs_soar.specs.Preferences.{rows_after, with_row, with_rows, without
 use Rattle.defs_soar.specs.Trimming.{numbers_of}
 use Rattle.defs_soar.specs.WaveAtHand.{Entry as EntryOf, Wave, all_fresh}
 use Rattle.defs_soar.specs.Waves.{is_retracted, live_of, without_spent}
-use Rattle.goal_trimming.specs.declared.live.Live.{Live}
-use Rattle.goal_trimming.specs.Living.{live_seen}
+use Rattle.live_firings.specs.declared.live.Live.{Live}
+use Rattle.live_firings.specs.Living.{live_seen}
 use Rattle.pending_work.specs.Firables.{IsPending}
 use Rattle.pending_work.specs.declared.work.Work.{Work}
 use Rattle.row_laws.specs.Kept.{WaveKeepsRange}
@@ -37,6 +37,7 @@ use Rattle.wave_parts.specs.WaveParts.{ended_in, live_after, rows_made_in, settl
 use Rattle.wave_parts.specs.Working.{HoldsWave, IsWorkedFrom}
 use Rattle.wave_parts.specs.declared.changing.WaveChange.{WaveChange}
 use Rattle.wave_parts.specs.declared.parts.Parts.{Parts as PartsKept}
+use Rattle.wave_parts.proofs.KeptUpLemmas.{kept_renewed}
 use Rattle.wave_parts.proofs.GrownLemmas.{numbered_later, rows_after_known}
 use Rattle.wave_parts.proofs.NamedLemmas.{live_append, live_filter}
 
@@ -199,6 +200,7 @@ renewed_sound a prefs live gone made new keeps s renews lives fit =
         | inl old ↦ s.live_given l (filter_within (λ k. not (has_left gone k)) (map live_seen a.live) l old)
         | inr here ↦ fit.live_given l here
       ];
+      kept_up = kept_renewed a.prefs prefs a.inputs a.changed a.kept a.memory.elements (ap (λ (p : PreferenceMemory). p.settled) renews.rows) s.kept_up;
       past_named = s.past_named;
       chains_known = s.chains_known;
     }
@@ -230,6 +232,7 @@ counted_sound a waves retractions s = record {
   output_known = s.output_known;
   live_known = s.live_known;
   live_given = s.live_given;
+  kept_up = s.kept_up;
   past_named = s.past_named;
   chains_known = s.chains_known;
 }

@@ -23,7 +23,7 @@ use Rattle.agent_laws.specs.Dependence.{GoalsDependOnMore, MakersAreEarlier, eac
 use Rattle.agent_laws.specs.Records.{AreRisingFrom}
 use Rattle.firing_records.specs.Recorded.{recorded_seen}
 use Rattle.goal_dependence.specs.Remembered.{CanJoin, firings_of, past_by, reach_over, tags_found_from}
-use Rattle.goal_trimming.specs.Living.{live_seen}
+use Rattle.live_firings.specs.Living.{live_seen}
 use Rattle.pending_work.specs.Firables.{IsPending}
 use Rattle.pending_work.specs.declared.work.Work.{Work}
 use Rattle.program_laws.specs.Knowing.{AreNamed}

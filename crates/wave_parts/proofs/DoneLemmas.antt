@@ -28,8 +28,8 @@ use Rattle.program_laws.specs.Knowing.{AreNamed}
 use Rattle.firing_records.specs.Recorded.{fresh_seen, recorded_seen}
 use Rattle.firing_records.specs.declared.outcome.Recorded.{Recorded}
 use Rattle.goal_dependence.specs.Remembered.{firings_of, past_by, reach_over, tags_found_from}
-use Rattle.goal_trimming.specs.Living.{live_seen}
-use Rattle.goal_trimming.specs.declared.live.Live.{Live}
+use Rattle.live_firings.specs.Living.{live_seen}
+use Rattle.live_firings.specs.declared.live.Live.{Live}
 use Rattle.pending_work.specs.declared.work.Work.{Work}
 use Rattle.step_report.specs.Reports.{report_events, settled_events}
 use Rattle.step_report.specs.declared.report.Report.{Report}
@@ -206,6 +206,7 @@ wave_sound new last recorded_now depends firings halted tags s rising makers up_
   output_known = s.output_known;
   live_known = s.live_known;
   live_given = s.live_given;
+  kept_up = s.kept_up;
   past_named = subst (AreNamed new.table) (sym firings_is) (λ f is. elim (in_either f (recorded new.past) (firings_of recorded_now) is) [ inl old ↦ s.past_named f old | inr here ↦ named f here ]);
   chains_known = s.chains_known;
 }

@@ -5,8 +5,8 @@ use Rattle.defs_soar.specs.declared.preference.Preference.{Preference}
 use Rattle.defs_soar.specs.Preferences.{without_firings}
 use Rattle.defs_soar.specs.Trimming.{numbers_of}
 use Rattle.defs_soar.specs.Waves.{is_spent, rows_added, without_spent}
-use Rattle.goal_trimming.specs.Living.{live_seen}
-use Rattle.goal_trimming.specs.declared.live.Live.{Live}
+use Rattle.live_firings.specs.Living.{live_seen}
+use Rattle.live_firings.specs.declared.live.Live.{Live}
 use Rattle.row_laws.specs.Kept.{WaveKeepsRange}
 use Rattle.soar_prefs.specs.Memory.{PreferenceMemory}
 use Rattle.soar_settle.specs.Renewal.{Renews, RenewsRows}

@@ -10,6 +10,7 @@ pub mod FiringLemmas
 pub mod FitLemmas
 pub mod GivenLemmas
 pub mod GrownLemmas
+pub mod KeptUpLemmas
 pub mod KnownLemmas
 pub mod LeavingLemmas
 pub mod LimitLemmas
@@ -18,6 +19,7 @@ pub mod RememberedLemmas
 pub mod RemovedLemmas
 pub mod ResettlingLemmas
 pub mod RetaughtLemmas
+pub mod SpentLemmas
 pub mod StandsLemmas
 pub mod TeachingLemmas
 pub mod WorkedLemmas

@@ -12,9 +12,9 @@ use Rattle.defs_soar.specs.Resettling.{AgentStep, resettled, without_elements, r
 use Rattle.defs_soar.specs.Settling.{kept_triples}
 use Rattle.defs_soar.specs.Trimming.{Remains, at_depths, supports_of, trimmed}
 use Rattle.goal_trimming.specs.Held.{held_by, kept_held, supports_held}
-use Rattle.goal_trimming.specs.Living.{live_seen}
+use Rattle.live_firings.specs.Living.{live_seen}
 use Rattle.goal_trimming.specs.Trims.{KeepsFirst, Trims, remains_of}
-use Rattle.goal_trimming.specs.declared.live.Live.{Live}
+use Rattle.live_firings.specs.declared.live.Live.{Live}
 use Rattle.removal_laws.specs.Alone.{RemovalsAlone}
 use Rattle.removal_laws.specs.Nested.{RemovalsAreNested}
 use Rattle.soar_prefs.specs.Memory.{PreferenceMemory}
@@ -27,6 +27,8 @@ use Rattle.step_report.specs.Reports.{removed_seen, settled_events}
 use Rattle.step_report.specs.declared.settled.Removed.{Removed}
 use Rattle.step_report.specs.declared.settled.Settled.{Settled}
 use Rattle.trace_laws.specs.Events.{AreEventsKnown}
+use Rattle.kept_triples.specs.Kept.{KeptOf}
+use Rattle.wave_parts.specs.KeptUp.{IsKeptUp}
 use Rattle.wave_parts.specs.Remembers.{Remembers}
 use Rattle.wave_parts.specs.Resettles.{resettled_now, IsResettled, Resettles}
 use Rattle.wave_parts.specs.Seen.{agent_of, AreGoalsKnown, IsSound}
@@ -44,10 +46,12 @@ pub record Left : Type 0 where
   pub depends : List (List ℕ)
   pub prefs : PreferenceMemory
   pub inputs : List Triple
+  pub changed : List Triple
   pub live : List Live
+  pub kept : KeptOf
 
 abbrev pub with_left : PartsKept → Left → WorkingMemory → PartsKept
-with_left a l memory = record a { goals = l.goals; depends = l.depends; prefs = l.prefs; inputs = l.inputs; live = l.live; memory = memory }
+with_left a l memory = record a { goals = l.goals; depends = l.depends; prefs = l.prefs; inputs = l.inputs; changed = l.changed; live = l.live; kept = l.kept; memory = memory }
 
 -- what trimming says of them
 pub record HasTrimmed (a : PartsKept) (l : Left) (kept : List Triple) : Type 0 where
@@ -194,8 +198,9 @@ kept_sound a l kept h sound =
     (kept_known a.table a.letters l.goals (supports_held (held_by l.goals l.depends l.prefs l.inputs l.live)) sound.first_words (goals_left a l kept h sound) (supports_left a l kept h sound))
 
 pub left_sound : (a : PartsKept) (l : Left) (kept : List Triple) (memory : WorkingMemory) → HasTrimmed a l kept → IsSound a
-    → memory ≡ record a.memory { elements = elements_left a l kept; last = last_of (elements_left a l kept) a.memory } → IsSound (with_left a l memory)
-left_sound a l kept memory h sound memory_is =
+    → memory ≡ record a.memory { elements = elements_left a l kept; last = last_of (elements_left a l kept) a.memory } → IsKeptUp l.prefs l.inputs l.changed l.kept memory.elements
+    → IsSound (with_left a l memory)
+left_sound a l kept memory h sound memory_is kept_up =
     let elements = ap (λ (m : WorkingMemory). m.elements) memory_is in
     record {
       goals_some = h.keeps.some;
@@ -223,6 +228,7 @@ left_sound a l kept memory h sound memory_is =
       output_known = sound.output_known;
       live_known = live_left a.table (map live_seen a.live) (map live_seen l.live) h.keeps.live_are sound.live_known;
       live_given = λ x is. sound.live_given x (h.keeps.live_are x is);
+      kept_up = kept_up;
       past_named = sound.past_named;
       chains_known = sound.chains_known;
     }

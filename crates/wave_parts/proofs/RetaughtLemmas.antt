@@ -6,7 +6,7 @@ use Rattle.defs_soar.specs.Agents.{LiveFiring, Program}
 use Rattle.defs_soar.specs.Laws.{IsIn}
 use Rattle.defs_soar.specs.Pending.{pending_in}
 use Rattle.defs_soar.specs.Waves.{is_spent, without_spent}
-use Rattle.goal_trimming.specs.Living.{live_seen}
+use Rattle.live_firings.specs.Living.{live_seen}
 use Rattle.pending_work.specs.declared.work.Work.{Work}
 use Rattle.program_laws.specs.Taught.{AreNext}
 use Rattle.settling_laws.proofs.MemberLemmas.{filter_within}

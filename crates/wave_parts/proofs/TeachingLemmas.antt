@@ -188,6 +188,7 @@ sound_left old new numbers s left =
       output_known = s.output_known;
       live_known = s.live_known;
       live_given = s.live_given;
+      kept_up = s.kept_up;
       past_named = s.past_named;
       chains_known =
           subst (AreChainsKnown old.table) (sym left.chains_are)

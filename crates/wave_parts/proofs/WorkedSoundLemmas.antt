@@ -9,7 +9,7 @@ use Rattle.soar_record.specs.Recorded.{recorded}
 use Rattle.soar_settle.specs.Known.{AreRowsKnown, AreRulesKnown}
 use Rattle.trace_laws.specs.Events.{AreEventsKnown}
 use Rattle.input_queue.specs.Seen.{triple_queued}
-use Rattle.goal_trimming.specs.Living.{live_seen}
+use Rattle.live_firings.specs.Living.{live_seen}
 use Rattle.defs_match.specs.Rules.{RuleOf, rule_seen}
 use Rattle.defs_soar.specs.Agents.{Learnt, Program}
 use Rattle.defs_soar.specs.Dependencies.{symbols_of_wish}
@@ -256,6 +256,7 @@ module _ (laws : WaveLaws) (old new : PartsKept) (history : List RecordedFiring)
         output_known = triples_grown old.table new.table old.output grown sound.output_known;
         live_known = live_grown old.table new.table (map live_seen old.live) grown sound.live_known;
         live_given = λ l is. omega (arith, more, sound.live_given l is);
+        kept_up = sound.kept_up;
         past_named = named_grown old.table new.table (recorded old.past) grown sound.past_named;
         chains_known =
             subst (AreChainsKnown new.table) (sym (ap (λ (p : Program). p.chains) h.holds.program_is))

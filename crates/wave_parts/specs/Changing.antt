@@ -12,8 +12,8 @@ use Rattle.defs_soar.specs.Trimming.{numbers_of}
 use Rattle.defs_soar.specs.WaveAtHand.{all_fresh}
 use Rattle.defs_soar.specs.Waves.{is_spent, live_of, rows_added, wave_of, without_spent}
 use Rattle.firing_records.specs.Recorded.{recorded_seen}
-use Rattle.goal_trimming.specs.Living.{live_seen}
-use Rattle.goal_trimming.specs.declared.live.Live.{Live}
+use Rattle.live_firings.specs.Living.{live_seen}
+use Rattle.live_firings.specs.declared.live.Live.{Live}
 use Rattle.pending_work.specs.Firables.{IsPending}
 use Rattle.pending_work.specs.declared.work.Work.{Work}
 use Rattle.soar_settle.specs.Renewal.{RenewsRows}

@@ -2,6 +2,7 @@ pub mod Carrying
 pub mod Changing
 pub mod Counting
 pub mod Lawful
+pub mod KeptUp
 pub mod Leaving
 pub mod Living
 pub mod Modes
@@ -10,6 +11,7 @@ pub mod Remembers
 pub mod Resettles
 pub mod Seen
 pub mod Settings
+pub mod Spent
 pub mod Stands
 pub mod Teaching
 pub mod WaveParts

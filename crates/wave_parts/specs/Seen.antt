@@ -20,10 +20,11 @@ use Rattle.soar_record.specs.Recorded.{recorded}
 use Rattle.soar_choose.specs.Rows.{AreInRange}
 use Rattle.soar_settle.specs.Known.{AreElementsKnown, AreRulesKnown, AreRowsKnown, AreTriplesKnown}
 use Rattle.input_queue.specs.Seen.{triple_queued}
-use Rattle.goal_trimming.specs.Living.{live_seen}
+use Rattle.live_firings.specs.Living.{live_seen}
 use Rattle.pending_work.specs.Firables.{AreNumbered}
 use Rattle.wave_firings.specs.Numbered.{AreOfFirings, AreMakersOfFirings, AreRecordedUpTo}
 use Rattle.wave_learning.specs.Hands.{learned_rule_seen}
+use Rattle.wave_parts.specs.KeptUp.{IsKeptUp}
 use Rattle.wave_parts.specs.Settings.{settings_seen}
 use Rattle.wave_parts.specs.Stands.{Stands, counts_of, queues_of}
 use Rattle.wave_parts.specs.declared.parts.Parts.{Parts as PartsKept}
@@ -78,7 +79,8 @@ abbrev pub AreLiveGiven : ℕ → List LiveFiring → Type 0
 AreLiveGiven last live = (l : LiveFiring) → IsIn l live → l.instance.rule ≤ last
 
 -- goals that the letters gave, the limits, rules in order of number, rows as decisions ask them, firings numbered up to the last, each of which used what earlier ones
--- made, live firings of rules that were given, and words that the table has, those of the architecture, of firings and of explanations among them
+-- made, live firings of rules that were given, words that the table has, those of the architecture, of firings and of explanations among them, and what is kept of
+-- the state that was settled last
 pub record IsSound (a : PartsKept) : Type 0 where
   pub goals_some : 1 ≤ length a.goals
   pub goals_few : length a.goals ≤ 100
@@ -106,6 +108,7 @@ pub record IsSound (a : PartsKept) : Type 0 where
   pub live_given : AreLiveGiven a.last_rule (map live_seen a.live)
   pub past_named : AreNamed a.table (recorded a.past)
   pub chains_known : AreChainsKnown a.table (map learned_rule_seen a.chains)
+  pub kept_up : IsKeptUp a.prefs a.inputs a.changed a.kept a.memory.elements
 
 -- ---- a step
 

@@ -6,7 +6,7 @@ use Rattle.defs_soar.specs.Standing.{HoldsWords, HoldsLetters, HoldsElements, Ho
 use Rattle.defs_soar.specs.Standing.{HoldsQueues, HoldsRules, HoldsLastRule, HoldsChains, HoldsLearnedNumbers, HoldsCounts}
 use Rattle.defs_soar.specs.Standing.{HoldsSettings, HoldsOutput, HoldsHalt}
 use Rattle.input_queue.specs.Seen.{queued_seen}
-use Rattle.goal_trimming.specs.Living.{live_seen}
+use Rattle.live_firings.specs.Living.{live_seen}
 use Rattle.wave_learning.specs.Hands.{learned_rule_seen}
 use Rattle.wave_parts.specs.Remembers.{Remembers}
 use Rattle.wave_parts.specs.Settings.{settings_seen}

@@ -7,7 +7,7 @@ ghost use Rattle.wave_parts.specs.Carrying.{CarriesOut, IsPendingIn};
 ghost use Rattle.wave_parts.specs.Lawful.{IsOfLawful};
 ghost use Rattle.wave_parts.specs.Teaching.{AreRetaught};
 ghost use Rattle.pending_work.specs.Firables.{AreBound};
-ghost use Rattle.goal_trimming.specs.Living.{live_seen};
+ghost use Rattle.live_firings.specs.Living.{live_seen};
 ghost use Rattle.step_report.specs.Reports.{report_events};
 ghost use Rattle.trace_laws.specs.Events.{AreEventsKnown};
 ghost use Rattle.wave_parts.specs.Seen.{AreLiveKnown, IsSound};

@@ -1,13 +1,13 @@
 // What a wave takes away and adds, before all is settled.
 ghost use Rattle.std.specs.Prelude.{◌≡◌, map};
-ghost use Rattle.goal_trimming.specs.Living.{live_seen};
+ghost use Rattle.live_firings.specs.Living.{live_seen};
 ghost use Rattle.wave_parts.specs.Leaving.{IsMadeFit, LeavesHere};
 ghost use Rattle.wave_parts.specs.Seen.{IsSound};
 
 use crate::living::{numbers_of, renew_live};
 use crate::parts::Parts;
 use defs_soar::Preference;
-use goal_trimming::Live;
+use live_firings::Live;
 use row_laws::rows_fit_decisions;
 use soar_settle::{Stop, renew};
 use soar_sym::List;

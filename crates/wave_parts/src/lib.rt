@@ -4,6 +4,7 @@
 mod carrying;
 mod changing;
 mod counting;
+mod kept;
 mod leaving;
 mod living;
 mod parts;
@@ -18,9 +19,9 @@ mod working;
 
 pub use carrying::Done;
 pub use counting::count_more;
-pub use goal_trimming::Live;
+pub use live_firings::Live;
 pub use parts::Parts;
 pub use pending_work::Work;
 pub use removing::{at_depths, behind};
 pub use settings::Settings;
-pub use soar_settle::{Changes, Stop, retag, settle};
+pub use soar_settle::{Changes, Stop};

@@ -1,10 +1,10 @@
 // The live firings after a wave.
 ghost use Rattle.std.specs.Prelude.{◌≡◌, ◌++◌, map, IfOk, OnOk};
 ghost use Rattle.defs_soar.specs.Trimming.{numbers_of};
-ghost use Rattle.goal_trimming.specs.Living.{live_seen};
+ghost use Rattle.live_firings.specs.Living.{live_seen};
 ghost use Rattle.wave_parts.specs.Living.{has_left, still_live};
 
-use goal_trimming::Live;
+use live_firings::Live;
 use soar_sym::{List, NoMemory};
 use std::alloc::Global;
 

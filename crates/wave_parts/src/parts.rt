@@ -1,7 +1,9 @@
 use crate::settings::Settings;
-use defs_match::Rule;
-use goal_trimming::Live;
+use input_memory::Inputs;
 use input_queue::Queued;
+use kept_triples::Kept;
+use live_firings::Live;
+use rule_shelf::Rules;
 use soar_goals::Goals;
 use soar_prefs::Prefs;
 use soar_record::Record;
@@ -17,7 +19,7 @@ pub struct Parts {
     pub letters: Letters,
     pub memory: Memory,
     pub prefs: Prefs,
-    pub rules: List<Rule>,
+    pub rules: Rules,
     pub last_rule: u64,
     /// The explanations of learned rules, which go with their rules.
     pub chains: List<LearnedRule>,
@@ -30,7 +32,11 @@ pub struct Parts {
     pub depends: List<List<u32>>,
     /// The firings since the start, which explain one another.
     pub past: Record,
-    pub inputs: List<Triple>,
+    pub inputs: Inputs,
+    /// The inputs that changed since all was settled.
+    pub changed: List<Triple>,
+    /// What is kept since then, with its levels.
+    pub kept: Kept,
     /// The changes of the inputs that wait for the next input phase, the first of them first.
     pub queue: List<Queued>,
     /// The random words that wait for draws, the next of them first.

@@ -2,7 +2,7 @@ ghost use Rattle.std.specs.Prelude.{◌≡◌, map, IfOk};
 ghost use Rattle.defs_match.specs.Rules.{rule_seen};
 ghost use Rattle.defs_match.specs.Conflict.{conflict};
 ghost use Rattle.defs_soar.specs.Pending.{is_none};
-ghost use Rattle.goal_trimming.specs.Living.{live_seen};
+ghost use Rattle.live_firings.specs.Living.{live_seen};
 ghost use Rattle.pending_work.specs.Firables.{AreBound, IsPending};
 ghost use Rattle.pending_work.specs.Working.{is_nothing};
 ghost use Rattle.soar_settle.specs.Known.{AreInstancesKnown};

@@ -13,14 +13,17 @@ use crate::removing::{at_depths, behind};
 use goal_trimming::trim;
 use matching_laws::changes_are_told;
 use removal_laws::{removals_alone, removals_are_nested};
-use soar_settle::{Stop, retag};
+use settle_changes::rest_is_kept;
+use soar_settle::Stop;
+use soar_sym::List;
 use std::alloc::Global;
 use step_report::Settled;
+use touched_tags::retag_touched;
 
 impl Parts {
     /// Settles what is held, without the goals that lost something on which they depend, and makes working memory of
     /// it. Gives the goals that went, and what went from there and what came (Soar manual, chapter 2, support, goal
-    /// dependency sets).
+    /// dependency sets). Looks only at what changed since all was settled.
     pub fn resettle(&mut self, alloc: Global) -> Result<Settled, Stop>
         requires sound { IsSound self.old }
         ensures resettled { (s : AgentOf) → Stands self.old s → Resettles self.new s result }
@@ -33,22 +36,31 @@ impl Parts {
         changes_are_told();
         removals_are_nested();
         removals_alone();
+        rest_is_kept();
+        self.table.law();
         let before = at_depths(alloc, self.goals.list().as_slice())?;
-        let kept = trim(
+        let ids = List::from_slice(alloc, self.kept.ids())?;
+        let mut touched = List::new(alloc);
+        trim(
             alloc,
             &mut self.goals,
             &mut self.depends,
             &mut self.prefs,
             &mut self.inputs,
+            &mut self.changed,
             &mut self.live,
+            &mut self.kept,
+            &mut touched,
             &self.memory,
         )?;
         let removed = behind(alloc, before.as_slice(), self.goals.list().len())?;
-        let changes = retag(
+        let changes = retag_touched(
             alloc,
             &self.table,
+            ids.as_slice(),
             self.goals.list(),
-            &kept,
+            &self.kept,
+            touched.as_slice(),
             &mut self.memory,
         )?;
         Ok(Settled { removed, changes })

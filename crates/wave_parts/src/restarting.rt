@@ -6,8 +6,11 @@ ghost use Rattle.wave_parts.specs.Seen.{IsSound};
 ghost use Rattle.wave_parts.specs.Stands.{Stands};
 ghost use Rattle.wave_parts.specs.Teaching.{numbers_among, without_numbers};
 
+use crate::kept::first_kept;
 use crate::parts::Parts;
 use crate::start::{MOST_ROWS, TOP, first_letters, first_memory};
+use input_memory::Inputs;
+use settle_changes::rest_is_kept;
 use soar_goals::Goals;
 use soar_prefs::Prefs;
 use soar_record::Record;
@@ -26,10 +29,12 @@ impl Parts {
         ensures memory { OnOk result (self.new.memory.elements ≡ first_elements) }
         ensures sound { OnOk result (IsSound self.new) }
     {
+        rest_is_kept();
         let memory = first_memory(alloc)?;
         let prefs = Prefs::new(alloc, MOST_ROWS)?;
         let goals = Goals::new(alloc, TOP)?;
         let past = Record::new(alloc)?;
+        let kept = first_kept(alloc, goals.list())?;
         let spent = self.drop_justifications(alloc)?;
         self.letters = first_letters();
         self.memory = memory;
@@ -37,7 +42,9 @@ impl Parts {
         self.goals = goals;
         self.depends = List::new(alloc);
         self.past = past;
-        self.inputs = List::new(alloc);
+        self.inputs = Inputs::new(alloc);
+        self.changed = List::new(alloc);
+        self.kept = kept;
         self.queue = List::new(alloc);
         self.random = List::new(alloc);
         self.live = List::new(alloc);

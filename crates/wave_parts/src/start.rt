@@ -7,10 +7,14 @@ ghost use Rattle.wave_parts.specs.Seen.{IsSound};
 ghost use Rattle.wave_parts.specs.Settings.{settings_seen};
 ghost use Rattle.wave_parts.specs.Stands.{Stands};
 
+use crate::kept::first_kept;
 use crate::parts::Parts;
 use crate::settings::Settings;
 use defs_soar::Mode;
+use input_memory::Inputs;
 use learning_laws::agents_stay_lawful;
+use rule_shelf::Rules;
+use settle_changes::rest_is_kept;
 use soar_goals::Goals;
 use soar_prefs::Prefs;
 use soar_record::Record;
@@ -58,17 +62,19 @@ impl Parts {
         ensures stands { IfOk result (λ parts. Stands parts (first_agent watch)) }
         ensures sound { IfOk result (λ parts. IsSound parts) }
     {
+        rest_is_kept();
         let table = SymTable::new(alloc)?;
         let memory = first_memory(alloc)?;
         let prefs = Prefs::new(alloc, MOST_ROWS)?;
         let goals = Goals::new(alloc, TOP)?;
         let past = Record::new(alloc)?;
+        let kept = first_kept(alloc, goals.list())?;
         Ok(Parts {
             table,
             letters: first_letters(),
             memory,
             prefs,
-            rules: List::new(alloc),
+            rules: Rules::new(alloc),
             last_rule: 0,
             chains: List::new(alloc),
             chunks: 0,
@@ -76,7 +82,9 @@ impl Parts {
             goals,
             depends: List::new(alloc),
             past,
-            inputs: List::new(alloc),
+            inputs: Inputs::new(alloc),
+            changed: List::new(alloc),
+            kept,
             queue: List::new(alloc),
             random: List::new(alloc),
             live: List::new(alloc),

@@ -1,21 +1,24 @@
 // Rules that go, with their explanations: justifications, once they are spent.
-ghost use Rattle.std.specs.Prelude.{◌≡◌, ◌==◌, map, IfOk, OnOk};
-ghost use Rattle.std.specs.List.{list_any};
+ghost use Rattle.std.specs.Prelude.{◌≡◌, [], map, IfOk, OnOk};
+ghost use Rattle.defs_match.specs.Contents.{rule_numbered};
 ghost use Rattle.defs_match.specs.Rules.{rule_seen};
 ghost use Rattle.defs_soar.specs.Start.{without_justifications};
 ghost use Rattle.defs_soar.specs.Waves.{is_spent, without_spent};
-ghost use Rattle.goal_trimming.specs.Living.{live_seen};
+ghost use Rattle.live_firings.specs.Living.{live_seen};
 ghost use Rattle.wave_learning.specs.Hands.{learned_rule_seen};
 ghost use Rattle.wave_parts.specs.Programs.{chains_of, is_explained_in, is_justified, numbers_where, program_of};
 ghost use Rattle.wave_parts.specs.Seen.{IsSound};
-ghost use Rattle.wave_parts.specs.Teaching.{is_numbered_among, numbers_among, without_numbers};
+ghost use Rattle.wave_parts.specs.Spent.{is_justified_at, with_each_justified, with_justified};
+ghost use Rattle.wave_parts.specs.Teaching.{numbers_among, without_numbers};
 
 use crate::parts::Parts;
 use defs_match::Rule;
-use goal_trimming::Live;
+use live_firings::Live;
+use rule_shelf::Rules;
 use soar_rule::Kind;
 use soar_sym::{List, NoMemory};
 use std::alloc::Global;
+use std::collections::BTreeSet;
 use wave_learning::LearnedRule;
 
 impl Parts {
@@ -28,7 +31,7 @@ impl Parts {
         ensures same { self.new ≡ record self.old { rules = self.new.rules; chains = self.new.chains } }
         ensures sound { IsSound self.new }
     {
-        let numbers = justifications(alloc, self.rules.as_slice())?;
+        let numbers = self.rules.justifications(alloc)?;
         self.drop_numbered(numbers.as_slice());
         Ok(numbers)
     }
@@ -42,7 +45,7 @@ impl Parts {
         ensures same { self.new ≡ record self.old { rules = self.new.rules; chains = self.new.chains } }
         ensures sound { IsSound self.new }
     {
-        let numbers = spent(alloc, self.rules.as_slice(), gone)?;
+        let numbers = spent(alloc, &self.rules, gone)?;
         self.drop_numbered(numbers.as_slice());
         Ok(numbers)
     }
@@ -54,35 +57,52 @@ impl Parts {
         ensures same { self.new ≡ record self.old { rules = self.new.rules; chains = self.new.chains } }
     {
         drop_rules(&mut self.rules, numbers);
-        drop_chains(&mut self.chains, self.rules.as_slice());
+        drop_chains(&mut self.chains, &self.rules);
     }
 }
 
 // ---- numbers
 
-fn justifications(alloc: Global, rules: &[Rule]) -> Result<List<u64>, NoMemory>
-    ensures { IfOk result (λ numbers. numbers ≡ numbers_where is_justified (map rule_seen rules.now)) }
+/// The numbers of the justifications of which these are the firings, in order.
+#[tactic(auto, using(crate::proofs::SpentLemmas::spent_found))]
+fn spent(alloc: Global, rules: &Rules, gone: &[Live]) -> Result<List<u64>, NoMemory>
+    ensures { IfOk result (λ numbers. numbers ≡ numbers_where (is_spent (map live_seen gone.now)) (map rule_seen rules.now)) }
 {
-    let mut numbers = List::new(alloc);
-    'rules: for rule in rules {
-        if is_justification(rule) {
-            numbers.push(rule.number)?;
-        }
-    }
+    rules.law();
+    let found = justified(alloc, rules, gone)?;
+    let numbers = listed(alloc, &found)?;
     Ok(numbers)
 }
 
-/// The numbers of the justifications of which these are the firings.
-fn spent(alloc: Global, rules: &[Rule], gone: &[Live]) -> Result<List<u64>, NoMemory>
-    ensures { IfOk result (λ numbers. numbers ≡ numbers_where (is_spent (map live_seen gone.now)) (map rule_seen rules.now)) }
+/// The numbers of the rules of these firings that are justifications.
+fn justified(alloc: Global, rules: &Rules, gone: &[Live]) -> Result<BTreeSet<u64>, NoMemory>
+    ensures { IfOk result (λ found. found.keys ≡ with_each_justified (map rule_seen rules.now) [] gone.now) }
 {
-    let mut numbers = List::new(alloc);
-    'rules: for rule in rules {
-        if is_spent(rule, gone) {
-            numbers.push(rule.number)?;
-        }
+    let mut found = BTreeSet::new(alloc);
+    'gone: for firing in gone {
+        add_justified(&mut found, rules, firing.instance.rule)?;
     }
-    Ok(numbers)
+    Ok(found)
+}
+
+/// Adds the number, where it is of a justification.
+fn add_justified(found: &mut BTreeSet<u64>, rules: &Rules, number: u64) -> Result<(), NoMemory>
+    ensures { OnOk result (found.new.keys ≡ with_justified (map rule_seen rules.now) found.old.keys number) }
+{
+    if is_justified(rules, number) {
+        found.insert(number)?;
+    }
+    Ok(())
+}
+
+/// Whether the rule of this number is a justification.
+fn is_justified(rules: &Rules, number: u64) -> bool
+    ensures { result ≡ is_justified_at (rule_numbered number (map rule_seen rules.now)) }
+{
+    match rules.get(number) {
+        Some(rule) => is_justification(rule),
+        None => false,
+    }
 }
 
 fn is_justification(rule: &Rule) -> bool
@@ -91,53 +111,28 @@ fn is_justification(rule: &Rule) -> bool
     matches!(rule.production.kind, Kind::Justification)
 }
 
-/// Whether it is a justification of which one of these is the firing.
-fn is_spent(rule: &Rule, gone: &[Live]) -> bool
-    ensures { result ≡ is_spent (map live_seen gone.now) (rule_seen rule.now) }
+fn listed(alloc: Global, found: &BTreeSet<u64>) -> Result<List<u64>, NoMemory>
+    ensures { IfOk result (λ numbers. numbers ≡ found.now.keys) }
 {
-    is_justification(rule) && has_firing(gone, rule.number)
-}
-
-/// Whether one of these is a firing of the rule of this number.
-fn has_firing(gone: &[Live], number: u64) -> bool
-    ensures { result ≡ list_any (λ l. l.instance.rule == number) (map live_seen gone.now) }
-{
-    'gone: for firing in gone {
-        if firing.instance.rule == number {
-            return true;
-        }
+    let mut numbers = List::new(alloc);
+    'numbers: for number in found.iter() {
+        numbers.push(*number)?;
     }
-    false
+    Ok(numbers)
 }
 
 // ---- what goes
 
-fn drop_rules(rules: &mut List<Rule>, numbers: &[u64])
+fn drop_rules(rules: &mut Rules, numbers: &[u64])
     ensures { map rule_seen rules.new ≡ without_numbers numbers.now (map rule_seen rules.old) }
 {
-    let mut at = 0;
-    'rules: while at < rules.len() {
-        if has_number(numbers, &rules.as_slice()[at]) {
-            let _ = rules.remove(at);
-        } else {
-            at += 1;
-        }
-    }
-}
-
-fn has_number(numbers: &[u64], rule: &Rule) -> bool
-    ensures { result ≡ is_numbered_among numbers.now (rule_seen rule.now) }
-{
     'numbers: for number in numbers {
-        if *number == rule.number {
-            return true;
-        }
+        let _ = rules.remove(*number);
     }
-    false
 }
 
 /// Keeps the explanations of these rules.
-fn drop_chains(chains: &mut List<LearnedRule>, rules: &[Rule])
+fn drop_chains(chains: &mut List<LearnedRule>, rules: &Rules)
     ensures { map learned_rule_seen chains.new ≡ chains_of (map rule_seen rules.now) (map learned_rule_seen chains.old) }
 {
     let mut at = 0;
@@ -150,13 +145,8 @@ fn drop_chains(chains: &mut List<LearnedRule>, rules: &[Rule])
     }
 }
 
-fn has_rule(rules: &[Rule], learned: &LearnedRule) -> bool
+fn has_rule(rules: &Rules, learned: &LearnedRule) -> bool
     ensures { result ≡ is_explained_in (map rule_seen rules.now) (learned_rule_seen learned.now) }
 {
-    'rules: for rule in rules {
-        if rule.number == learned.rule {
-            return true;
-        }
-    }
-    false
+    rules.get(learned.rule).is_some()
 }

@@ -14,11 +14,11 @@ ghost use Rattle.wave_parts.specs.Working.{IsWorkedFrom, IsWorkedOut, WorksOut};
 use crate::counting::count_more;
 use crate::parts::Parts;
 use agent_laws::{new_goals_depend_on_nothing, records_stay};
-use defs_match::Rule;
 use firing_records::Before;
 use learning_laws::agents_stay_lawful;
 use pending_work::Work;
 use program_laws::{learned_rules_match, learning_is_known, rules_join};
+use rule_shelf::Rules;
 use soar_levels::Levels;
 use soar_settle::Stop;
 use soar_sym::List;
@@ -121,7 +121,7 @@ impl Parts {
 /// The rules with what is kept of them, taken out.
 fn take_program(
     alloc: Global,
-    rules: &mut List<Rule>,
+    rules: &mut Rules,
     last_rule: u64,
     chains: &mut List<LearnedRule>,
     chunks: u64,
@@ -130,7 +130,7 @@ fn take_program(
     ensures { result ≡ record { rules = rules.old; last_rule = last_rule; chains = chains.old; chunks = chunks; justifications = justifications } }
 {
     Program {
-        rules: replace(rules, List::new(alloc)),
+        rules: replace(rules, Rules::new(alloc)),
         last_rule,
         chains: replace(chains, List::new(alloc)),
         chunks,

@@ -1,22 +1,29 @@
-use Rattle.std.proofs.Common.{◌<◌, ◌++◌, Bool, length, map, filter, not, take, drop, get_or, ap, sym, ◌∙◌, arith}
-use Rattle.std.proofs.lemmas.List.Edits.{length-remove}
-use Rattle.defs_match.specs.Rules.{RuleOf, rule_seen}
-use Rattle.defs_run.specs.Carrying.{is_named}
-use Rattle.cycle_parts.proofs.ListLemmas.{removed_next}
+use Rattle.std.proofs.Common.{◌∙◌, ap, map, length, sym, subst, arith}
+use Rattle.defs_match.specs.Rules.{rule_seen}
+use Rattle.pending_work.specs.Firables.{AreNumbered}
+use Rattle.cycle_parts.specs.Dropping.{unnamed}
+use Rattle.cycle_parts.proofs.NamedLemmas.{named_goes, named_there, none_named, one_less}
+use Rattle.cycle_parts.proofs.RuleLemmas.{numbered_filter}
 use Rattle.cycle_parts.proofs.dropping.drop_rules.Goals as goal
 
-pub rules-preserved-then-is_named : goal.rules-preserved-then-is_named
-rules-preserved-then-is_named g c =
-    let within : c.rules.at < length c.rules.rules = omega (arith, c.len.ensures, c.rules-test.true) in
-    let p : RuleOf → Bool = λ rule. not (is_named c.args.name rule) in
-    record {
-      within = rw c.drop_at.ensures.dropped (omega (arith, length-remove c.rules.rules c.rules.at within));
-      works = c.drop_at.ensures.works;
-      held = c.drop_at.ensures.held;
-      elements = c.drop_at.ensures.elements ∙ c.rules.invariant.elements;
-      numbered = c.drop_at.ensures.numbered;
-      kept = ap (λ rules. map rule_seen (take c.rules.at rules) ++ filter p (map rule_seen (drop c.rules.at rules))) c.drop_at.ensures.dropped
-          ∙ removed_next rule_seen p c.rules.rules c.rules.at c.index-as_slice-at.result within
-          (c.index-as_slice-at.is ∙ ap (λ rules. get_or rules c.rules.at c.index-as_slice-at.result) c.as_slice.ensures) (ap not (sym c.is_named.ensures ∙ c.if-is_named.true))
-          ∙ c.rules.invariant.kept;
-    }
+pub drop_numbered-requires-clause-there : goal.drop_numbered-requires-clause-there
+drop_numbered-requires-clause-there g c = named_there c.args.name (map rule_seen c.rules.rules) c.in-Some.number c.in-Some.ensures
+
+pub rules-smaller : goal.rules-smaller
+rules-smaller g c =
+    let less = one_less c.in-Some.number (map rule_seen c.rules.rules) (named_there c.args.name (map rule_seen c.rules.rules) c.in-Some.number c.in-Some.ensures) in
+    let left = ap length c.drop_numbered.ensures.dropped in
+    omega (arith, less, left)
+
+pub rules-preserved : goal.rules-preserved
+rules-preserved g c = record {
+  works = c.drop_numbered.ensures.works;
+  held = c.drop_numbered.ensures.held;
+  elements = c.drop_numbered.ensures.elements ∙ c.rules.invariant.elements;
+  numbered = subst AreNumbered (sym c.drop_numbered.ensures.dropped) (numbered_filter _ (map rule_seen c.rules.rules) c.rules.invariant.numbered);
+  kept = ap (unnamed c.args.name) c.drop_numbered.ensures.dropped ∙ named_goes c.args.name (map rule_seen c.rules.rules) c.in-Some.number c.rules.invariant.numbered c.in-Some.ensures
+      ∙ c.rules.invariant.kept;
+}
+
+pub returns-in-None-clause-dropped : goal.returns-in-None-clause-dropped
+returns-in-None-clause-dropped g c = sym (none_named c.args.name (map rule_seen c.rules.rules) c.in-None.ensures) ∙ c.rules.invariant.kept

@@ -1,6 +1,6 @@
 use Rattle.std.proofs.Common.{◌≡◌, map, flat_map}
 use Rattle.firing_records.specs.Recorded.{recorded_seen}
-use Rattle.goal_trimming.specs.Living.{live_seen}
+use Rattle.live_firings.specs.Living.{live_seen}
 use Rattle.wave_entries.specs.Entries.{told_events}
 use Rattle.wave_entries.specs.Left.{events_left, live_left, recorded_left, rows_left}
 use Rattle.wave_entries.proofs.ending.made_of.Given as goal

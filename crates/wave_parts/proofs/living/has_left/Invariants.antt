@@ -1,5 +1,5 @@
 use Rattle.std.proofs.Common.{◌≡◌, drop}
-use Rattle.goal_trimming.specs.Living.{live_seen}
+use Rattle.live_firings.specs.Living.{live_seen}
 use Rattle.wave_parts.specs.Living.{has_left}
 use Rattle.wave_parts.proofs.living.has_left.Given as goal
 

@@ -1,6 +1,6 @@
 use Rattle.std.proofs.Common.{◌≡◌, map, take}
 use Rattle.defs_soar.specs.Trimming.{numbers_of}
-use Rattle.goal_trimming.specs.Living.{live_seen}
+use Rattle.live_firings.specs.Living.{live_seen}
 use Rattle.wave_parts.proofs.living.numbers_of.Given as goal
 
 abbrev pub invariant-firings : goal.invariant-firings

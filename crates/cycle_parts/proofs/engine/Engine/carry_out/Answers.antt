@@ -4,7 +4,7 @@ use Rattle.defs_match.specs.Rules.{rule_seen}
 use Rattle.matching_laws.specs.Telling.{with_each}
 use Rattle.soar_settle.specs.Tagging.{without_each}
 use Rattle.wave_parts.specs.Carrying.{CarriesOut}
-use Rattle.cycle_parts.specs.Retelling.{AreHeld, with_each_above, without_each_rule}
+use Rattle.cycle_parts.specs.Retelling.{AreHeld, without_each_rule}
 use Rattle.cycle_parts.proofs.RetellingLemmas.{all_are_told, spent_are_held, taught_are_new}
 use Rattle.cycle_parts.proofs.engine.Engine.carry_out.Goals as goal
 
@@ -29,7 +29,7 @@ take_up-requires-clause-new g c =
     let rules : g.M.Matcher.rules c.tell.new.matcher ≡ map rule_seen old.rules = c.in_ok-tell.ensures.rules ∙ c.requires.bond.rules_are in
     let held : g.M.Matcher.rules c.forget.new.matcher ≡ without_each_rule (map rule_seen old.rules) spent =
     c.forget.ensures.rules ∙ ap (without_each_rule (g.M.Matcher.rules c.tell.new.matcher)) c.as_slice.ensures ∙ ap (λ held. without_each_rule held spent) rules in
-    rw c.as_slice-2.ensures (taught_are_new old new spent (g.M.Matcher.rules c.forget.new.matcher) c.requires.sound c.in_ok-done.ensures.rules held)
+    taught_are_new old new spent (g.M.Matcher.rules c.forget.new.matcher) c.requires.sound c.in_ok-done.ensures.rules held
 
 pub returns-clause-bond : goal.returns-clause-bond
 returns-clause-bond g c =
@@ -43,7 +43,6 @@ returns-clause-bond g c =
     record {
       works = c.in_ok-take_up.ensures.works;
       rules_are = c.in_ok-take_up.ensures.rules
-          ∙ ap (λ rules. with_each_above old.last_rule (g.M.Matcher.rules c.forget.new.matcher) (map rule_seen rules)) c.as_slice-2.ensures
           ∙ all_are_told old new spent (g.M.Matcher.rules c.forget.new.matcher) c.requires.sound c.in_ok-done.ensures.rules held;
       elements_are = c.in_ok-take_up.ensures.elements ∙ c.forget.ensures.elements ∙ c.in_ok-tell.ensures.elements
           ∙ ap (λ elements. with_each (without_each elements changes.gone) changes.new) c.requires.bond.elements_are ∙ c.in_ok-done.ensures.told.whole;

@@ -12,7 +12,7 @@ use Rattle.wave_parts.specs.declared.parts.Parts.{Parts as PartsKept}
 use Rattle.cycle_parts.specs.Calls.{load_step}
 use Rattle.cycle_parts.proofs.ExcisedLemmas.{elements_stay}
 use Rattle.cycle_parts.proofs.LawfulLemmas.{lawful_loaded}
-use Rattle.cycle_parts.proofs.LoadLemmas.{joins_last, loaded_from, loads, more_rules, number_is_new}
+use Rattle.cycle_parts.proofs.LoadLemmas.{joins_last, loaded_from, loads, more_rules, number_is_last, number_is_new}
 use Rattle.cycle_parts.proofs.SoundLemmas.{sound_loaded}
 use Rattle.cycle_parts.proofs.engine.Engine.load.Goals as goal
 
@@ -26,6 +26,10 @@ add_rule-requires g c =
         matchable = c.requires.matchable;
       };
     }
+
+pub push-requires : goal.push-requires
+push-requires g c =
+    number_is_last c.args.self.now.parts c.drop_named.new.parts.rules c.args.production.name c.in_ok-number.number c.requires.sound c.drop_named.ensures.dropped.rules_are c.in_ok-number.ensures.count.0
 
 pub returns-clause-step : goal.returns-clause-step
 returns-clause-step g c =

@@ -24,7 +24,7 @@ list_matches_of-requires g c =
     let rules : List RuleOf = map rule_seen a.parts.rules in
     let parts : c.conflict.new.self.parts ≡ a.parts = c.in-Ok.ensures.parts in
     let found : rule_named rules c.args.name ≡ Some (rule_seen c.in-Some.rule.now) =
-    sym (c.in-Some.ensures ∙ ap (λ (rs : List Rule). rule_named (map rule_seen rs) c.args.name) (c.as_slice.ensures ∙ (c.rules.ensures ∙ ap (λ (p : Parts). p.rules) parts))) in
+    sym (c.in-Some.ensures ∙ ap (λ (rs : List Rule). rule_named (map rule_seen rs) c.args.name) (c.rules.ensures ∙ ap (λ (p : Parts). p.rules) parts)) in
     subst (λ (words : Texts). IsKnown words c.in-Some.rule.now.production.name) (sym (c.symbols.ensures ∙ ap (λ (p : Parts). p.table) parts))
     (named_known a.parts.table rules c.args.name (rule_seen c.in-Some.rule.now) c.requires.ready.1.rules_known found).0
 
@@ -37,11 +37,11 @@ returns-in-Some-clause-reply g c = λ history remembers.
     let parts : c.conflict.new.self.parts ≡ a.parts = c.in-Ok.ensures.parts in
     let words_are : c.symbols.result.now ≡ a.parts.table = c.symbols.ensures ∙ ap (λ (p : Parts). p.table) parts in
     let found : Some rule ≡ rule_named rules c.args.name =
-    c.in-Some.ensures ∙ ap (λ (rs : List Rule). rule_named (map rule_seen rs) c.args.name) (c.as_slice.ensures ∙ (c.rules.ensures ∙ ap (λ (p : Parts). p.rules) parts)) in
-    let has : HasMatches s.agent c.symbols.result.now rule c.as_slice-in-Some.result.now = record {
+    c.in-Some.ensures ∙ ap (λ (rs : List Rule). rule_named (map rule_seen rs) c.args.name) (c.rules.ensures ∙ ap (λ (p : Parts). p.rules) parts) in
+    let has : HasMatches s.agent c.symbols.result.now rule c.as_slice.result.now = record {
       words_are = sym words_are;
       alone = alone_named rules c.args.name rule c.requires.ready.1.numbered (sym found);
-      all = c.as_slice-in-Some.ensures ∙ c.in-Ok.ensures.conflict c.requires.ready.0;
+      all = c.as_slice.ensures ∙ c.in-Ok.ensures.conflict c.requires.ready.0;
     } in
     let is : c.set_mid_line.new.self ≡ record a { mid_line = c.list_matches_of.new.mid_line } =
     c.set_mid_line.ensures ∙ (λ k. record { parts = parts k; mid_line = c.list_matches_of.new.mid_line; standing = c.in-Ok.ensures.standing k }) in
@@ -49,7 +49,7 @@ returns-in-Some-clause-reply g c = λ history remembers.
     (replied_by c.args.origin.now.source.now c.args.origin.now.line s (elim o as (λ _. Carried) [ None ↦ refuses (no_production s.agent.names.words c.args.name) | Some r ↦ does (says s (conflict_lines_of s.agent r)) ]))
     (with_kept c.set_mid_line.new.self c.args.self.now) c.args.out.now c.list_matches_of.new.out (Ok false))
     found
-    (says_lines c.args.self.now c.set_mid_line.new.self (rule_match_lines c.symbols.result.now rule c.as_slice-in-Some.result.now) (conflict_lines_of s.agent rule) c.mid_line-mid_line.result
+    (says_lines c.args.self.now c.set_mid_line.new.self (rule_match_lines c.symbols.result.now rule c.as_slice.result.now) (conflict_lines_of s.agent rule) c.mid_line-mid_line.result
     c.list_matches_of.new.mid_line history c.args.out.now c.list_matches_of.new.out remembers c.requires.ready is (c.list_matches_of.ensures.of_agent s.agent has)
     (c.mid_line-mid_line.ensures ∙ c.in-Ok.ensures.mid_line) c.in_ok-list_matches_of-in-Some.ensures.ok)
 
@@ -59,7 +59,7 @@ returns-clause-reply g c = λ history remembers.
     let s : Session = session_of c.args.self.now history in
     let parts : c.conflict.new.self.parts ≡ a.parts = c.in-Ok.ensures.parts in
     let missing : None ≡ rule_named (map rule_seen a.parts.rules) c.args.name =
-    c.in-None.ensures ∙ ap (λ (rs : List Rule). rule_named (map rule_seen rs) c.args.name) (c.as_slice.ensures ∙ (c.rules.ensures ∙ ap (λ (p : Parts). p.rules) parts)) in
+    c.in-None.ensures ∙ ap (λ (rs : List Rule). rule_named (map rule_seen rs) c.args.name) (c.rules.ensures ∙ ap (λ (p : Parts). p.rules) parts) in
     let same : a ≡ c.conflict.new.self = λ k. record { parts = sym parts k; mid_line = sym c.in-Ok.ensures.mid_line k; standing = sym c.in-Ok.ensures.standing k } in
     subst (λ (o : Option RuleOf). Obeys a.parts.settings.watch a.mid_line
     (replied_by c.args.origin.now.source.now c.args.origin.now.line s (elim o as (λ _. Carried) [ None ↦ refuses (no_production s.agent.names.words c.args.name) | Some r ↦ does (says s (conflict_lines_of s.agent r)) ]))

@@ -11,7 +11,7 @@ pub returns-clause-reply : goal.returns-clause-reply
 returns-clause-reply g c = λ history remembers.
     let a : Parts = c.args.self.now.agent.parts in
     let lines : Texts → List Rule → List (List ℕ) = λ words rules. rule_lines words (map rule_seen rules) in
-    let same : lines c.symbols.result.now c.as_slice.result.now ≡ lines a.table a.rules =
-    ap (λ (words : Texts). lines words c.as_slice.result.now) c.symbols.ensures ∙ ap (lines a.table) (c.as_slice.ensures ∙ c.rules.ensures) in
-    says_lines c.args.self.now c.set_mid_line.new.self (lines c.symbols.result.now c.as_slice.result.now) (lines a.table a.rules) c.mid_line-mid_line.result c.list_rules.new.mid_line
+    let same : lines c.symbols.result.now c.rules.result.now ≡ lines a.table a.rules =
+    ap (λ (words : Texts). lines words c.rules.result.now) c.symbols.ensures ∙ ap (lines a.table) c.rules.ensures in
+    says_lines c.args.self.now c.set_mid_line.new.self (lines c.symbols.result.now c.rules.result.now) (lines a.table a.rules) c.mid_line-mid_line.result c.list_rules.new.mid_line
     history c.args.out.now c.list_rules.new.out remembers c.requires c.set_mid_line.ensures same c.mid_line-mid_line.ensures c.in_ok-list_rules.ensures.ok

@@ -21,7 +21,7 @@ pub say_production-requires : goal.say_production-requires
 say_production-requires g c =
     let rules : List RuleOf = map rule_seen c.args.self.now.agent.parts.rules in
     let found : rule_named rules c.args.name ≡ Some (rule_seen c.in-Some.rule.now) =
-    sym (c.in-Some.ensures ∙ ap (λ (rs : List Rule). rule_named (map rule_seen rs) c.args.name) (c.as_slice.ensures ∙ c.rules.ensures)) in
+    sym (c.in-Some.ensures ∙ ap (λ (rs : List Rule). rule_named (map rule_seen rs) c.args.name) c.rules.ensures) in
     subst (λ (words : Texts). AreKnown words (symbols_of (production_seen c.in-Some.rule.now.production))) (sym c.symbols.ensures)
     (named_known c.args.self.now.agent.parts.table rules c.args.name (rule_seen c.in-Some.rule.now) c.requires.ready.1.rules_known found)
 
@@ -30,7 +30,7 @@ returns-in_ok-say_production-in-Some-clause-reply g c = λ history remembers.
     let s : Session = session_of c.args.self.now history in
     let rule : RuleOf = rule_seen c.in-Some.rule.now in
     let found : Some rule ≡ rule_named (map rule_seen c.args.self.now.agent.parts.rules) c.args.name =
-    c.in-Some.ensures ∙ ap (λ (rs : List Rule). rule_named (map rule_seen rs) c.args.name) (c.as_slice.ensures ∙ c.rules.ensures) in
+    c.in-Some.ensures ∙ ap (λ (rs : List Rule). rule_named (map rule_seen rs) c.args.name) c.rules.ensures in
     subst (λ (o : Option RuleOf). Obeys c.args.self.now.agent.parts.settings.watch c.args.self.now.agent.mid_line
     (replied_by c.args.origin.now.source.now c.args.origin.now.line s (elim o as (λ _. Carried) [ None ↦ refuses (no_production s.agent.names.words c.args.name) | Some r ↦ does (says s (production_lines s.agent r)) ]))
     (with_kept c.set_mid_line.new.self c.args.self.now) c.args.out.now c.say_production.new.out (Ok false))
@@ -43,7 +43,7 @@ pub returns-in-None-clause-reply : goal.returns-in-None-clause-reply
 returns-in-None-clause-reply g c = λ history remembers.
     let s : Session = session_of c.args.self.now history in
     let missing : None ≡ rule_named (map rule_seen c.args.self.now.agent.parts.rules) c.args.name =
-    c.in-None.ensures ∙ ap (λ (rs : List Rule). rule_named (map rule_seen rs) c.args.name) (c.as_slice.ensures ∙ c.rules.ensures) in
+    c.in-None.ensures ∙ ap (λ (rs : List Rule). rule_named (map rule_seen rs) c.args.name) c.rules.ensures in
     subst (λ (o : Option RuleOf). Obeys c.args.self.now.agent.parts.settings.watch c.args.self.now.agent.mid_line
     (replied_by c.args.origin.now.source.now c.args.origin.now.line s (elim o as (λ _. Carried) [ None ↦ refuses (no_production s.agent.names.words c.args.name) | Some r ↦ does (says s (production_lines s.agent r)) ]))
     c.refuse_with.new.self c.args.out.now c.refuse_with.new.out c.refuse_with.result)

@@ -1,8 +1,8 @@
 use Rattle.std.proofs.Common.{◌∙◌, List, Err, map, ap, subst, sym, arith}
 use Rattle.std.proofs.lemmas.Result.{err_from_is_err_and}
 use Rattle.defs_soar.specs.Trimming.{numbers_of}
-use Rattle.goal_trimming.specs.Living.{live_seen}
-use Rattle.goal_trimming.specs.declared.live.Live.{Live}
+use Rattle.live_firings.specs.Living.{live_seen}
+use Rattle.live_firings.specs.declared.live.Live.{Live}
 use Rattle.soar_settle.specs.Renewal.{Renews}
 use Rattle.wave_entries.specs.Entries.{entry_seen}
 use Rattle.wave_parts.specs.Leaving.{HasLeft, IsMadeFit}

@@ -2,7 +2,7 @@ use Rattle.std.proofs.Common.{map, IfOk, subst, sym}
 use Rattle.std.proofs.lemmas.Result.{IfOk-weaker}
 use Rattle.defs_match.specs.Rules.{rule_seen}
 use Rattle.defs_soar.specs.Pending.{pending_in}
-use Rattle.goal_trimming.specs.Living.{live_seen}
+use Rattle.live_firings.specs.Living.{live_seen}
 use Rattle.pending_work.specs.Firables.{IsPending}
 use Rattle.wave_parts.specs.Seen.{AreLiveKnown, pending_of}
 use Rattle.wave_parts.proofs.AnsweredLemmas.{same_answer}

@@ -2,7 +2,7 @@ use Rattle.std.proofs.Common.{◌≡◌, ◌++◌, ◌-◌, ◌≤◌, map, filt
 use Rattle.defs_match.specs.Rules.{rule_seen}
 use Rattle.wave_learning.specs.Hands.{learned_rule_seen}
 use Rattle.cycle_parts.specs.Dropping.{is_of_name}
-use Rattle.cycle_parts.proofs.dropping.drop_chains.Given as goal
+use Rattle.cycle_parts.proofs.dropping.drop_chains_of.Given as goal
 
 abbrev pub invariant-chains : goal.invariant-chains
 invariant-chains l = record {
