@@ -1,10 +1,9 @@
 -- What a cutter's answers say of the commands that are left.
-use Rattle.std.proofs.Common.{◌≡◌, ℕ, zero, suc, ◌^◌, ◌≤◌, ◌-◌, not, nat_lt, Bool, true, false, List, [], ◌∷◌, ◌++◌, Ok, length, take, length-take, arith, refl, sym, ap, subst, ◌∙◌}
+use Rattle.std.proofs.Common.{◌≡◌, ℕ, zero, suc, ◌^◌, ◌≤◌, ◌-◌, not, nat_lt, Bool, true, false, List, [], ◌∷◌, ◌++◌, Ok, length, take, length-take, arith, refl, ap, subst, ◌∙◌}
 use Rattle.std.proofs.lemmas.Grind.{common_steps}
-use Rattle.std.proofs.lemmas.List.{append-nil}
 use Rattle.std.specs.Prelude.{◌==◌, if◌then◌else◌}
 use Rattle.std.specs.List.{prefix_len}
-use Rattle.soar_edge.specs.Cuts.{Uncut, Cuts, MayFollow, cuts_with}
+use Rattle.soar_edge.specs.Cuts.{Uncut, Cuts, MayFollow, StandsFirst, cuts_with}
 use Rattle.soar_edge.specs.Cutting.{Cut, whole, unfinished, too_long, Extent, open_text, extent_from, is_space, line_after, cut_of, cuts_from, cuts_of}
 use Rattle.soar_edge.specs.declared.cutter.Command.{Command}
 use Rattle.soar_edge.specs.declared.cutter.Cut.{Cut as CutRead}
@@ -55,17 +54,10 @@ command_short closed zero number (b ∷ bytes) line text rest is = by (is_space 
 
 -- ---- what is left
 
--- the commands of the bytes that were fed
-abbrev pub cuts_left : Uncut → List Cut
-cuts_left c = cuts_with c c.closed []
-
 -- of bytes that were fed to a new cutter
-pub left_fed : (c : Uncut) (ends : Bool) (bytes : List ℕ) → c.bytes ≡ bytes → c.line ≡ 1 → c.closed ≡ ends → cuts_left c ≡ cuts_of ends bytes
+pub left_fed : (c : Uncut) (ends : Bool) (more bytes : List ℕ) → c.bytes ++ more ≡ bytes → c.line ≡ 1 → cuts_with c ends more ≡ cuts_of ends bytes
 unfolding cuts_of
-left_fed c ends bytes fed first closed =
-    ap (λ e. cuts_from e 0 c.line (c.bytes ++ [])) closed
-    ∙ ap (λ line. cuts_from ends 0 line (c.bytes ++ [])) first
-    ∙ ap (cuts_from ends 0 1) (append-nil c.bytes ∙ fed)
+left_fed c ends more bytes fed first = ap (λ line. cuts_from ends 0 line (c.bytes ++ more)) first ∙ ap (cuts_from ends 0 1) fed
 
 -- no byte needs to follow
 follows_nothing : (closed : Bool) → MayFollow closed closed []
@@ -80,22 +72,21 @@ read_as : (old new : Uncut) (read other : CutRead) → read ≡ other → Reads 
 read_as old new read other is reads = subst (Reads old new) is reads
 
 -- a command, and those behind it
-pub whole_left : (old new : Uncut) (read : CutRead) (command : Command) (text : List ℕ) → read ≡ cut.Whole command → text ≡ command.text → Reads old new read → new.closed ≡ old.closed
-    → cuts_left old ≡ whole command.line text ∷ cuts_left new
-whole_left old new read command text is taken reads same =
-    (read_as old new read (cut.Whole command) is reads) old.closed [] (follows_nothing old.closed)
-    ∙ ap (λ ends. whole command.line command.text ∷ cuts_with new ends []) (sym same)
-    ∙ ap (λ t. whole command.line t ∷ cuts_left new) (sym taken)
+pub whole_left : (old new : Uncut) (read : CutRead) (command : Command) → read ≡ cut.Whole command → Reads old new read → StandsFirst old new (λ cuts. whole command.line command.text ∷ cuts)
+whole_left old new read command is reads = read_as old new read (cut.Whole command) is reads
 
 -- one that has no end is the last
-pub unfinished_left : (old new : Uncut) (read : CutRead) (line : ℕ) → read ≡ cut.Unfinished line → Reads old new read → cuts_left old ≡ unfinished line ∷ []
-unfinished_left old new read line is reads =
-    let it = read_as old new read (cut.Unfinished line) is reads in
-    ap (λ ends. cuts_with old ends []) it.0 ∙ it.1
+pub unfinished_left : (old new : Uncut) (read : CutRead) (line : ℕ) → read ≡ cut.Unfinished line → Reads old new read → (old.closed ≡ true) × (cuts_with old true [] ≡ unfinished line ∷ [])
+unfinished_left old new read line is reads = let it = read_as old new read (cut.Unfinished line) is reads in (it.0, it.1)
 
 -- a command is as short as a session asks
-pub whole_short : (old new : Uncut) (read : CutRead) (command : Command) (text : List ℕ) → read ≡ cut.Whole command → text ≡ command.text → Reads old new read → new.closed ≡ old.closed
-    → length text ≤ 2 ^ 26
-whole_short old new read command text is taken reads same =
-    let short : length text ≤ 2 ^ 20 = command_short old.closed 0 old.line (old.bytes ++ []) command.line text (cuts_left new) (whole_left old new read command text is taken reads same) in
+pub whole_short : (old new : Uncut) (read : CutRead) (command : Command) → read ≡ cut.Whole command → Reads old new read → length command.text ≤ 2 ^ 26
+whole_short old new read command is reads =
+    let short : length command.text ≤ 2 ^ 20 = command_short old.closed 0 old.line (old.bytes ++ []) command.line command.text (cuts_with new old.closed []) (whole_left old new read command is reads old.closed [] (follows_nothing old.closed)) in
     omega arith
+
+-- nothing follows a stream that has ended
+pub ended_left : (c : Uncut) (cuts : List Cut) (ends : Bool) (more : List ℕ) → c.closed ≡ true → cuts_with c true [] ≡ cuts → MayFollow c.closed ends more → cuts_with c ends more ≡ cuts
+ended_left c cuts ends more ended is follows =
+    let none : MayFollow true ends more = subst (λ b. MayFollow b ends more) ended follows in
+    ap (λ e. cuts_with c e more) none.0 ∙ ap (cuts_with c true) none.1 ∙ is

@@ -1,12 +1,12 @@
 -- The files of the command line, one after another.
-use Rattle.std.proofs.Common.{◌≡◌, ℕ, Bool, true, List, [], ◌∷◌, Option, Some, None, Result, Ok, Err, refl, sym, ap, subst, ◌∙◌}
+use Rattle.std.proofs.Common.{◌≡◌, ℕ, true, List, [], ◌∷◌, Option, Some, Result, Ok, refl, sym, ap, subst, ◌∙◌}
 use Rattle.soar_edge.specs.declared.filed.Filed.{Filed}
 use Rattle.defs_run.specs.Whole.{whole_stage}
 use Rattle.defs_run.specs.Runs.{Run, Ran, behind_text, ran, then_run}
 use Rattle.defs_run.specs.Sessions.{Session}
 use Rattle.defs_run.specs.Sources.{Obeying, obeying, sourced}
 use Rattle.defs_run.specs.Transcripts.{standard_input}
-use Rattle.command_runs.specs.Following.{Breaks, Flows, IsAt, IsOn, IsOver, Steps, inner_of, status_of_end}
+use Rattle.command_runs.specs.Following.{Breaks, Flows, IsAt, IsBehind, IsOn, IsOver, Steps, inner_of, status_of_end}
 use Rattle.command_runs.specs.declared.ends.End.{End}
 use Rattle.command_runs.specs.declared.ends.Flow.{Flow}
 use Rattle.command_runs.specs.declared.ends.Flow.TheVariants as flow
@@ -15,7 +15,7 @@ use Rattle.command_runs.specs.declared.ends.Step.{Step}
 use Rattle.command_runs.specs.declared.ends.Step.TheVariants as step
 use Rattle.command_runs.specs.declared.fault.Fault.{Fault}
 use Rattle.command_runs.specs.declared.progress.Progress.{Progress}
-use Rattle.command_runs.proofs.FlowLemmas.{IsBehind, flows_behind, nothing_written, rest_behind, told_so}
+use Rattle.command_runs.proofs.FlowLemmas.{flows_behind, nothing_written, rest_behind, told_so}
 use Rattle.command_runs.specs.Whole.{file_of, files_of}
 
 pub files_next : (fails : Option ℕ) (stock : List Filed) (name : List ℕ) (names : List (List ℕ)) (r : Run)

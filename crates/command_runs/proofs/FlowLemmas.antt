@@ -1,22 +1,21 @@
 -- How far the code has gone, after one part of a run and then the next.
-use Rattle.std.proofs.Common.{◌≡◌, ℕ, suc, ◌+◌, ◌<◌, ◌≤◌, ◌^◌, List, [], ◌++◌, length, take, Option, Some, None, Result, Ok, Err, refl, sym, ap, subst, ◌∙◌, arith}
+use Rattle.std.proofs.Common.{◌≡◌, ℕ, ◌≤◌, List, [], ◌++◌, Option, Some, None, Result, Ok, Err, refl, sym, ap, subst, ◌∙◌, arith}
 use Rattle.std.specs.Prelude.{IfSome}
 use Rattle.std.proofs.lemmas.List.{append-nil}
 use Rattle.soar_edge.specs.Outside.{Appends, AppendsSome}
 use Rattle.soar_edge.specs.declared.status.Status.{Status}
 use Rattle.soar_edge.specs.declared.status.Status.TheVariants as status
 use Rattle.soar_edge.proofs.CallerLemmas.{appends_then, appends_some_then}
-use Rattle.defs_run.specs.Runs.{Run, Ran, behind_text, then_run}
+use Rattle.defs_run.specs.Runs.{Run, Ran, behind_text, ran, then_run}
 use Rattle.defs_run.specs.Sessions.{Session}
-use Rattle.command_runs.specs.Causes.{Fetched, ShelfCause, SinkCause}
-use Rattle.command_runs.specs.Following.{Breaks, Comes, Flows, IsAt, IsCut, IsOn, IsOver, status_of_end}
-use Rattle.command_runs.specs.declared.ends.End.{End}
+use Rattle.command_runs.specs.Causes.{Fetched}
+use Rattle.command_runs.specs.Following.{Breaks, Comes, Flows, FlowsTo, IsAt, IsBehind, IsOn, IsOver, status_of_end}
 use Rattle.command_runs.specs.declared.ends.Flow.{Flow}
 use Rattle.command_runs.specs.declared.ends.Flow.TheVariants as flow
 use Rattle.command_runs.specs.declared.fault.Fault.{Fault}
 use Rattle.command_runs.specs.declared.fault.Fault.TheVariants as fault
 use Rattle.command_runs.specs.declared.progress.Progress.{Progress}
-use Rattle.command_runs.proofs.RunLemmas.{behind_behind, front_of_then, then_behind, then_on, then_over}
+use Rattle.command_runs.proofs.RunLemmas.{behind_behind, front_of_then, then_on, then_over}
 
 -- ---- writes
 
@@ -87,14 +86,6 @@ flows_next stands held p q old mid now fails x f result on later =
 
 -- ---- a loop over parts
 
--- so much was written, and the rest of the whole is this
-pub record IsBehind {C : Type 0} (stands : Session → Type 0) (p : Progress C) (old now : Option (List ℕ)) (rest : Run → Ran) (whole : Ran) : Type 0 where
-  pub run : Run
-  pub done : List ℕ
-  pub appended : Appends old now done
-  pub at_run : IsAt stands p run
-  pub comes : whole ≡ behind_text done (rest run)
-
 pub starts : {C : Type 0} (stands : Session → Type 0) (p : Progress C) (old : Option (List ℕ)) (rest : Run → Ran) (r : Run) → IsAt stands p r → IsBehind stands p old old rest (rest r)
 starts stands p old rest r at = record { run = r; done = []; appended = nothing_written old; at_run = at; comes = refl }
 
@@ -139,6 +130,34 @@ pub rest_breaks : {C : Type 0} (stands : Session → Type 0) (p : Progress C) (n
     → (b : IsBehind stands p old mid rest whole) → Breaks n mid now fails (rest b.run) e → Breaks n old now fails whole e
 rest_breaks stands p n old mid now fails rest whole e b broke =
     subst (λ y. Breaks n old now fails y e) (sym b.comes) (breaks_behind n old mid now fails b.done (rest b.run) e b.appended broke)
+
+-- memory ran out before it
+pub memory_breaks : {C : Type 0} (stands : Session → Type 0) (p : Progress C) (n : ℕ) (old now : Option (List ℕ)) (fails : Option ℕ) (rest : Run → Ran) (whole : Ran) → IsBehind stands p old now rest whole → Breaks n old now fails whole fault.NoMemory
+memory_breaks stands p n old now fails rest whole b = rest_breaks stands p n old now now fails rest whole fault.NoMemory b (none_of now (rest b.run).text)
+
+-- up to where a later rest begins
+pub to_behind : {C : Type 0} (stands held : Session → Type 0) (p q : Progress C) (old mid now : Option (List ℕ)) (fails : Option ℕ) (rest later : Run → Ran) (whole : Ran) (result : Result Flow Fault)
+    → (b : IsBehind stands p old mid rest whole) → FlowsTo held q mid now fails later (rest b.run) result → FlowsTo held q old now fails later whole result
+to_behind stands held p q old mid now fails rest later whole (Ok flow.Goes) b to = record {
+  run = to.run;
+  done = b.done ++ to.done;
+  appended = appends_then old mid now b.done to.done b.appended to.appended;
+  at_run = to.at_run;
+  comes = b.comes ∙ ap (behind_text b.done) to.comes ∙ behind_behind b.done to.done (later to.run);
+}
+to_behind stands held p q old mid now fails rest later whole (Ok (flow.Ends e)) b over =
+    subst (IsOver old now (status_of_end e)) (sym b.comes) (over_behind old mid now (status_of_end e) b.done (rest b.run) b.appended over)
+to_behind stands held p q old mid now fails rest later whole (Err e) b broke = rest_breaks stands p q.fetched old mid now fails rest whole e b broke
+
+-- behind which nothing is left
+pub on_so : {C : Type 0} (stands : Session → Type 0) (p : Progress C) (old now : Option (List ℕ)) (whole : Ran) → IsBehind stands p old now ran whole → IsOn stands p old now whole
+on_so stands p old now whole b =
+    subst (IsOn stands p old now) (sym b.comes) (record { text = subst (Appends old now) (sym (append-nil b.done)) b.appended; at_run = b.at_run })
+
+pub flows_so : {C : Type 0} (stands : Session → Type 0) (p : Progress C) (old now : Option (List ℕ)) (fails : Option ℕ) (whole : Ran) (result : Result Flow Fault) → FlowsTo stands p old now fails ran whole result → Flows stands p old now fails whole result
+flows_so stands p old now fails whole (Ok flow.Goes) b = on_so stands p old now whole b
+flows_so stands p old now fails whole (Ok (flow.Ends e)) over = over
+flows_so stands p old now fails whole (Err e) broke = broke
 
 -- ---- fetches
 

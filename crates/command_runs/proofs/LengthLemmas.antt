@@ -1,5 +1,5 @@
 -- A run ends as too long only where the input, a file or a command is.
-use Rattle.std.proofs.Common.{◌≡◌, ℕ, zero, suc, ◌-◌, ◌^◌, ◌<◌, ◌||◌, ◌==◌, not, nat_lt, nat_le, Bool, true, false, List, [], ◌∷◌, take, length, Option, Some, None, refl, sym, ap, subst, ◌∙◌, ◌⊎◌, inl, inr, arith}
+use Rattle.std.proofs.Common.{◌≡◌, ℕ, zero, suc, ◌-◌, ◌^◌, ◌==◌, not, nat_lt, nat_le, Bool, true, false, List, [], ◌∷◌, take, length, Option, Some, None, refl, sym, subst, ◌∙◌, ◌⊎◌, inl, inr, arith}
 use Rattle.std.proofs.lemmas.Bool.Decides.{nat_tests}
 use Rattle.std.specs.Prelude.{if◌then◌else◌}
 use Rattle.std.specs.List.{prefix_len}
@@ -19,7 +19,7 @@ use Rattle.command_runs.specs.Following.{inner_of}
 use Rattle.command_runs.specs.Lengths.{HasLong, HasLongCommand, HasLongFile, IsLongStream, IsTooLong, LongFrom}
 use Rattle.command_runs.specs.Whole.{commands_of, file_of, files_of, input_of, whole_run}
 use Rattle.command_runs.proofs.FileLemmas.{files_end, files_next}
-use Rattle.command_runs.proofs.InputLemmas.{input_by, input_is, too_long_end}
+use Rattle.command_runs.proofs.InputLemmas.{input_by, input_is}
 use Rattle.command_runs.proofs.RunLemmas.{stream_run}
 
 -- ---- commands that are cut

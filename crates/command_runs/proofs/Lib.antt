@@ -5,8 +5,8 @@ pub mod FlowLemmas
 pub mod InputLemmas
 pub mod LengthLemmas
 pub mod OpeningLemmas
+pub mod ReadingLemmas
 pub mod RunLemmas
-pub mod ScriptLemmas
 pub mod StepLemmas
 pub mod StreamLemmas
 pub mod WholeLemmas

@@ -1,11 +1,11 @@
 -- Parts of a run, one behind another.
-use Rattle.std.proofs.Common.{◌≡◌, ℕ, suc, List, [], ◌++◌, Option, Some, None, refl, sym, ap, ◌∙◌, append_assoc}
+use Rattle.std.proofs.Common.{◌≡◌, ℕ, suc, List, [], ◌++◌, Option, Some, None, refl, sym, ap, append_assoc}
 use Rattle.std.proofs.lemmas.List.{append-nil}
 use Rattle.soar_edge.specs.declared.status.Status.{Status}
 use Rattle.soar_edge.specs.declared.filed.Filed.{Filed}
 use Rattle.soar_edge.specs.Cutting.{cuts_of}
 use Rattle.defs_run.specs.Whole.{whole_stage}
-use Rattle.defs_run.specs.Runs.{Run, Ran, ran, behind_text, then_run}
+use Rattle.defs_run.specs.Runs.{Run, Ran, behind_text, then_run}
 use Rattle.defs_run.specs.Sources.{cuts_run, obeying}
 use Rattle.command_runs.specs.Following.{inner_of}
 use Rattle.std.specs.Prelude.{Bool, zero}
@@ -25,14 +25,6 @@ then_behind text r f = by r.run.ended
     by : (o : Option Status) → (elim o as (λ _. Ran) [ None ↦ behind_text (text ++ r.text) (f r.run) | Some s ↦ behind_text text r ])
         ≡ behind_text text (elim o as (λ _. Ran) [ None ↦ behind_text r.text (f r.run) | Some s ↦ r ])
     by None = ap (λ t. record { run = (f r.run).run; text = t }) (append_assoc text r.text (f r.run).text)
-    by (Some s) = refl
-
--- nothing more
-pub then_nothing : (r : Ran) → then_run r ran ≡ r
-then_nothing r = by r.run.ended
-  where
-    by : (o : Option Status) → (elim o as (λ _. Ran) [ None ↦ behind_text r.text (ran r.run) | Some s ↦ r ]) ≡ r
-    by None = ap (λ t. record { run = r.run; text = t }) (append-nil r.text)
     by (Some s) = refl
 
 pub behind_behind : (first second : List ℕ) (r : Ran) → behind_text first (behind_text second r) ≡ behind_text (first ++ second) r

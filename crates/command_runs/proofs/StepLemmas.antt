@@ -1,26 +1,26 @@
 -- A command, and what follows it.
-use Rattle.std.proofs.Common.{◌≡◌, ℕ, ◌++◌, List, [], ◌∷◌, Bool, Option, Some, None, Result, Ok, Err, refl, sym, ap, subst, ◌∙◌}
-use Rattle.soar_edge.specs.Cutting.{Cut, whole, unfinished, too_long}
+use Rattle.std.proofs.Common.{◌≡◌, ℕ, ◌++◌, List, [], ◌∷◌, Bool, true, Option, Some, None, Result, Ok, Err, sym, ap, subst, ◌∙◌}
+use Rattle.soar_edge.specs.Cutting.{Cut, whole, unfinished}
 use Rattle.soar_edge.specs.Outside.{Appends}
 use Rattle.soar_edge.specs.declared.filed.Filed.{Filed}
-use Rattle.soar_edge.specs.declared.status.Status.{Status}
 use Rattle.soar_edge.specs.declared.status.Status.TheVariants as status
 use Rattle.soar_edge.proofs.CallerLemmas.{appends_then}
 use Rattle.defs_run.specs.Orders.{unfinished_command}
 use Rattle.defs_run.specs.Whole.{whole_stage}
-use Rattle.defs_run.specs.Runs.{Run, Ran, after_reply, behind_text, obeyed, ran, then_run}
-use Rattle.defs_run.specs.Sessions.{Reply, Sequel, Session}
+use Rattle.defs_run.specs.Runs.{Run, Ran, after_reply, behind_text, obeyed, then_run}
+use Rattle.defs_run.specs.Sessions.{Session}
 use Rattle.defs_run.specs.Sources.{Obeying, after_sequel, command_run, cut_run, cuts_run, refused_run}
 use Rattle.command_runs.specs.Carrying.{sequel_of}
-use Rattle.command_runs.specs.Following.{Breaks, CarriesOut, IsAt, IsOn, IsOver, OpensFile, Steps, status_of_end}
+use Rattle.command_runs.specs.Following.{Breaks, CarriesOut, IsAt, IsBehind, IsOn, IsOver, OpensFile, Steps, status_of_end}
+use Rattle.command_runs.specs.Turning.{left_behind}
 use Rattle.command_runs.specs.declared.carrier.Next.{Next}
 use Rattle.command_runs.specs.declared.ends.Opened.{Opened}
 use Rattle.command_runs.specs.declared.ends.Step.{Step}
 use Rattle.command_runs.specs.declared.ends.Step.TheVariants as step
 use Rattle.command_runs.specs.declared.fault.Fault.{Fault}
 use Rattle.command_runs.specs.declared.progress.Progress.{Progress}
-use Rattle.command_runs.proofs.FlowLemmas.{breaks_behind, breaks_then, nothing_written, on_behind, over_behind, over_then}
-use Rattle.command_runs.proofs.RunLemmas.{behind_behind, then_nothing, then_on}
+use Rattle.command_runs.proofs.FlowLemmas.{breaks_behind, breaks_then, on_behind, over_behind, over_then}
+use Rattle.command_runs.proofs.RunLemmas.{behind_behind, then_on}
 
 opens_behind : {C : Type 0} (held : Session → Type 0) (q : Progress C) (old mid now : Option (List ℕ)) (inner : Option Obeying) (done : List ℕ) (x : Ran) (file : Opened)
     → Appends old mid done → OpensFile held q mid now inner x file → OpensFile held q old now inner (behind_text done x) file
@@ -96,11 +96,19 @@ whole_breaks n old now fails inner stock from number text cuts left r e first br
     (breaks_then n old now fails (command_run whole_stage inner fails stock from number text r) (cuts_run whole_stage inner fails stock from left) e broke)
 
 -- one that has no end is the last
-pub last_refused : {C : Type 0} (held : Session → Type 0) (q : Progress C) (old now : Option (List ℕ)) (fails : Option ℕ) (inner : Option Obeying) (stock : List Filed) (from : List ℕ) (line : ℕ) (cuts : List Cut) (r : Run)
-    → cuts ≡ unfinished line ∷ [] → IsOn held q old now (refused_run unfinished_command from line r) → IsOn held q old now (cuts_run whole_stage inner fails stock from cuts r)
-last_refused held q old now fails inner stock from line cuts r is on =
-    subst (λ cs. IsOn held q old now (cuts_run whole_stage inner fails stock from cs r)) (sym is)
-    (subst (IsOn held q old now) (sym (then_nothing (refused_run unfinished_command from line r))) on)
+pub last_refused : {C : Type 0} (held : Session → Type 0) (q : Progress C) (old now : Option (List ℕ)) (fails : Option ℕ) (inner : Option Obeying) (stock : List Filed) (from : List ℕ) (line : ℕ) (closed : Bool) (cuts left : List Cut) (r : Run)
+    → closed ≡ true → cuts ≡ unfinished line ∷ [] → IsOn held q old now (refused_run unfinished_command from line r)
+    → IsBehind held q old now (cuts_run whole_stage inner fails stock from (left_behind closed left)) (cuts_run whole_stage inner fails stock from cuts r)
+last_refused held q old now fails inner stock from line closed cuts left r ended is on =
+    let x : Ran = refused_run unfinished_command from line r in
+    subst (λ b. IsBehind held q old now (cuts_run whole_stage inner fails stock from (left_behind b left)) (cuts_run whole_stage inner fails stock from cuts r)) (sym ended)
+    (record {
+      run = x.run;
+      done = x.text;
+      appended = on.text;
+      at_run = on.at_run;
+      comes = ap (λ cs. cuts_run whole_stage inner fails stock from cs r) is ∙ then_on x (cuts_run whole_stage inner fails stock from []) on.at_run.goes;
+    })
 
 pub last_breaks : (n : ℕ) (old now : Option (List ℕ)) (fails : Option ℕ) (inner : Option Obeying) (stock : List Filed) (from : List ℕ) (line : ℕ) (cuts : List Cut) (r : Run) (e : Fault)
     → cuts ≡ unfinished line ∷ [] → Breaks n old now fails (refused_run unfinished_command from line r) e → Breaks n old now fails (cuts_run whole_stage inner fails stock from cuts r) e

@@ -1,25 +1,26 @@
 -- The commands of a stream, one after another, and those of the files inside.
-use Rattle.std.proofs.Common.{◌≡◌, ℕ, zero, suc, ◌-◌, ◌<◌, ◌++◌, Bool, true, List, [], ◌∷◌, length, Option, Some, None, Result, Ok, Err, refl, sym, ap, subst, ◌∙◌, arith}
+use Rattle.std.proofs.Common.{◌≡◌, ℕ, zero, suc, ◌-◌, ◌<◌, ◌++◌, Bool, true, List, [], ◌∷◌, length, Option, Some, Result, Ok, Err, refl, sym, ap, subst, ◌∙◌, arith}
+use Rattle.soar_edge.specs.Cuts.{MayFollow, Uncut, cuts_with}
 use Rattle.soar_edge.specs.Cutting.{Cut, cuts_of}
 use Rattle.soar_edge.specs.declared.filed.Filed.{Filed}
 use Rattle.defs_run.specs.Whole.{whole_stage}
 use Rattle.defs_run.specs.Runs.{Run, Ran, then_run}
 use Rattle.defs_run.specs.Sessions.{Session}
 use Rattle.defs_run.specs.Sources.{Obeying, cut_run, cuts_run, obeying}
-use Rattle.command_runs.specs.Following.{Breaks, Flows, IsAt, IsOver, IsReadyFlow, OpensFile, inner_of, status_of_end}
+use Rattle.command_runs.specs.Following.{Breaks, Flows, FlowsTo, IsAt, IsBehind, IsOver, IsReadyFlow, OpensFile, inner_of, status_of_end}
 use Rattle.command_runs.specs.declared.ends.End.{End}
 use Rattle.command_runs.specs.declared.ends.Flow.{Flow}
 use Rattle.command_runs.specs.declared.ends.Flow.TheVariants as flow
 use Rattle.command_runs.specs.declared.ends.Opened.{Opened}
-use Rattle.command_runs.specs.Turning.{IsReadyTurn, TakesCommand, Turns}
+use Rattle.command_runs.specs.Turning.{IsReadyTurn, TakesCommand, Turns, left_behind}
+use Rattle.command_runs.specs.declared.ends.Step.{Step}
 use Rattle.command_runs.specs.declared.ends.Step.TheVariants as step
 use Rattle.command_runs.specs.declared.fault.Fault.{Fault}
 use Rattle.command_runs.specs.declared.progress.Progress.{Progress}
 use Rattle.command_runs.specs.declared.turn.Turn.{Turn}
 use Rattle.command_runs.specs.declared.turn.Turn.TheVariants as turn
-use Rattle.command_runs.proofs.FlowLemmas.{IsBehind, breaks_off, ends_behind, goes_behind, rest_behind, rest_breaks}
+use Rattle.command_runs.proofs.FlowLemmas.{breaks_off, ends_behind, flows_so, goes_behind, rest_breaks, to_behind}
 use Rattle.command_runs.proofs.RunLemmas.{behind_behind, stream_run, then_behind}
-use Rattle.soar_edge.specs.declared.status.Status.{Status}
 use Rattle.soar_edge.proofs.CallerLemmas.{appends_then}
 use Rattle.defs_run.specs.Runs.{behind_text}
 
@@ -66,55 +67,63 @@ opens_stream stands held p q old mid now fails stock depth from c left whole fil
 pub fewer : (c : Cut) (cuts left : List Cut) → cuts ≡ c ∷ left → length left < length cuts
 fewer c cuts left is = let more : length cuts ≡ suc (length left) = ap length is in omega (arith, more)
 
--- what holds of the commands of a stream holds of the stream
-pub stream_flows : {C : Type 0} (held : Session → Type 0) (q : Progress C) (old now : Option (List ℕ)) (fails : Option ℕ) (stock : List Filed) (depth : ℕ) (from : List ℕ) (closed : Bool) (bytes : List ℕ) (cuts : List Cut) (r : Run) (result : Result Flow Fault)
-    → cuts ≡ cuts_of closed bytes → Flows held q old now fails (rest_of fails stock depth from cuts r) result → Flows held q old now fails (obeying whole_stage fails stock depth from closed bytes r) result
-stream_flows held q old now fails stock depth from closed bytes cuts r result is flows =
-    subst (λ x. Flows held q old now fails x result) (ap (λ cs. rest_of fails stock depth from cs r) is ∙ sym (stream_run fails stock depth from closed bytes r)) flows
-
 -- ---- the answers of a turn
 
 -- what a turn tells where the code stands at a run
-abbrev pub TurnTold : {C : Type 0} → (Session → Type 0) → (Session → Type 0) → Progress C → Progress C → Option (List ℕ) → Option (List ℕ) → Option ℕ → List Filed → ℕ → List ℕ → List Cut → List Cut → Result Turn Fault → Type 0
-TurnTold stands held p q mid now fails stock depth from cuts left result =
-    (r : Run) → IsAt stands p r → Turns held q mid now fails (inner_of fails stock depth) stock from cuts left r result
+abbrev pub TurnTold : {C : Type 0} → (Session → Type 0) → (Session → Type 0) → Progress C → Progress C → Option (List ℕ) → Option (List ℕ) → Option ℕ → List Filed → ℕ → List ℕ → Bool → List Cut → List Cut → Result Turn Fault → Type 0
+TurnTold stands held p q mid now fails stock depth from closed cuts left result =
+    (r : Run) → IsAt stands p r → Turns held q mid now fails (inner_of fails stock depth) stock from closed cuts left r result
 
-pub turn_last : {C : Type 0} (stands held : Session → Type 0) (p q : Progress C) (old mid now : Option (List ℕ)) (fails : Option ℕ) (stock : List Filed) (depth : ℕ) (from : List ℕ) (cuts left : List Cut) (whole : Ran) (t : Turn) (f : Flow)
-    → t ≡ turn.Last f → IsBehind stands p old mid (rest_of fails stock depth from cuts) whole → TurnTold stands held p q mid now fails stock depth from cuts left (Ok t) → Flows held q old now fails whole (Ok f)
-turn_last stands held p q old mid now fails stock depth from cuts left whole t f is b tells =
-    rest_behind stands held p q old mid now fails (rest_of fails stock depth from cuts) whole (Ok f) b
-    (subst (λ u. Turns held q mid now fails (inner_of fails stock depth) stock from cuts left b.run (Ok u)) is (tells b.run b.at_run))
+-- what was taken, told step by step
+pub took_so : (t : Turn) (u s : Step) → t ≡ turn.Took u → u ≡ s → t ≡ turn.Took s
+took_so t u s is same = is ∙ ap turn.Took same
 
-pub turn_goes : {C : Type 0} (stands held : Session → Type 0) (p q : Progress C) (old mid now : Option (List ℕ)) (fails : Option ℕ) (stock : List Filed) (depth : ℕ) (from : List ℕ) (cuts left : List Cut) (whole : Ran) (t : Turn)
-    → t ≡ turn.Took step.Goes → TakesCommand cuts left (Ok t) → IsBehind stands p old mid (rest_of fails stock depth from cuts) whole → TurnTold stands held p q mid now fails stock depth from cuts left (Ok t)
+-- one command was taken off
+abbrev pub TakesOff : List Cut → List Cut → Type 0
+TakesOff cuts left = (c : Cut) × (cuts ≡ c ∷ left)
+
+pub taken_off : (old new : Uncut) (t : Turn) (s : Step) (ends : Bool) (more : List ℕ) → t ≡ turn.Took s → TakesCommand old new (Ok t) → MayFollow old.closed ends more → TakesOff (cuts_with old ends more) (cuts_with new ends more)
+taken_off old new t s ends more is takes follows = let took = subst (λ u. TakesCommand old new (Ok u)) is takes in (took.0, took.1 ends more follows)
+
+-- the same may follow
+pub follows_too : (a b ends : Bool) (more : List ℕ) → a ≡ b → MayFollow b ends more → MayFollow a ends more
+follows_too a b ends more is follows = subst (λ c. MayFollow c ends more) (sym is) follows
+
+pub turn_last : {C : Type 0} (stands held : Session → Type 0) (p q : Progress C) (old mid now : Option (List ℕ)) (fails : Option ℕ) (stock : List Filed) (depth : ℕ) (from : List ℕ) (closed ended : Bool) (cuts left : List Cut) (whole : Ran) (t : Turn) (f : Flow)
+    → closed ≡ ended → t ≡ turn.Last f → IsBehind stands p old mid (rest_of fails stock depth from cuts) whole → TurnTold stands held p q mid now fails stock depth from closed cuts left (Ok t)
+    → FlowsTo held q old now fails (rest_of fails stock depth from (left_behind ended left)) whole (Ok f)
+turn_last stands held p q old mid now fails stock depth from closed ended cuts left whole t f same is b tells =
+    subst (λ c. FlowsTo held q old now fails (rest_of fails stock depth from (left_behind c left)) whole (Ok f)) same
+    (to_behind stands held p q old mid now fails (rest_of fails stock depth from cuts) (rest_of fails stock depth from (left_behind closed left)) whole (Ok f) b
+    (subst (λ u. Turns held q mid now fails (inner_of fails stock depth) stock from closed cuts left b.run (Ok u)) is (tells b.run b.at_run)))
+
+pub turn_goes : {C : Type 0} (stands held : Session → Type 0) (p q : Progress C) (old mid now : Option (List ℕ)) (fails : Option ℕ) (stock : List Filed) (depth : ℕ) (from : List ℕ) (closed : Bool) (cuts left : List Cut) (whole : Ran) (t : Turn)
+    → t ≡ turn.Took step.Goes → TakesOff cuts left → IsBehind stands p old mid (rest_of fails stock depth from cuts) whole → TurnTold stands held p q mid now fails stock depth from closed cuts left (Ok t)
     → IsBehind held q old now (rest_of fails stock depth from left) whole
-turn_goes stands held p q old mid now fails stock depth from cuts left whole t is takes b tells =
-    let took = subst (λ u. TakesCommand cuts left (Ok u)) is takes in
+turn_goes stands held p q old mid now fails stock depth from closed cuts left whole t is took b tells =
     let a = at_first stands p old mid fails stock depth from took.0 cuts left whole took.1 b in
     goes_behind stands held p q old mid now (first_of fails stock depth from took.0) (rest_of fails stock depth from left) whole a
-    ((subst (λ u. Turns held q mid now fails (inner_of fails stock depth) stock from cuts left a.run (Ok u)) is (tells a.run a.at_run)) took.0 took.1)
+    ((subst (λ u. Turns held q mid now fails (inner_of fails stock depth) stock from closed cuts left a.run (Ok u)) is (tells a.run a.at_run)) took.0 took.1)
 
-pub turn_ends : {C : Type 0} (stands held : Session → Type 0) (p q : Progress C) (old mid now : Option (List ℕ)) (fails : Option ℕ) (stock : List Filed) (depth : ℕ) (from : List ℕ) (cuts left : List Cut) (whole : Ran) (t : Turn) (e : End)
-    → t ≡ turn.Took (step.Ends e) → TakesCommand cuts left (Ok t) → IsBehind stands p old mid (rest_of fails stock depth from cuts) whole → TurnTold stands held p q mid now fails stock depth from cuts left (Ok t)
+pub turn_ends : {C : Type 0} (stands held : Session → Type 0) (p q : Progress C) (old mid now : Option (List ℕ)) (fails : Option ℕ) (stock : List Filed) (depth : ℕ) (from : List ℕ) (closed : Bool) (cuts left : List Cut) (whole : Ran) (t : Turn) (e : End)
+    → t ≡ turn.Took (step.Ends e) → TakesOff cuts left → IsBehind stands p old mid (rest_of fails stock depth from cuts) whole → TurnTold stands held p q mid now fails stock depth from closed cuts left (Ok t)
     → IsOver old now (status_of_end e) whole
-turn_ends stands held p q old mid now fails stock depth from cuts left whole t e is takes b tells =
-    let took = subst (λ u. TakesCommand cuts left (Ok u)) is takes in
+turn_ends stands held p q old mid now fails stock depth from closed cuts left whole t e is took b tells =
     let a = at_first stands p old mid fails stock depth from took.0 cuts left whole took.1 b in
     ends_behind stands p old mid now (status_of_end e) (first_of fails stock depth from took.0) (rest_of fails stock depth from left) whole a
-    ((subst (λ u. Turns held q mid now fails (inner_of fails stock depth) stock from cuts left a.run (Ok u)) is (tells a.run a.at_run)) took.0 took.1)
+    ((subst (λ u. Turns held q mid now fails (inner_of fails stock depth) stock from closed cuts left a.run (Ok u)) is (tells a.run a.at_run)) took.0 took.1)
 
-pub turn_opens : {C : Type 0} (stands held : Session → Type 0) (p q : Progress C) (old mid now : Option (List ℕ)) (fails : Option ℕ) (stock : List Filed) (depth : ℕ) (from : List ℕ) (cuts left : List Cut) (whole : Ran) (t : Turn) (file : Opened)
-    → t ≡ turn.Took (step.Opens file) → TakesCommand cuts left (Ok t) → IsBehind stands p old mid (rest_of fails stock depth from cuts) whole → TurnTold stands held p q mid now fails stock depth from cuts left (Ok t)
+pub turn_opens : {C : Type 0} (stands held : Session → Type 0) (p q : Progress C) (old mid now : Option (List ℕ)) (fails : Option ℕ) (stock : List Filed) (depth : ℕ) (from : List ℕ) (closed : Bool) (cuts left : List Cut) (whole : Ran) (t : Turn) (file : Opened)
+    → t ≡ turn.Took (step.Opens file) → TakesOff cuts left → IsBehind stands p old mid (rest_of fails stock depth from cuts) whole → TurnTold stands held p q mid now fails stock depth from closed cuts left (Ok t)
     → IsBehind held q old now (λ r. then_run (obeying whole_stage fails stock (depth - 1) file.name true file.bytes r) (rest_of fails stock depth from left)) whole
-turn_opens stands held p q old mid now fails stock depth from cuts left whole t file is takes b tells =
-    let took = subst (λ u. TakesCommand cuts left (Ok u)) is takes in
+turn_opens stands held p q old mid now fails stock depth from closed cuts left whole t file is took b tells =
     let a = at_first stands p old mid fails stock depth from took.0 cuts left whole took.1 b in
     opens_stream stands held p q old mid now fails stock depth from took.0 left whole file a
-    ((subst (λ u. Turns held q mid now fails (inner_of fails stock depth) stock from cuts left a.run (Ok u)) is (tells a.run a.at_run)) took.0 took.1)
+    ((subst (λ u. Turns held q mid now fails (inner_of fails stock depth) stock from closed cuts left a.run (Ok u)) is (tells a.run a.at_run)) took.0 took.1)
 
-pub turn_breaks : {C : Type 0} (stands held : Session → Type 0) (p q : Progress C) (old mid now : Option (List ℕ)) (fails : Option ℕ) (stock : List Filed) (depth : ℕ) (from : List ℕ) (cuts left : List Cut) (whole : Ran) (e : Fault)
-    → IsBehind stands p old mid (rest_of fails stock depth from cuts) whole → TurnTold stands held p q mid now fails stock depth from cuts left (Err e) → Breaks q.fetched old now fails whole e
-turn_breaks stands held p q old mid now fails stock depth from cuts left whole e b tells =
+pub turn_breaks : {C : Type 0} (stands held : Session → Type 0) (p q : Progress C) (old mid now : Option (List ℕ)) (fails : Option ℕ) (stock : List Filed) (depth : ℕ) (from : List ℕ) (closed : Bool) (cuts left : List Cut) (whole : Ran) (e : Fault)
+    → IsBehind stands p old mid (rest_of fails stock depth from cuts) whole → TurnTold stands held p q mid now fails stock depth from closed cuts left (Err e) → Breaks q.fetched old now fails whole e
+turn_breaks stands held p q old mid now fails stock depth from closed cuts left whole e b tells =
     rest_breaks stands p q.fetched old mid now fails (rest_of fails stock depth from cuts) whole e b (tells b.run b.at_run)
 
 -- ---- the answers of a file inside
@@ -151,15 +160,19 @@ file_breaks stands held p q old mid now fails stock depth name bytes later whole
 
 -- ---- the stream
 
-pub over_stream : (old now : Option (List ℕ)) (s : Status) (fails : Option ℕ) (stock : List Filed) (depth : ℕ) (from : List ℕ) (closed : Bool) (bytes : List ℕ) (cuts : List Cut) (r : Run)
-    → cuts ≡ cuts_of closed bytes → IsOver old now s (rest_of fails stock depth from cuts r) → IsOver old now s (obeying whole_stage fails stock depth from closed bytes r)
-over_stream old now s fails stock depth from closed bytes cuts r is over =
-    subst (IsOver old now s) (ap (λ cs. rest_of fails stock depth from cs r) is ∙ sym (stream_run fails stock depth from closed bytes r)) over
+-- what the commands tell that a cutter holds
+abbrev pub FedTold : {C : Type 0} → (Session → Type 0) → (Session → Type 0) → Progress C → Progress C → Option (List ℕ) → Option (List ℕ) → Option ℕ → List Filed → ℕ → List ℕ → Uncut → Uncut → Result Flow Fault → Type 0
+FedTold stands held p q mid now fails stock depth from old new result = (r : Run) → IsAt stands p r → (ends : Bool) (more : List ℕ) → MayFollow old.closed ends more
+    → FlowsTo held q mid now fails (rest_of fails stock depth from (left_behind old.closed (cuts_with new ends more))) (rest_of fails stock depth from (cuts_with old ends more) r) result
 
-pub breaks_stream : (n : ℕ) (old now : Option (List ℕ)) (fails : Option ℕ) (stock : List Filed) (depth : ℕ) (from : List ℕ) (closed : Bool) (bytes : List ℕ) (cuts : List Cut) (r : Run) (e : Fault)
-    → cuts ≡ cuts_of closed bytes → Breaks n old now fails (rest_of fails stock depth from cuts r) e → Breaks n old now fails (obeying whole_stage fails stock depth from closed bytes r) e
-breaks_stream n old now fails stock depth from closed bytes cuts r e is broke =
-    subst (λ x. Breaks n old now fails x e) (ap (λ cs. rest_of fails stock depth from cs r) is ∙ sym (stream_run fails stock depth from closed bytes r)) broke
+-- those of all bytes of a stream are its commands
+pub fed_told : {C : Type 0} (stands held : Session → Type 0) (p q : Progress C) (mid now : Option (List ℕ)) (fails : Option ℕ) (stock : List Filed) (depth : ℕ) (from : List ℕ) (old new : Uncut) (bytes : List ℕ) (result : Result Flow Fault)
+    → old.closed ≡ true → cuts_with old true [] ≡ cuts_of true bytes → FedTold stands held p q mid now fails stock depth from old new result → FileTold stands held p q mid now fails stock depth from bytes result
+fed_told stands held p q mid now fails stock depth from old new bytes result ended is tells = λ r at.
+    let all = tells r at true [] (subst (λ c. MayFollow c true []) (sym ended) (refl, refl)) in
+    let none = subst (λ c. FlowsTo held q mid now fails (rest_of fails stock depth from (left_behind c (cuts_with new true []))) (rest_of fails stock depth from (cuts_with old true []) r) result) ended all in
+    subst (λ x. Flows held q mid now fails x result) (ap (λ cs. rest_of fails stock depth from cs r) is ∙ sym (stream_run fails stock depth from true bytes r))
+    (flows_so held q mid now fails (rest_of fails stock depth from (cuts_with old true []) r) result none)
 
 -- ---- readiness
 

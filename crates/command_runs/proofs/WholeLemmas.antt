@@ -1,29 +1,29 @@
 -- What a whole run owes for the transcript.
-use Rattle.std.proofs.Common.{◌≡◌, ℕ, zero, suc, ◌+◌, ◌-◌, ◌<◌, ◌≤◌, ◌^◌, Bool, true, false, List, [], length, Option, Some, None, Result, Ok, Err, refl, sym, ap, subst, ◌∙◌, arith}
+use Rattle.std.proofs.Common.{◌≡◌, ℕ, suc, ◌-◌, ◌<◌, ◌^◌, Bool, true, false, List, [], ◌⊎◌, inl, inr, Option, Some, None, Result, Ok, Err, refl, sym, ap, subst, ◌∙◌, arith}
 use Rattle.std.proofs.lemmas.Grind.{common_steps}
-use Rattle.std.specs.Prelude.{if◌then◌else◌, IfSome, OnOk}
+use Rattle.std.specs.Prelude.{if◌then◌else◌, IfSome}
 use Rattle.soar_edge.specs.Outside.{Appends, AppendsSome, Rose}
 use Rattle.soar_edge.specs.declared.filed.Filed.{Filed}
 use Rattle.soar_edge.specs.declared.status.Status.{Status}
 use Rattle.soar_edge.specs.declared.status.Status.TheVariants as status
 use Rattle.defs_run.specs.CommandLine.{Options, script_of}
 use Rattle.defs_run.specs.Whole.{whole_stage}
-use Rattle.defs_run.specs.Runs.{Run, Ran, then_run}
+use Rattle.soar_edge.proofs.CallerLemmas.{appends_then}
+use Rattle.defs_run.specs.Runs.{Run, Ran, behind_text, then_run}
 use Rattle.defs_run.specs.Sessions.{Session}
 use Rattle.defs_run.specs.Sources.{obeying}
 use Rattle.defs_run.specs.Transcripts.{Transcript, files_run, first_run, input_run, standard_input, status_of, transcribed}
-use Rattle.command_runs.specs.Answers.{Answers, EndsAtFetch, IsComplete, IsLeft, IsLeftBy, IsTranscript, told_status}
-use Rattle.command_runs.specs.Causes.{Caused, Faults, Fetched}
+use Rattle.command_runs.specs.Answers.{Answers, EndsAtRead, IsComplete, IsLeft, IsLeftAs, IsTranscript, LeavesBy, StopsAtRead, told_status}
+use Rattle.command_runs.specs.Causes.{Caused, Faults}
 use Rattle.command_runs.specs.Following.{Breaks, Comes, Flows, IsAt, IsOn, IsOver, IsReadyFlow, RunsWhole, ended_by, status_of_end}
 use Rattle.command_runs.specs.Lengths.{IsTooLong}
-use Rattle.command_runs.specs.Whole.{IsAsked, commands_of, comes_along, comes_to_input, files_of, input_of, is_open, level_of, whole_run, whole_transcript}
+use Rattle.command_runs.specs.Whole.{IsAsked, asked_run, commands_of, comes_along, comes_to_input, files_of, front_run, input_of, is_open, level_of, whole_run, whole_transcript}
 use Rattle.command_runs.specs.declared.ends.End.{End}
 use Rattle.command_runs.specs.declared.ends.End.TheVariants as end
 use Rattle.command_runs.specs.declared.ends.Flow.{Flow}
 use Rattle.command_runs.specs.declared.ends.Flow.TheVariants as flow
 use Rattle.command_runs.specs.declared.fault.Broken.{Broken}
 use Rattle.command_runs.specs.declared.fault.Broken.TheVariants as broken
-use Rattle.command_runs.specs.declared.fault.Fault.{Fault}
 use Rattle.command_runs.specs.declared.fault.Fault.TheVariants as fault
 use Rattle.command_runs.specs.declared.progress.Progress.{Progress}
 use Rattle.command_runs.proofs.FlowLemmas.{all_is_some, breaks_behind, flows_next, some_behind}
@@ -31,10 +31,6 @@ use Rattle.command_runs.proofs.RunLemmas.{then_on}
 use Rattle.command_runs.proofs.LengthLemmas.{whole_long}
 
 -- ---- the transcript is that of the run
-
--- the run that the options ask for
-abbrev pub asked_run : Option ℕ → List Filed → List ℕ → Options → Ran
-asked_run fails stock input o = whole_run fails stock input o.generate o.files (first_run (level_of o.watch))
 
 transcribed_by : (fails : Option ℕ) (stock : List Filed) (input : List ℕ) (names : List (List ℕ)) (w g : Option ℕ)
     → (let start = first_run (elim w as (λ _. ℕ) [ None ↦ 1 | Some n ↦ n ]) in
@@ -118,23 +114,23 @@ headline_of held q old now before after x t how is below cause calm runs some =
     subst (λ h. IsTranscript old now (told_status h q.refused) t) (sym e)
     (subst (IsTranscript old now (told_status (Ok f) q.refused)) (sym is) (transcript_of held q old now None x f (subst (λ h. RunsWhole held q old now None x h) e runs))))
 
-answers_ok : (before after : Faults) (bytes : List ℕ) (left : Option (List ℕ)) (read : Bool) (old now : Option (List ℕ)) (t : Transcript) (f : Flow) (refused : Bool)
-    → after ≡ before → IsLeft read bytes left → IsTranscript old now (told_status (Ok f) refused) t → Answers before after bytes left read old now t (told_status (Ok f) refused)
-answers_ok before after bytes left read old now t flow.Goes true calm rest it = ((calm, it), rest)
-answers_ok before after bytes left read old now t flow.Goes false calm rest it = ((calm, it), rest)
-answers_ok before after bytes left read old now t (flow.Ends end.Done) refused calm rest it = ((calm, it), rest)
-answers_ok before after bytes left read old now t (flow.Ends end.Refusals) refused calm rest it = ((calm, it), rest)
-answers_ok before after bytes left read old now t (flow.Ends end.TooLong) refused calm rest it = (calm, it)
-answers_ok before after bytes left read old now t (flow.Ends end.Limit) refused calm rest it = (calm, it)
+answers_ok : (before after : Faults) (bytes : List ℕ) (left : Option (List ℕ)) (kept : Type 0) (old now : Option (List ℕ)) (t : Transcript) (f : Flow) (refused : Bool)
+    → after ≡ before → LeavesBy kept (Ok f) → IsTranscript old now (told_status (Ok f) refused) t → Answers before after bytes left kept old now t (told_status (Ok f) refused)
+answers_ok before after bytes left kept old now t flow.Goes true calm rest it = ((calm, it), rest)
+answers_ok before after bytes left kept old now t flow.Goes false calm rest it = ((calm, it), rest)
+answers_ok before after bytes left kept old now t (flow.Ends end.Done) refused calm rest it = ((calm, it), rest)
+answers_ok before after bytes left kept old now t (flow.Ends end.Refusals) refused calm rest it = ((calm, it), rest)
+answers_ok before after bytes left kept old now t (flow.Ends end.TooLong) refused calm rest it = (calm, it)
+answers_ok before after bytes left kept old now t (flow.Ends end.Limit) refused calm rest it = (calm, it)
 
-pub answers_of : {C : Type 0} (held : Session → Type 0) (q : Progress C) (old now left : Option (List ℕ)) (bytes : List ℕ) (read : Bool) (before after : Faults) (x : Ran) (t : Transcript) (how : Result Flow Broken) → t ≡ transcribed x → Caused before after how
-    → RunsWhole held q old now None x how → IsLeftBy read bytes left how → Answers before after bytes left read old now t (told_status how q.refused)
-answers_of held q old now left bytes read before after x t (Ok f) is cause runs rest =
-    answers_ok before after bytes left read old now t f q.refused cause rest (subst (IsTranscript old now (told_status (Ok f) q.refused)) (sym is) (transcript_of held q old now None x f runs))
-answers_of held q old now left bytes read before after x t (Err broken.Source) is cause runs rest = cause
-answers_of held q old now left bytes read before after x t (Err (broken.Run fault.Shelf)) is cause runs rest = cause
-answers_of held q old now left bytes read before after x t (Err (broken.Run fault.Sink)) is cause runs rest = cause
-answers_of held q old now left bytes read before after x t (Err (broken.Run fault.NoMemory)) is cause runs rest = cause
+pub answers_of : {C : Type 0} (held : Session → Type 0) (q : Progress C) (old now left : Option (List ℕ)) (bytes : List ℕ) (kept : Type 0) (before after : Faults) (x : Ran) (t : Transcript) (how : Result Flow Broken) → t ≡ transcribed x → Caused before after how
+    → RunsWhole held q old now None x how → LeavesBy kept how → Answers before after bytes left kept old now t (told_status how q.refused)
+answers_of held q old now left bytes kept before after x t (Ok f) is cause runs rest =
+    answers_ok before after bytes left kept old now t f q.refused cause rest (subst (IsTranscript old now (told_status (Ok f) q.refused)) (sym is) (transcript_of held q old now None x f runs))
+answers_of held q old now left bytes kept before after x t (Err broken.Source) is cause runs rest = cause
+answers_of held q old now left bytes kept before after x t (Err (broken.Run fault.Shelf)) is cause runs rest = cause
+answers_of held q old now left bytes kept before after x t (Err (broken.Run fault.Sink)) is cause runs rest = cause
+answers_of held q old now left bytes kept before after x t (Err (broken.Run fault.NoMemory)) is cause runs rest = cause
 
 front_of : {C : Type 0} (held : Session → Type 0) (q : Progress C) (old now : Option (List ℕ)) (fails : Option ℕ) (x : Ran) (how : Result Flow Broken) → RunsWhole held q old now fails x how → AppendsSome old now x.text
 front_of held q old now fails x (Ok flow.Goes) runs = all_is_some old now x.text runs.text
@@ -205,13 +201,78 @@ complete_of held q old now before after x t how is below cause calm runs free sh
     subst (λ h. IsComplete (told_status h q.refused)) (sym e)
     (complete_ok f q.refused t.status ((transcript_of held q old now None x f (subst (λ h. RunsWhole held q old now None x h) e runs)).status ∙ ap (λ (u : Transcript). u.status) (sym is)) free short))
 
--- ---- what is left of the input
+-- ---- the input
 
+-- the files, and the whole commands within a front of the input
+abbrev pub read_along : List Filed → List (List ℕ) → Run → List ℕ → Ran
+read_along stock names r taken = then_run (files_of None stock names r) (commands_of None stock false taken)
+
+-- what is left of it
+abbrev pub LeftAlong : List Filed → Option ℕ → List (List ℕ) → List ℕ → Option (List ℕ) → Run → Type 0
+LeftAlong stock generate names bytes left r =
+    IsLeftAs (comes_along stock generate names r) (is_open (whole_run None stock bytes generate names r)) (read_along stock names r) bytes left
+
+-- what is left, told of the words
 pub left_asked : (stock : List Filed) (o : Options) (stands : Session → Type 0) (generate : Option ℕ) (names : List (List ℕ)) (bytes : List ℕ) (left : Option (List ℕ)) (how : Result Flow Broken) → IsAsked stands o generate names
-    → IsLeftBy (comes_along stock generate names (first_run (level_of o.watch))) bytes left how → IsLeftBy (comes_to_input stock o) bytes left how
-unfolding comes_to_input
+    → LeavesBy (LeftAlong stock generate names bytes left (first_run (level_of o.watch))) how → LeavesBy (IsLeft stock o bytes left) how
+unfolding IsLeft comes_to_input front_run
 left_asked stock o stands generate names bytes left how asked rest =
-    subst (λ b. IsLeftBy b bytes left how) (ap (λ g. comes_along stock g names (first_run (level_of o.watch))) asked.script ∙ ap (λ ns. comes_along stock o.generate ns (first_run (level_of o.watch))) asked.files) rest
+    subst (λ ns. LeavesBy (LeftAlong stock o.generate ns bytes left (first_run (level_of o.watch))) how) asked.files
+    (subst (λ g. LeavesBy (LeftAlong stock g names bytes left (first_run (level_of o.watch))) how) asked.script rest)
+
+-- a read that failed, told of the words
+pub read_asked : (stock : List Filed) (o : Options) (stands : Session → Type 0) (generate : Option ℕ) (names : List (List ℕ)) (old now : Option (List ℕ)) (bytes : List ℕ) (left : Option (List ℕ)) (how : Result Flow Broken) → IsAsked stands o generate names
+    → StopsAtRead generate old now bytes left (read_along stock names (first_run (level_of o.watch))) how → StopsAtRead o.generate old now bytes left (λ taken. front_run stock taken o) how
+unfolding front_run
+read_asked stock o stands generate names old now bytes left how asked stops =
+    subst (λ ns. StopsAtRead o.generate old now bytes left (read_along stock ns (first_run (level_of o.watch))) how) asked.files
+    (subst (λ g. StopsAtRead g old now bytes left (read_along stock names (first_run (level_of o.watch))) how) asked.script stops)
+
+goes_no_read : (b : Bool) → status_of_end (ended_by b) ≡ status.ReadFault → ⊥
+goes_no_read true is = absurd (cc)
+goes_no_read false is = absurd (cc)
+
+end_no_read : (e : End) → status_of_end e ≡ status.ReadFault → ⊥
+end_no_read end.Done is = absurd (cc)
+end_no_read end.Refusals is = absurd (cc)
+end_no_read end.TooLong is = absurd (cc)
+end_no_read end.Limit is = absurd (cc)
+
+-- the answer tells that it was a read
+pub read_of : (generate : Option ℕ) (old now : Option (List ℕ)) (bytes : List ℕ) (left : Option (List ℕ)) (read : List ℕ → Ran) (how : Result Flow Broken) (refused : Bool) → StopsAtRead generate old now bytes left read how → told_status how refused ≡ status.ReadFault
+    → (generate ≡ None) × EndsAtRead old now bytes left read
+read_of generate old now bytes left read (Ok flow.Goes) refused stops is = absurd (goes_no_read refused is)
+read_of generate old now bytes left read (Ok (flow.Ends e)) refused stops is = absurd (end_no_read e is)
+read_of generate old now bytes left read (Err broken.Source) refused stops is = stops
+read_of generate old now bytes left read (Err (broken.Run fault.Shelf)) refused stops is = absurd (cc)
+read_of generate old now bytes left read (Err (broken.Run fault.Sink)) refused stops is = absurd (cc)
+read_of generate old now bytes left read (Err (broken.Run fault.NoMemory)) refused stops is = absurd (cc)
+
+-- ---- behind the files
+
+pub leaves_all : (kept : Type 0) (how : Result Flow Broken) → kept → LeavesBy kept how
+leaves_all kept (Ok flow.Goes) k = k
+leaves_all kept (Ok (flow.Ends end.Done)) k = k
+leaves_all kept (Ok (flow.Ends end.Refusals)) k = k
+leaves_all kept (Ok (flow.Ends end.TooLong)) k = tt
+leaves_all kept (Ok (flow.Ends end.Limit)) k = tt
+leaves_all kept (Err e) k = tt
+
+leaves_so : (kept other : Type 0) (how : Result Flow Broken) → (kept → other) → LeavesBy kept how → LeavesBy other how
+leaves_so kept other (Ok flow.Goes) f k = f k
+leaves_so kept other (Ok (flow.Ends end.Done)) f k = f k
+leaves_so kept other (Ok (flow.Ends end.Refusals)) f k = f k
+leaves_so kept other (Ok (flow.Ends end.TooLong)) f k = tt
+leaves_so kept other (Ok (flow.Ends end.Limit)) f k = tt
+leaves_so kept other (Err e) f k = tt
+
+left_then : (x : Ran) (g : List ℕ → Run → Ran) (bytes : List ℕ) (left : Option (List ℕ)) → x.run.ended ≡ None → (whole : Bool) → IsLeftAs true whole (λ taken. g taken x.run) bytes left → IsLeftAs true whole (λ taken. then_run x (g taken)) bytes left
+left_then x g bytes left goes true kept = kept
+left_then x g bytes left goes false kept = record { taken = kept.taken; rest = kept.rest; all = kept.all; left_is = kept.left_is; needed = by kept.needed }
+  where
+    by : (kept.rest ≡ []) ⊎ (is_open (g kept.taken x.run) ≡ false) → (kept.rest ≡ []) ⊎ (is_open (then_run x (g kept.taken)) ≡ false)
+    by (inl none) = inl none
+    by (inr over) = inr (ap is_open (then_on x (g kept.taken) goes) ∙ over)
 
 -- ---- for an input that tells its bytes
 
@@ -237,6 +298,12 @@ pub by_files : (Q : Ran → Type 0) (fails : Option ℕ) (stock : List Filed) (b
     → Q (then_run (files_of fails stock names r) (input_of fails stock bytes)) → Q (whole_run fails stock bytes generate names r)
 by_files Q fails stock bytes generate names r is q = subst (λ o. Q (whole_run fails stock bytes o names r)) (sym is) q
 
+pub left_none_asked : (stock : List Filed) (bytes : List ℕ) (generate : Option ℕ) (names : List (List ℕ)) (r : Run) (left : Option (List ℕ)) (how : Result Flow Broken) → generate ≡ None → LeavesBy (LeftAlong stock None names bytes left r) how → LeavesBy (LeftAlong stock generate names bytes left r) how
+left_none_asked stock bytes generate names r left how is rest = subst (λ g. LeavesBy (LeftAlong stock g names bytes left r) how) (sym is) rest
+
+pub read_none_asked : (generate : Option ℕ) (old now : Option (List ℕ)) (bytes : List ℕ) (left : Option (List ℕ)) (read : List ℕ → Ran) (how : Result Flow Broken) → generate ≡ None → StopsAtRead None old now bytes left read how → StopsAtRead generate old now bytes left read how
+read_none_asked generate old now bytes left read how is stops = subst (λ g. StopsAtRead g old now bytes left read how) (sym is) stops
+
 -- ---- files and then the input
 
 pub runs_next : {C : Type 0} (stands held : Session → Type 0) (p q : Progress C) (old mid now : Option (List ℕ)) (fails : Option ℕ) (x : Ran) (f : Run → Ran) (how : Result Flow Broken)
@@ -259,21 +326,37 @@ goes_flow held q old now fails x f is flows = subst (λ g. Flows held q old now 
 pub ends_flow : {C : Type 0} (held : Session → Type 0) (q : Progress C) (old now : Option (List ℕ)) (fails : Option ℕ) (x : Ran) (f : Flow) (e : End) → f ≡ flow.Ends e → Flows held q old now fails x (Ok f) → IsOver old now (status_of_end e) x
 ends_flow held q old now fails x f e is flows = subst (λ g. Flows held q old now fails x (Ok g)) is flows
 
--- an input that was read
-pub left_read : (x : Ran) (bytes : List ℕ) (left : Option (List ℕ)) (how : Result Flow Broken) → x.run.ended ≡ None → (length bytes ≤ 2 ^ 26 → OnOk how (left ≡ Some [])) → IsLeftBy (is_open x) bytes left how
-left_read x bytes left how goes read = subst (λ b. IsLeftBy b bytes left how) (sym (open_so x goes)) (by how read)
-  where
-    by : (h : Result Flow Broken) → (length bytes ≤ 2 ^ 26 → OnOk h (left ≡ Some [])) → IsLeftBy true bytes left h
-    by (Ok f) h = h
-    by (Err e) h = tt
+-- an input that was read, behind the files
+pub left_read : (x : Ran) (f : Run → Ran) (g : List ℕ → Run → Ran) (bytes : List ℕ) (left : Option (List ℕ)) (how : Result Flow Broken) → x.run.ended ≡ None
+    → LeavesBy (IsLeftAs true (is_open (f x.run)) (λ taken. g taken x.run) bytes left) how → LeavesBy (IsLeftAs (is_open x) (is_open (then_run x f)) (λ taken. then_run x (g taken)) bytes left) how
+left_read x f g bytes left how goes rest =
+    leaves_so _ _ how (λ kept. subst (λ b. IsLeftAs b (is_open (then_run x f)) (λ taken. then_run x (g taken)) bytes left) (sym (open_so x goes))
+    (subst (λ b. IsLeftAs true b (λ taken. then_run x (g taken)) bytes left) (sym (ap is_open (then_on x f goes)))
+    (left_then x g bytes left goes (is_open (f x.run)) kept))) rest
 
 -- one that was not
-pub left_alone : (x : Ran) (s : Status) (bytes : List ℕ) (left : Option (List ℕ)) (how : Result Flow Broken) → x.run.ended ≡ Some s → left ≡ Some bytes → IsLeftBy (is_open x) bytes left how
-left_alone x s bytes left how over same = subst (λ b. IsLeftBy b bytes left how) (sym (over_so x s over)) (by how)
-  where
-    by : (h : Result Flow Broken) → IsLeftBy false bytes left h
-    by (Ok f) = same
-    by (Err e) = tt
+pub left_alone : (x : Ran) (s : Status) (whole : Bool) (read : List ℕ → Ran) (bytes : List ℕ) (left : Option (List ℕ)) (how : Result Flow Broken) → x.run.ended ≡ Some s → left ≡ Some bytes → LeavesBy (IsLeftAs (is_open x) whole read bytes left) how
+left_alone x s whole read bytes left how over same = leaves_all _ how (subst (λ b. IsLeftAs b whole read bytes left) (sym (over_so x s over)) same)
+
+-- a read that failed, behind the files
+pub read_next : {C : Type 0} (stands : Session → Type 0) (p : Progress C) (old mid now : Option (List ℕ)) (x : Ran) (g : List ℕ → Run → Ran) (bytes : List ℕ) (left : Option (List ℕ)) (how : Result Flow Broken) → IsOn stands p old mid x
+    → StopsAtRead None mid now bytes left (λ taken. g taken x.run) how → StopsAtRead None old now bytes left (λ taken. then_run x (g taken)) how
+read_next stands p old mid now x g bytes left (Ok f) on stops = tt
+read_next stands p old mid now x g bytes left (Err (broken.Run e)) on stops = tt
+read_next stands p old mid now x g bytes left (Err broken.Source) on stops =
+    let e = stops.1 in
+    let same : then_run x (g e.taken) ≡ behind_text x.text (g e.taken x.run) = then_on x (g e.taken) on.at_run.goes in (
+      stops.0,
+      record {
+        taken = e.taken;
+        rest = e.rest;
+        all = e.all;
+        left_is = e.left_is;
+        few = e.few;
+        text = subst (λ (y : Ran). Appends old now y.text) (sym same) (appends_then old mid now x.text (g e.taken x.run).text on.text e.text);
+        goes = ap (λ (y : Ran). y.run.ended) same ∙ e.goes;
+      },
+    )
 
 pub told_itself : (left : Option (List ℕ)) (B : List ℕ → Type 0) → ((bytes : List ℕ) → left ≡ Some bytes → B bytes) → IfSome left B
 told_itself None B f = tt

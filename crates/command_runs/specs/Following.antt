@@ -1,5 +1,5 @@
 -- How far the code has gone along a run of the definitions.
-use Rattle.std.specs.Prelude.{◌≡◌, ℕ, zero, suc, ◌<◌, Bool, true, false, List, ◌∷◌, Option, Some, None, Result, Ok, Err}
+use Rattle.std.specs.Prelude.{◌≡◌, ℕ, zero, suc, ◌<◌, Bool, true, false, List, Option, Some, None, Result, Ok, Err}
 use Rattle.soar_edge.specs.Outside.{Appends, AppendsSome}
 use Rattle.soar_edge.specs.declared.fault.PutFault.{PutFault}
 use Rattle.soar_edge.specs.declared.fault.PutFault.TheVariants as put
@@ -90,6 +90,20 @@ abbrev pub RunsWhole : {C : Type 0} → (Session → Type 0) → Progress C → 
 RunsWhole stands p before now fails x (Ok how) = Flows stands p before now fails x (Ok how)
 RunsWhole stands p before now fails x (Err broken.Source) = AppendsSome before now x.text
 RunsWhole stands p before now fails x (Err (broken.Run e)) = Breaks p.fetched before now fails x e
+
+-- so much was written, and the rest of the whole is this
+pub record IsBehind {C : Type 0} (stands : Session → Type 0) (p : Progress C) (before now : Option (List ℕ)) (rest : Run → Ran) (whole : Ran) : Type 0 where
+  pub run : Run
+  pub done : List ℕ
+  pub appended : Appends before now done
+  pub at_run : IsAt stands p run
+  pub comes : whole ≡ behind_text done (rest run)
+
+-- of a part of the run that is carried out up to where the rest begins
+abbrev pub FlowsTo : {C : Type 0} → (Session → Type 0) → Progress C → Option (List ℕ) → Option (List ℕ) → Option ℕ → (Run → Ran) → Ran → Result Flow Fault → Type 0
+FlowsTo stands p before now fails rest whole (Ok flow.Goes) = IsBehind stands p before now rest whole
+FlowsTo stands p before now fails rest whole (Ok (flow.Ends e)) = IsOver before now (status_of_end e) whole
+FlowsTo stands p before now fails rest whole (Err e) = Breaks p.fetched before now fails whole e
 
 -- of one that says nothing by itself
 abbrev pub Passes : {C T : Type 0} → (Session → Type 0) → Progress C → Option (List ℕ) → Option (List ℕ) → Option ℕ → Ran → Result T Fault → Type 0

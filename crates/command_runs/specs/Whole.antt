@@ -1,5 +1,5 @@
 -- The whole run: the files of the command line and then the input, or a script in their place.
-use Rattle.std.specs.Prelude.{◌≡◌, ℕ, ◌^◌, Bool, true, false, nat_lt, List, [], ◌∷◌, take, length, Option, Some, None, if◌then◌else◌}
+use Rattle.std.specs.Prelude.{◌≡◌, ℕ, Bool, true, false, List, Option, Some, None}
 use Rattle.soar_edge.specs.declared.filed.Filed.{Filed}
 use Rattle.defs_run.specs.CommandLine.{Options, script_of}
 use Rattle.defs_run.specs.Whole.{whole_stage}
@@ -8,10 +8,6 @@ use Rattle.defs_run.specs.Sessions.{Session, first_session}
 use Rattle.defs_run.specs.Sources.{obeying, sourced}
 use Rattle.defs_run.specs.Transcripts.{Transcript, files_run, first_run, input_run, standard_input, with_options}
 use Rattle.command_runs.specs.Following.{inner_of}
-use Rattle.command_runs.specs.declared.ends.End.TheVariants as end
-use Rattle.command_runs.specs.declared.ends.Flow.{Flow}
-use Rattle.command_runs.specs.declared.ends.Flow.TheVariants as flow
-use Rattle.command_runs.specs.declared.script.Script.{Script}
 
 -- a file of the command line
 unfoldable pub file_of : Option ℕ → List Filed → List ℕ → Run → Ran
@@ -41,6 +37,10 @@ level_of (Some n) = n
 unfoldable pub whole_transcript : Option ℕ → List Filed → List ℕ → Options → Transcript
 whole_transcript fails stock input o = with_options whole_stage fails stock input o
 
+-- the run that the words ask for
+abbrev pub asked_run : Option ℕ → List Filed → List ℕ → Options → Ran
+asked_run fails stock input o = whole_run fails stock input o.generate o.files (first_run (level_of o.watch))
+
 -- what is asked for, and what carries commands out stands for the first session
 pub record IsAsked (stands : Session → Type 0) (o : Options) (generate : Option ℕ) (names : List (List ℕ)) : Type 0 where
   pub script : generate ≡ o.generate
@@ -58,13 +58,6 @@ comes_along stock (Some n) names r = false
 unfoldable pub comes_to_input : List Filed → Options → Bool
 comes_to_input stock o = comes_along stock o.generate o.files (first_run (level_of o.watch))
 
--- the part of an input that is run: all, or the first 64 MiB of a longer one
-pub record IsFront (input : List ℕ) (s : Script) : Type 0 where
-  pub long : s.too_long ≡ nat_lt (2 ^ 26) (length input)
-  pub text : s.text ≡ (if nat_lt (2 ^ 26) (length input) then take (2 ^ 26) input else input)
-
--- how a run goes on behind an input, or behind the first 64 MiB of a longer one
-abbrev pub closed_flow : Bool → Flow → Flow
-closed_flow true flow.Goes = flow.Ends end.TooLong
-closed_flow false flow.Goes = flow.Goes
-closed_flow too_long (flow.Ends e) = flow.Ends e
+-- the files, and the whole commands within a front of the input
+unfoldable pub front_run : List Filed → List ℕ → Options → Ran
+front_run stock taken o = then_run (files_of None stock o.files (first_run (level_of o.watch))) (commands_of None stock false taken)

@@ -82,7 +82,6 @@ fn obey_file<C: Carrier + Drop, F: Shelf, O: Sink>(
             alloc,
             DEPTH - 1,
             file.name.as_str(),
-            true,
             file.bytes.as_slice(),
             progress,
             files,

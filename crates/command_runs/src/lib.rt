@@ -9,7 +9,6 @@ mod input;
 mod opening;
 mod progress;
 mod reading;
-mod script;
 mod step;
 mod stream;
 mod turn;

@@ -1,11 +1,10 @@
-ghost use Rattle.std.specs.Prelude.{◌≡◌, ◌+◌, ◌-◌, ◌^◌, ◌<◌, ◌≤◌, true, length, IfOk, IfSome};
-ghost use Rattle.command_runs.specs.Reading.{InputCause, ReadsMore, ReadsAll};
+// The input, read piece by piece.
+ghost use Rattle.std.specs.Prelude.{◌≡◌, ◌+◌, ◌-◌, ◌^◌, ◌<◌, ◌≤◌, false, length, Ok, Err, IfOk, IfSome, IsErr, OnErr, OnOk};
+ghost use Rattle.command_runs.specs.Reading.{FeedsPiece, InputCause, IsFedWith, ReadsMore, is_end};
 
-use soar_edge::Source;
-use soar_sym::List;
-use std::alloc::Global;
+use soar_edge::{Cutter, Source};
 
-/// The most bytes of input that are run, 64 MiB. One read more tells that there are more.
+/// The most bytes of input that are run, 64 MiB.
 const MOST_INPUT: usize = 67_108_864;
 
 /// The most bytes of one read.
@@ -18,51 +17,84 @@ pub enum InputFault {
     NoMemory,
 }
 
-/// What was read of the input: all of it where `is_whole`, else a front of more than 64 MiB.
-#[derive(Drop)]
-pub struct Input {
-    pub text: List<u8>,
-    pub is_whole: bool,
+/// What a read of the input brought.
+#[derive(Clone, Copy, PartialEq, Eq)]
+pub enum Came {
+    /// Some bytes, all within the first 64 MiB.
+    Bytes,
+    /// Some bytes, of which one is behind the first 64 MiB.
+    TooMany,
+    /// No bytes, since it has ended.
+    Nothing,
 }
 
-/// Reads the input to its end, or until it is too long.
-pub fn read_all<I: Source>(alloc: Global, input: &mut I) -> Result<Input, InputFault>
-    requires { I.faults input.old < 2 ^ 64 - 1 }
-    ensures bytes { IfSome (I.left input.old) (λ left. ReadsAll left (I.left input.new) result) }
-    ensures short { IfOk result (λ input. input.is_whole ≡ true → length input.text ≤ 2 ^ 26) }
-    ensures cause { InputCause (I.faults input.old) (I.faults input.new) result }
-{
-    let mut text = List::new(alloc);
-    'reading: while text.len() <= MOST_INPUT {
-        if take_more(input, &mut text)? == 0 {
-            return Ok(Input {
-                text,
-                is_whole: true,
-            });
-        }
-    }
-    Ok(Input {
-        text,
-        is_whole: false,
-    })
-}
-
-/// Reads some more of the input, and answers how many bytes came.
-fn take_more<I: Source>(input: &mut I, text: &mut List<u8>) -> Result<usize, InputFault>
-    ensures bytes { IfSome (I.left input.old) (λ left. ReadsMore left (I.left input.new) text.old text.new result) }
-    ensures length { IfOk result (λ count. length text.new ≡ length text.old + count) }
-    ensures few { IfOk result (λ count. count ≤ ROOM) }
+/// Reads some more of the input, and feeds it to a cutter: what is within the first 64 MiB. `taken` counts what was fed.
+pub fn feed_more<I: Source>(
+    input: &mut I,
+    cutter: &mut Cutter,
+    taken: &mut usize,
+) -> Result<Came, InputFault>
+    requires open { cutter.old.closed ≡ false }
+    requires count { cutter.old.fed ≡ taken.old }
+    requires few { taken.old ≤ 2 ^ 26 }
+    ensures bytes { IfSome (I.left input.old) (λ left. ReadsMore left (I.left input.new) cutter.old cutter.new taken.old taken.new result) }
+    ensures few { taken.new ≤ 2 ^ 26 }
+    ensures count { OnOk result (cutter.new.fed ≡ taken.new) }
+    ensures closed { IfOk result (λ came. cutter.new.closed ≡ is_end came) }
+    ensures grown { result ≡ Ok Came.Bytes → taken.old < taken.new }
     ensures cause { InputCause (I.faults input.old) (I.faults input.new) result }
 {
     let mut room = [0u8; ROOM];
     match input.take(&mut room) {
         Ok(count) => {
             let (piece, _) = room.as_slice().split_at(count);
-            match text.extend_from_slice(piece) {
-                Ok(()) => Ok(count),
-                Err(_) => Err(InputFault::NoMemory),
-            }
+            feed_piece(piece, cutter, taken)
         }
         Err(_) => Err(InputFault::Failed),
+    }
+}
+
+/// Feeds what a read brought, or a front of it where all would be too much, or says that there is no more.
+fn feed_piece(piece: &[u8], cutter: &mut Cutter, taken: &mut usize) -> Result<Came, InputFault>
+    requires open { cutter.old.closed ≡ false }
+    requires count { cutter.old.fed ≡ taken.old }
+    requires few { taken.old ≤ 2 ^ 26 }
+    ensures bytes { FeedsPiece piece.now cutter.old cutter.new taken.old taken.new result }
+    ensures few { taken.new ≤ 2 ^ 26 }
+    ensures count { OnOk result (cutter.new.fed ≡ taken.new) }
+    ensures closed { IfOk result (λ came. cutter.new.closed ≡ is_end came) }
+    ensures grown { result ≡ Ok Came.Bytes → taken.old < taken.new }
+    ensures memory { IsErr result → result ≡ Err InputFault.NoMemory }
+{
+    if piece.is_empty() {
+        cutter.close();
+        return Ok(Came::Nothing);
+    }
+    let within = MOST_INPUT - *taken;
+    if piece.len() > within {
+        let (front, _) = piece.split_at(within);
+        feed_front(front, cutter, taken)?;
+        return Ok(Came::TooMany);
+    }
+    feed_front(piece, cutter, taken)?;
+    Ok(Came::Bytes)
+}
+
+/// Feeds some bytes, and counts them.
+fn feed_front(front: &[u8], cutter: &mut Cutter, taken: &mut usize) -> Result<(), InputFault>
+    requires open { cutter.old.closed ≡ false }
+    requires count { cutter.old.fed ≡ taken.old }
+    requires few { taken.old + length front.now ≤ 2 ^ 26 }
+    ensures fed { OnOk result (IsFedWith cutter.old cutter.new front.now) }
+    ensures grown { OnOk result (taken.new ≡ taken.old + length front.now) }
+    ensures same { OnErr result (taken.new ≡ taken.old) }
+    ensures memory { IsErr result → result ≡ Err InputFault.NoMemory }
+{
+    match cutter.feed(front) {
+        Ok(()) => {
+            *taken += front.len();
+            Ok(())
+        }
+        Err(_) => Err(InputFault::NoMemory),
     }
 }

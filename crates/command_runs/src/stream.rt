@@ -1,13 +1,14 @@
 // The commands of a stream, and of the files inside.
-ghost use Rattle.std.specs.Prelude.{◌≡◌, ◌-◌, ◌^◌, ◌<◌, ◌≤◌, [], List as ListOf, ℕ, Option, Some, length, IfOk};
-ghost use Rattle.soar_edge.specs.Cuts.{cuts_with};
+ghost use Rattle.std.specs.Prelude.{◌≡◌, ◌-◌, ◌^◌, ◌<◌, ◌≤◌, [], false, true, Bool, List as ListOf, ℕ, Option, Some, length, IfOk};
+ghost use Rattle.soar_edge.specs.Cuts.{MayFollow, cuts_with};
 ghost use Rattle.soar_edge.specs.Cutting.{cuts_of};
 ghost use Rattle.soar_edge.specs.declared.filed.Filed.{Filed};
 ghost use Rattle.defs_run.specs.Whole.{whole_stage};
 ghost use Rattle.defs_run.specs.Runs.{Run};
-ghost use Rattle.defs_run.specs.Sources.{obeying};
+ghost use Rattle.defs_run.specs.Sources.{cuts_run, obeying};
 ghost use Rattle.command_runs.specs.Causes.{Fetched, ShelfCause, SinkCause};
-ghost use Rattle.command_runs.specs.Following.{Comes, Flows, IsAt, IsReadyFlow};
+ghost use Rattle.command_runs.specs.Following.{Comes, Flows, FlowsTo, IsAt, IsReadyFlow, inner_of};
+ghost use Rattle.command_runs.specs.Turning.{Waits, left_behind};
 
 use crate::carrier::Carrier;
 use crate::ends::{Flow, Step};
@@ -18,13 +19,12 @@ use soar_edge::{Cutter, Shelf, Sink};
 use soar_sym::NoMemory;
 use std::alloc::Global;
 
-/// Carries out the commands of a source, inside which files may be read so many deep, and writes what each says before
-/// the next begins. `closed` says that the source ends behind these bytes.
+/// Carries out the commands of a source that ends behind these bytes, inside which files may be read so many deep, and
+/// writes what each says before the next begins.
 pub fn obey_stream<C: Carrier + Drop, F: Shelf, O: Sink>(
     alloc: Global,
     depth: u32,
     source: &str,
-    closed: bool,
     bytes: &[u8],
     progress: &mut Progress<C>,
     files: &mut F,
@@ -35,29 +35,61 @@ pub fn obey_stream<C: Carrier + Drop, F: Shelf, O: Sink>(
     requires shelf { F.faults files.old < 2 ^ 64 - 1 }
     requires sink { O.faults out.old < 2 ^ 64 - 1 }
     ensures flow { (stock : ListOf Filed) → F.files files.old ≡ Some stock → (fails : Option ℕ) → Comes fails progress.new.fetched → (r : Run) → IsAt (C.stands progress.old.carrier) progress.old r →
-        Flows (C.stands progress.new.carrier) progress.new (O.written out.old) (O.written out.new) fails (obeying whole_stage fails stock depth source.now closed bytes.now r) result }
+        Flows (C.stands progress.new.carrier) progress.new (O.written out.old) (O.written out.new) fails (obeying whole_stage fails stock depth source.now true bytes.now r) result }
     ensures ready { IsReadyFlow (C.ready progress.new.carrier) result }
     ensures fetched { Fetched progress.old.fetched progress.new.fetched (F.fetched files.old) (F.fetched files.new) }
     ensures stock { F.files files.new ≡ F.files files.old }
     ensures shelf { ShelfCause (F.faults files.old) (F.faults files.new) result }
     ensures sink { SinkCause (O.faults out.old) (O.faults out.new) result }
 {
-    let mut cutter = match fed_cutter(alloc, closed, bytes) {
-        Ok(cutter) => cutter,
-        Err(_) => return Err(Fault::NoMemory),
-    };
+    match fed_cutter(alloc, bytes) {
+        Ok(mut cutter) => obey_fed(alloc, depth, source, &mut cutter, progress, files, out),
+        Err(_) => Err(Fault::NoMemory),
+    }
+}
+
+/// Carries out the commands of a source that are whole in what a cutter was fed, and writes what each says before the
+/// next begins.
+pub fn obey_fed<C: Carrier + Drop, F: Shelf, O: Sink>(
+    alloc: Global,
+    depth: u32,
+    source: &str,
+    cutter: &mut Cutter,
+    progress: &mut Progress<C>,
+    files: &mut F,
+    out: &mut O,
+) -> Result<Flow, Fault>
+    requires ready { C.ready progress.old.carrier }
+    requires shelf { F.faults files.old < 2 ^ 64 - 1 }
+    requires sink { O.faults out.old < 2 ^ 64 - 1 }
+    ensures flow { (stock : ListOf Filed) → F.files files.old ≡ Some stock → (fails : Option ℕ) → Comes fails progress.new.fetched → (r : Run) → IsAt (C.stands progress.old.carrier) progress.old r → (ends : Bool) (more : ListOf ℕ) → MayFollow cutter.old.closed ends more →
+        FlowsTo (C.stands progress.new.carrier) progress.new (O.written out.old) (O.written out.new) fails
+        (cuts_run whole_stage (inner_of fails stock depth) fails stock source.now (left_behind cutter.old.closed (cuts_with cutter.new ends more)))
+        (cuts_run whole_stage (inner_of fails stock depth) fails stock source.now (cuts_with cutter.old ends more) r) result }
+    ensures waits { Waits cutter.old.closed (cuts_with cutter.new false []) result }
+    ensures fed { cutter.new.fed ≡ cutter.old.fed }
+    ensures closed { cutter.new.closed ≡ cutter.old.closed }
+    ensures ready { IsReadyFlow (C.ready progress.new.carrier) result }
+    ensures fetched { Fetched progress.old.fetched progress.new.fetched (F.fetched files.old) (F.fetched files.new) }
+    ensures stock { F.files files.new ≡ F.files files.old }
+    ensures shelf { ShelfCause (F.faults files.old) (F.faults files.new) result }
+    ensures sink { SinkCause (O.faults out.old) (O.faults out.new) result }
+{
     'commands: loop {
-        match next_turn(alloc, depth, &mut cutter, source, progress, files, out) {
+        match next_turn(alloc, depth, cutter, source, progress, files, out) {
             Ok(Turn::Last(flow)) => return Ok(flow),
             Ok(Turn::Took(Step::Goes)) => {}
             Ok(Turn::Took(Step::Ends(end))) => return Ok(Flow::Ends(end)),
             Ok(Turn::Took(Step::Opens(file))) => {
-                match obey_stream(
+                let mut inside = match fed_cutter(alloc, file.bytes.as_slice()) {
+                    Ok(inside) => inside,
+                    Err(_) => return Err(Fault::NoMemory),
+                };
+                match obey_fed(
                     alloc,
                     depth - 1,
                     file.name.as_str(),
-                    true,
-                    file.bytes.as_slice(),
+                    &mut inside,
                     progress,
                     files,
                     out,
@@ -72,15 +104,14 @@ pub fn obey_stream<C: Carrier + Drop, F: Shelf, O: Sink>(
     }
 }
 
-/// A cutter that was fed the bytes of a stream, and closed where there is no more.
-fn fed_cutter(alloc: Global, closed: bool, bytes: &[u8]) -> Result<Cutter, NoMemory>
+/// A cutter that was fed all the bytes of a stream.
+fn fed_cutter(alloc: Global, bytes: &[u8]) -> Result<Cutter, NoMemory>
     requires { length bytes.now < 2 ^ 63 }
-    ensures cuts { IfOk result (λ cutter. cuts_with cutter cutter.closed [] ≡ cuts_of closed bytes.now) }
+    ensures cuts { IfOk result (λ cutter. cuts_with cutter true [] ≡ cuts_of true bytes.now) }
+    ensures closed { IfOk result (λ cutter. cutter.closed ≡ true) }
 {
     let mut cutter = Cutter::new(alloc)?;
     cutter.feed(bytes)?;
-    if closed {
-        cutter.close();
-    }
+    cutter.close();
     Ok(cutter)
 }

@@ -1,14 +1,14 @@
 // A whole run, and how it ends.
-ghost use Rattle.std.specs.Prelude.{◌≡◌, ◌≢◌, ◌⊎◌, ◌-◌, ◌^◌, ◌<◌, List as ListOf, ℕ, Option, Some, None, IfSome, option_map};
+ghost use Rattle.std.specs.Prelude.{◌≡◌, ◌≢◌, ◌⊎◌, ◌-◌, ◌^◌, ◌<◌, false, List as ListOf, ℕ, Option, Some, None, IfSome};
 ghost use Rattle.soar_edge.specs.Outside.{AppendsSome, Rose};
 ghost use Rattle.soar_edge.specs.declared.filed.Filed.{Filed};
 ghost use Rattle.defs_run.specs.CommandLine.{Options};
 ghost use Rattle.defs_run.specs.Runs.{Run, then_run};
-ghost use Rattle.command_runs.specs.Answers.{Answers, EndsAtFetch, IsComplete, IsLeftBy, IsTranscript, fault_status, told_status};
+ghost use Rattle.command_runs.specs.Answers.{Answers, EndsAtFetch, EndsAtRead, IsComplete, IsLeft, IsLeftAs, IsTranscript, LeavesBy, StopsAtRead, fault_status, told_status};
 ghost use Rattle.command_runs.specs.Causes.{Caused, Fetched};
 ghost use Rattle.command_runs.specs.Following.{Comes, IsAt, RunsWhole, status_of_end};
 ghost use Rattle.command_runs.specs.Lengths.{IsTooLong};
-ghost use Rattle.command_runs.specs.Whole.{IsAsked, comes_along, comes_to_input, files_of, input_of, is_open, whole_run, whole_transcript};
+ghost use Rattle.command_runs.specs.Whole.{IsAsked, comes_along, commands_of, files_of, front_run, input_of, is_open, whole_run, whole_transcript};
 
 use crate::carrier::Carrier;
 use crate::ends::{End, Flow, ended_by};
@@ -41,12 +41,14 @@ pub fn run_whole<C: Carrier + Drop, I: Source, F: Shelf, O: Sink>(
     ensures answers { IfSome (I.left input.old) (λ bytes. (stock : ListOf Filed) → F.files files.old ≡ Some stock → (o : Options) → IsAsked (C.stands carrier) o generate names.now
         → Answers (record { source = I.faults input.old; shelf = F.faults files.old; sink = O.faults out.old })
         (record { source = I.faults input.new; shelf = F.faults files.new; sink = O.faults out.new })
-        bytes (I.left input.new) (comes_to_input stock o) (O.written out.old) (O.written out.new) (whole_transcript None stock bytes o) result) }
+        bytes (I.left input.new) (IsLeft stock o bytes (I.left input.new)) (O.written out.old) (O.written out.new) (whole_transcript None stock bytes o) result) }
     ensures prefix { IfSome (I.left input.old) (λ bytes. (stock : ListOf Filed) → F.files files.old ≡ Some stock → (o : Options) → IsAsked (C.stands carrier) o generate names.now
         → AppendsSome (O.written out.old) (O.written out.new) (whole_transcript None stock bytes o).text) }
     ensures before_fetch { IfSome (I.left input.old) (λ bytes. (stock : ListOf Filed) → F.files files.old ≡ Some stock → (o : Options) → IsAsked (C.stands carrier) o generate names.now
         → (n : ℕ) → n < 2 ^ 63 → F.fetched files.old ≡ Some n → result ≡ Status.FileFault
         → EndsAtFetch (O.written out.old) (O.written out.new) n (F.fetched files.new) (λ number. whole_transcript (Some number) stock bytes o)) }
+    ensures before_read { IfSome (I.left input.old) (λ bytes. (stock : ListOf Filed) → F.files files.old ≡ Some stock → (o : Options) → IsAsked (C.stands carrier) o generate names.now
+        → result ≡ Status.ReadFault → (o.generate ≡ None) × EndsAtRead (O.written out.old) (O.written out.new) bytes (I.left input.new) (λ taken. front_run stock taken o)) }
     ensures too_long { IfSome (I.left input.old) (λ bytes. (stock : ListOf Filed) → F.files files.old ≡ Some stock → (o : Options) → IsAsked (C.stands carrier) o generate names.now
         → result ≡ Status.TooLong → IsTooLong o.generate stock bytes) }
     ensures complete { IfSome (I.left input.old) (λ bytes. (stock : ListOf Filed) → F.files files.old ≡ Some stock → (o : Options) → IsAsked (C.stands carrier) o generate names.now
@@ -123,7 +125,9 @@ fn obey_whole<C: Carrier + Drop, I: Source, F: Shelf, O: Sink>(
     ensures flow { IfSome (I.left input.old) (λ bytes. (stock : ListOf Filed) → F.files files.old ≡ Some stock → (fails : Option ℕ) → Comes fails progress.new.fetched → (r : Run) → IsAt (C.stands progress.old.carrier) progress.old r →
         RunsWhole (C.stands progress.new.carrier) progress.new (O.written out.old) (O.written out.new) fails (whole_run fails stock bytes generate names.now r) result) }
     ensures left { IfSome (I.left input.old) (λ bytes. (stock : ListOf Filed) → F.files files.old ≡ Some stock → (r : Run) → IsAt (C.stands progress.old.carrier) progress.old r →
-        IsLeftBy (comes_along stock generate names.now r) bytes (I.left input.new) result) }
+        LeavesBy (IsLeftAs (comes_along stock generate names.now r) (is_open (whole_run None stock bytes generate names.now r)) (λ taken. then_run (files_of None stock names.now r) (commands_of None stock false taken)) bytes (I.left input.new)) result) }
+    ensures before_read { IfSome (I.left input.old) (λ bytes. (stock : ListOf Filed) → F.files files.old ≡ Some stock → (r : Run) → IsAt (C.stands progress.old.carrier) progress.old r →
+        StopsAtRead generate (O.written out.old) (O.written out.new) bytes (I.left input.new) (λ taken. then_run (files_of None stock names.now r) (commands_of None stock false taken)) result) }
     ensures fetched { Fetched progress.old.fetched progress.new.fetched (F.fetched files.old) (F.fetched files.new) }
     ensures cause { Caused (record { source = I.faults input.old; shelf = F.faults files.old; sink = O.faults out.old })
         (record { source = I.faults input.new; shelf = F.faults files.new; sink = O.faults out.new }) result }
@@ -153,7 +157,9 @@ fn obey_all<C: Carrier + Drop, I: Source, F: Shelf, O: Sink>(
     ensures flow { IfSome (I.left input.old) (λ bytes. (stock : ListOf Filed) → F.files files.old ≡ Some stock → (fails : Option ℕ) → Comes fails progress.new.fetched → (r : Run) → IsAt (C.stands progress.old.carrier) progress.old r →
         RunsWhole (C.stands progress.new.carrier) progress.new (O.written out.old) (O.written out.new) fails (then_run (files_of fails stock names.now r) (input_of fails stock bytes)) result) }
     ensures left { IfSome (I.left input.old) (λ bytes. (stock : ListOf Filed) → F.files files.old ≡ Some stock → (r : Run) → IsAt (C.stands progress.old.carrier) progress.old r →
-        IsLeftBy (is_open (files_of None stock names.now r)) bytes (I.left input.new) result) }
+        LeavesBy (IsLeftAs (is_open (files_of None stock names.now r)) (is_open (then_run (files_of None stock names.now r) (input_of None stock bytes))) (λ taken. then_run (files_of None stock names.now r) (commands_of None stock false taken)) bytes (I.left input.new)) result) }
+    ensures before_read { IfSome (I.left input.old) (λ bytes. (stock : ListOf Filed) → F.files files.old ≡ Some stock → (r : Run) → IsAt (C.stands progress.old.carrier) progress.old r →
+        StopsAtRead None (O.written out.old) (O.written out.new) bytes (I.left input.new) (λ taken. then_run (files_of None stock names.now r) (commands_of None stock false taken)) result) }
     ensures fetched { Fetched progress.old.fetched progress.new.fetched (F.fetched files.old) (F.fetched files.new) }
     ensures cause { Caused (record { source = I.faults input.old; shelf = F.faults files.old; sink = O.faults out.old })
         (record { source = I.faults input.new; shelf = F.faults files.new; sink = O.faults out.new }) result }

@@ -9,12 +9,12 @@ use Rattle.defs_run.specs.CommandLine.{Options}
 use Rattle.defs_run.specs.Whole.{whole_stage}
 use Rattle.defs_run.specs.Sessions.{Session, first_session}
 use Rattle.defs_run.specs.Transcripts.{Transcript, by_options}
-use Rattle.command_runs.specs.Answers.{Answers, EndsAtFetch, IsComplete, IsTranscript}
+use Rattle.command_runs.specs.Answers.{Answers, EndsAtFetch, EndsAtRead, IsComplete, IsLeft, IsTranscript}
 use Rattle.command_runs.specs.Causes.{Faults}
 use Rattle.command_runs.specs.Lengths.{IsTooLong}
-use Rattle.command_runs.specs.Whole.{IsAsked, comes_to_input, level_of, whole_transcript}
+use Rattle.command_runs.specs.Whole.{IsAsked, front_run, level_of, whole_transcript}
 use Rattle.command_words.specs.Seen.{options_seen}
-use Rattle.soar_run.specs.Asked.{IsLongBy, comes_by}
+use Rattle.soar_run.specs.Asked.{EndsAtReadFor, IsLeftFor, IsLongBy}
 use Rattle.soar_run.specs.Spoken.{StandsFor}
 use Rattle.soar_run.specs.declared.top.Start.{Start}
 
@@ -36,12 +36,12 @@ headline_by (Some bytes) files asked o words old now answer before after is asks
     subst (IsTranscript old now answer) (transcript_by None stock bytes o words is) (tells stock told o asks source shelf sink some)
 
 pub answers_by : (left rest : Option (List ℕ)) (files : Option (List Filed)) (asked : Options → Type 0) (o : Options) (words : Option Options) (old now : Option (List ℕ)) (answer : Status) (before after : Faults) → Some o ≡ words → asked o
-    → Tells left files asked (λ bytes stock p. Answers before after bytes rest (comes_to_input stock p) old now (whole_transcript None stock bytes p) answer)
-    → IfSome left (λ bytes. (stock : List Filed) → files ≡ Some stock → Answers before after bytes rest (comes_by stock words) old now (by_options whole_stage None stock bytes words) answer)
+    → Tells left files asked (λ bytes stock p. Answers before after bytes rest (IsLeft stock p bytes rest) old now (whole_transcript None stock bytes p) answer)
+    → IfSome left (λ bytes. (stock : List Filed) → files ≡ Some stock → Answers before after bytes rest (IsLeftFor stock bytes rest words) old now (by_options whole_stage None stock bytes words) answer)
 answers_by None rest files asked o words old now answer before after is asks tells = tt
 answers_by (Some bytes) rest files asked o words old now answer before after is asks tells = λ stock told.
-    subst (λ t. Answers before after bytes rest (comes_by stock words) old now t answer) (transcript_by None stock bytes o words is)
-    (subst (λ w. Answers before after bytes rest (comes_by stock w) old now (whole_transcript None stock bytes o) answer) is (tells stock told o asks))
+    subst (λ t. Answers before after bytes rest (IsLeftFor stock bytes rest words) old now t answer) (transcript_by None stock bytes o words is)
+    (subst (λ w. Answers before after bytes rest (IsLeftFor stock bytes rest w) old now (whole_transcript None stock bytes o) answer) is (tells stock told o asks))
 
 pub prefix_by : (left : Option (List ℕ)) (files : Option (List Filed)) (asked : Options → Type 0) (o : Options) (words : Option Options) (old now : Option (List ℕ)) → Some o ≡ words → asked o
     → Tells left files asked (λ bytes stock p. AppendsSome old now (whole_transcript None stock bytes p).text)
@@ -61,6 +61,12 @@ fetch_by None files asked o words old now answer first last is asks tells = tt
 fetch_by (Some bytes) files asked o words old now answer first last is asks tells = λ stock told n small counts fault.
     fetch_at old now n last (λ number. whole_transcript (Some number) stock bytes o) (λ number. by_options whole_stage (Some number) stock bytes words) (λ number. transcript_by (Some number) stock bytes o words is)
     (tells stock told o asks n small counts fault)
+
+pub read_by : (left rest : Option (List ℕ)) (files : Option (List Filed)) (asked : Options → Type 0) (o : Options) (words : Option Options) (old now : Option (List ℕ)) (answer : Status) → Some o ≡ words → asked o
+    → Tells left files asked (λ bytes stock p. answer ≡ status.ReadFault → (p.generate ≡ None) × EndsAtRead old now bytes rest (λ taken. front_run stock taken p))
+    → IfSome left (λ bytes. (stock : List Filed) → files ≡ Some stock → answer ≡ status.ReadFault → EndsAtReadFor stock old now bytes rest words)
+read_by None rest files asked o words old now answer is asks tells = tt
+read_by (Some bytes) rest files asked o words old now answer is asks tells = λ stock told fault. subst (EndsAtReadFor stock old now bytes rest) is (tells stock told o asks fault)
 
 pub complete_by : (left : Option (List ℕ)) (files : Option (List Filed)) (asked : Options → Type 0) (o : Options) (words : Option Options) (answer : Status) (before after : Faults) → Some o ≡ words → asked o
     → Tells left files asked (λ bytes stock p. ((whole_transcript None stock bytes p).status ≡ status.Limit → ⊥) → ((whole_transcript None stock bytes p).status ≡ status.TooLong → ⊥)

@@ -8,7 +8,7 @@ ghost use Rattle.command_runs.specs.Answers.{Answers, EndsAtFetch, IsComplete, I
 ghost use Rattle.command_runs.specs.Whole.{level_of};
 ghost use Rattle.defs_run.specs.Sessions.{first_session};
 ghost use Rattle.command_words.specs.Seen.{options_seen};
-ghost use Rattle.soar_run.specs.Asked.{IsTooLongBy, comes_to_input_by, usage_status};
+ghost use Rattle.soar_run.specs.Asked.{EndsAtReadBy, IsLeftBy, IsTooLongBy, usage_status};
 ghost use Rattle.soar_run.specs.Failing.{failing_transcript};
 ghost use Rattle.soar_run.specs.Ready.{IsReadySession};
 ghost use Rattle.soar_run.specs.Spoken.{StandsFor};
@@ -45,13 +45,16 @@ pub fn run_soar<I: Source, F: Shelf, O: Sink>(
     ensures answers { IfSome (I.left input.old) (λ bytes. (stock : ListOf Filed) → F.files files.old ≡ Some stock
         → Answers (record { source = I.faults input.old; shelf = F.faults files.old; sink = O.faults out.old })
         (record { source = I.faults input.new; shelf = F.faults files.new; sink = O.faults out.new })
-        bytes (I.left input.new) (comes_to_input_by (map string_bytes words.now.items) stock) (O.written out.old) (O.written out.new) (whole_transcript (map string_bytes words.now.items) stock bytes) result) }
+        bytes (I.left input.new) (IsLeftBy (map string_bytes words.now.items) stock bytes (I.left input.new)) (O.written out.old) (O.written out.new) (whole_transcript (map string_bytes words.now.items) stock bytes) result) }
     // Whatever fails, the bytes written are those at the transcript's front.
     ensures prefix { IfSome (I.left input.old) (λ bytes. (stock : ListOf Filed) → F.files files.old ≡ Some stock
         → AppendsSome (O.written out.old) (O.written out.new) (whole_transcript (map string_bytes words.now.items) stock bytes).text) }
     // Where a fetch fails, all is written that comes before it. The shelf's count of fetches is far from its last value.
     ensures before_fetch { IfSome (I.left input.old) (λ bytes. (stock : ListOf Filed) → F.files files.old ≡ Some stock → (n : ℕ) → n < 2 ^ 63 → F.fetched files.old ≡ Some n → result ≡ Status.FileFault
         → EndsAtFetch (O.written out.old) (O.written out.new) n (F.fetched files.new) (λ number. failing_transcript number (map string_bytes words.now.items) stock bytes)) }
+    // Where a read fails, all is written that the files and the whole commands of what was taken until then write.
+    ensures before_read { IfSome (I.left input.old) (λ bytes. (stock : ListOf Filed) → F.files files.old ≡ Some stock → result ≡ Status.ReadFault
+        → EndsAtReadBy (map string_bytes words.now.items) stock (O.written out.old) (O.written out.new) bytes (I.left input.new)) }
     // Words of the form, and an input and files that reach no limit and are not too long, are carried out whole, unless memory runs out.
     ensures complete { IfSome (I.left input.old) (λ bytes. (stock : ListOf Filed) → F.files files.old ≡ Some stock
         → options_of (map string_bytes words.now.items) ≢ None → (whole_transcript (map string_bytes words.now.items) stock bytes).status ≢ Status.Limit

@@ -22,6 +22,7 @@ mod outcomes;
 mod pages;
 mod reading;
 mod running;
+mod settling;
 mod traces;
 
 /// Runs an input without words and files.
@@ -58,7 +59,7 @@ const DONE: [&str; 9] = [
 ];
 
 /// What is refused, among what is not.
-const REFUSED: [&str; 8] = [
+const REFUSED: [&str; 9] = [
     checking::FAULTY,
     commands::REFUSED,
     labels::LABELS_REFUSED,
@@ -67,6 +68,7 @@ const REFUSED: [&str; 8] = [
     reading::NONE,
     running::RUN_REFUSED,
     impasses::BELOW,
+    settling::OF_THE_SUBSTATE,
 ];
 
 #[test]
@@ -86,6 +88,14 @@ fn commands_are_carried_out(rt: HostRuntime) -> Result<(), Fail> {
 #[test]
 fn substates_come_and_go(rt: HostRuntime) -> Result<(), Fail> {
     let wrong = wrong_of(rt.alloc(), Status::Done, &[impasses::MET, impasses::BROKEN])?;
+    assert!(rt; wrong.is_empty(), "{wrong}");
+    Ok(())
+}
+
+#[test]
+fn what_loses_its_way_in_goes(rt: HostRuntime) -> Result<(), Fail> {
+    let cases = [settling::CHAINS, settling::CIRCLES, settling::HELD_TWICE];
+    let wrong = wrong_of(rt.alloc(), Status::Done, &cases)?;
     assert!(rt; wrong.is_empty(), "{wrong}");
     Ok(())
 }

@@ -2,7 +2,7 @@
 ghost use Rattle.std.specs.Prelude.{◌≤◌};
 
 use super::run;
-use soar_edge::{FineShelf, FineSink, FineSource, MemSink, MemSource, Status};
+use soar_edge::{FineShelf, FineSink, FineSource, MemSink, MemSource, Source, Status};
 use soar_run::run_soar;
 use soar_sym::List;
 use std::alloc::{AllocError, Global};
@@ -35,6 +35,15 @@ fn a_word_of_no_form_gives_the_usage(rt: HostRuntime) -> Result<(), Fail> {
 /// Five reads in pieces of five bytes, the last of which finds the end.
 const TWICE: &str = "matches\nmatches\n";
 
+/// What the whole commands before each of those reads write.
+const BEFORE: [&str; 5] = [
+    "",
+    "",
+    "no matches\n",
+    "no matches\n",
+    "no matches\nno matches\n",
+];
+
 /// Whether a run whose read of this number fails ends so and writes this.
 fn ends_at_read(
     alloc: Global,
@@ -51,8 +60,8 @@ fn ends_at_read(
 
 /// Whether each of those reads ends the run where it fails, and no later one.
 fn each_read_may_fail(alloc: Global) -> Result<bool, AllocError> {
-    for failing in 1..=5u64 {
-        if !ends_at_read(alloc, failing, Status::ReadFault, "")? {
+    for index in 0..5usize {
+        if !ends_at_read(alloc, index as u64 + 1, Status::ReadFault, BEFORE[index])? {
             return Ok(false);
         }
     }
@@ -93,5 +102,27 @@ fn each_write_may_fail(alloc: Global) -> Result<bool, AllocError> {
 #[test]
 fn source_and_sink_fail_at_each_call_in_turn(rt: HostRuntime) -> Result<(), Fail> {
     assert!(rt; each_read_may_fail(rt.alloc())? && each_write_may_fail(rt.alloc())?);
+    Ok(())
+}
+
+/// Whether a run that reads byte by byte, and that `quit` ends, reads nothing behind that line.
+fn quit_leaves_the_rest(alloc: Global) -> Result<bool, AllocError> {
+    let bytes = List::from_slice(alloc, b"matches\nquit\nfly\n")?;
+    let mut source = FineSource::new(bytes, 1);
+    let mut sink = FineSink::new(alloc, 4096);
+    let ended = run(alloc, &mut source, &mut sink);
+    let mut next = [0u8; 1];
+    let is_left = matches!(source.take(&mut next), Ok(1));
+    Ok(
+        ended == Status::Done
+            && sink.bytes() == b"no matches\n".as_slice()
+            && is_left
+            && next[0] == b'f',
+    )
+}
+
+#[test]
+fn a_quit_leaves_the_rest_unread(rt: HostRuntime) -> Result<(), Fail> {
+    assert!(rt; quit_leaves_the_rest(rt.alloc())?);
     Ok(())
 }

@@ -1,4 +1,4 @@
-use Rattle.std.proofs.Common.{Ok, ◌∙◌, subst}
+use Rattle.std.proofs.Common.{◌∙◌, subst}
 use Rattle.command_runs.specs.Following.{Breaks, Flows, IsOn, IsOver, status_of_end}
 use Rattle.command_runs.specs.Whole.{file_of}
 use Rattle.command_runs.proofs.FileLemmas.{file_breaks_so, file_ends_so, file_goes_so, file_opens_so}

@@ -2,9 +2,8 @@ use Rattle.std.proofs.Common.{◌≡◌, List, ℕ, Option, Some, drop}
 use Rattle.soar_edge.specs.declared.filed.Filed.{Filed}
 use Rattle.defs_run.specs.Runs.{Run}
 use Rattle.command_runs.specs.Causes.{Fetched}
-use Rattle.command_runs.specs.Following.{Comes, IsAt}
+use Rattle.command_runs.specs.Following.{Comes, IsAt, IsBehind}
 use Rattle.command_runs.specs.Whole.{files_of}
-use Rattle.command_runs.proofs.FlowLemmas.{IsBehind}
 use Rattle.command_runs.proofs.files.obey_files.Given as goal
 
 abbrev pub invariant-names : goal.invariant-names

@@ -1,6 +1,6 @@
 use Rattle.std.proofs.Common.{arith}
 use Rattle.std.proofs.lemmas.Grind.{common_steps}
-use Rattle.command_runs.proofs.OpeningLemmas.{opens_within, too_deep, too_many, within}
+use Rattle.command_runs.proofs.OpeningLemmas.{too_deep, too_many, within}
 use Rattle.command_runs.proofs.opening.open_file.Goals as goal
 
 pub returns-then-progress-ge-MOST_FETCHES-clause-step : goal.returns-then-progress-ge-MOST_FETCHES-clause-step

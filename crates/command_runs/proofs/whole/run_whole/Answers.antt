@@ -1,5 +1,5 @@
 use Rattle.std.proofs.Common.{false, refl}
-use Rattle.command_runs.proofs.ClauseLemmas.{answers_told, complete_told, fetch_told, headline_told, long_told, once_told, prefix_told}
+use Rattle.command_runs.proofs.ClauseLemmas.{answers_told, complete_told, fetch_told, headline_told, long_told, once_told, prefix_told, read_told}
 use Rattle.command_runs.proofs.whole.run_whole.Goals as goal
 
 pub returns-clause-headline : goal.returns-clause-headline
@@ -24,6 +24,11 @@ pub returns-clause-before_fetch : goal.returns-clause-before_fetch
 returns-clause-before_fetch g c =
     fetch_told (g.C.Carrier.stands c.args.carrier) (g.C.Carrier.stands c.obey_whole-flow.new.progress.carrier) (record { carrier = c.args.carrier; refused = false; fetched = 0 }) c.obey_whole-flow.new.progress (g.O.Sink.written c.args.out.now) (g.O.Sink.written c.obey_whole-flow.new.out) (g.F.Shelf.files c.args.files.now) (g.I.Source.left c.args.input.now) c.args.generate c.args.names.now c.obey_whole-flow.result c.status_of.result
     (g.F.Shelf.fetched c.args.files.now) (g.F.Shelf.fetched c.obey_whole-flow.new.files) refl refl c.status_of.ensures c.obey_whole-flow.ensures.fetched c.obey_whole-flow.ensures.flow
+
+pub returns-clause-before_read : goal.returns-clause-before_read
+returns-clause-before_read g c =
+    read_told (g.C.Carrier.stands c.args.carrier) (record { carrier = c.args.carrier; refused = false; fetched = 0 }) c.obey_whole-flow.new.progress (g.O.Sink.written c.args.out.now) (g.O.Sink.written c.obey_whole-flow.new.out) (g.F.Shelf.files c.args.files.now) (g.I.Source.left c.args.input.now) c.args.generate c.args.names.now c.obey_whole-flow.result c.status_of.result
+    (g.I.Source.left c.obey_whole-flow.new.input) refl refl c.status_of.ensures c.obey_whole-flow.ensures.before_read
 
 pub returns-clause-too_long : goal.returns-clause-too_long
 returns-clause-too_long g c =
