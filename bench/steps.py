@@ -23,7 +23,7 @@ sp {count*apply (state <s> ^operator <o> ^n <x>) (<o> ^name count ^from <x>) -->
 
 IDLE = "sp {idle (state <s> ^superstate nil ^item <i>) --> (<s> ^seen <i>)}\n"
 
-SAME = "sp {same (state <s> ^tick <t> ^go <t>) --> (<s> ^same <t>)}\n"
+SAME = "sp {same (state <s> ^item <i>) (<i> ^next <j>) --> (<i> ^same <j>)}\n"
 
 CHUNKS = """watch 0
 chunk always
