@@ -1,0 +1,2 @@
+" Productions and commands of Kontuwaq.
+autocmd BufRead,BufNewFile *.soar setlocal filetype=kontuwaq
