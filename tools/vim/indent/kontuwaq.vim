@@ -51,11 +51,15 @@ function KontuwaqIndent(lnum) abort
   if closes
     return opener[: column - 1] =~# '^\s*-\?[({]$' ? indent(line) : at - 1
   endif
-  " In a group, attributes stand under the first one; else what is inside stands behind the bracket.
+  " In a group, attributes stand under the first one; in a call, values do; else what is inside stands behind the bracket.
   if opener[column - 1] ==# '('
     let first = match(opener, '-\?^', column)
     if first >= 0 && s:open_bracket_before(line, first) == column
       return virtcol([line, first + 1]) - 1
+    endif
+    let value = matchend(opener, '^\k\+\s\+\ze\S', column)
+    if value >= 0 && opener[value] !=# '#'
+      return virtcol([line, value + 1]) - 1
     endif
   else
     let first = match(opener, '\S', column)
