@@ -19,7 +19,6 @@ mod learning;
 mod limits;
 mod lists;
 mod outcomes;
-mod pages;
 mod reading;
 mod running;
 mod settling;
