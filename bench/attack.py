@@ -1,0 +1,220 @@
+#!/usr/bin/env python3
+"""What the worst inputs cost. It is no part of the gate.
+
+    python3 bench/attack.py PROGRAM [--seconds N] [--big] [NAME ..]
+
+PROGRAM is the built program (crates/soar_app/out/soar_app). Each line is one run: how large its input is, how it ended,
+seconds of the processor and the most memory that it had. A run that takes longer than N seconds (600) is given up.
+With --big the sizes are those that the limits allow; without it some are smaller. The stack has 8 MiB, as is usual: a
+run that goes down it with the depth of its input would end by a signal.
+"""
+import argparse
+import os
+import resource
+import subprocess
+import sys
+import tempfile
+import threading
+
+MIB = 1 << 20
+INPUT = 64 * MIB
+COMMAND = MIB
+
+CHAIN = "sp {chain (state <s> ^superstate nil ^first <a>) --> (<s> ^seen <a>)}\n"
+
+
+def repeated(piece, size):
+    return piece * (size // len(piece))
+
+
+def conditions(count, piece, front="(state <s> ^a 1)", actions=""):
+    return "sp {p " + front + piece * count + " --> " + actions + "}\n"
+
+
+def one_byte_commands(big):
+    """Each is refused: a byte and a newline."""
+    return repeated("x\n", INPUT if big else 4 * MIB)
+
+
+def newlines_in_braces(big):
+    """The longest command: newlines between braces."""
+    return "sp {" + "\n" * (COMMAND - 6) + "}\n"
+
+
+def braces_nested(big):
+    return "sp {p " + "{" * 1000 + "(state <s> ^a 1)" + "}" * 1000 + " --> }\n"
+
+
+def braces_alone(big):
+    """A command that never ends, of braces alone: too long after 1 MiB."""
+    return repeated("{", INPUT)
+
+
+def closing_braces(big):
+    """Braces that close nothing, on a line each."""
+    return repeated("}\n", INPUT if big else 4 * MIB)
+
+
+def longest_productions(big):
+    """Productions of 1 MiB, of one long word each."""
+    one = "sp {p (state <s> ^a " + "x" * (COMMAND - 60) + ") --> }\n"
+    return one * (64 if big else 8)
+
+
+def joined_conditions(big):
+    """1,000 conditions, each joined with the first, and two elements for each."""
+    return conditions(999, " (<s> ^a 1)") + "add-wme S1 ^a 1\n" + "matches\n"
+
+
+def crossed_conditions(big):
+    """Conditions that share nothing but the state: as many rows as there are ways to choose."""
+    count = 6 if big else 4
+    return "".join(f"add-wme S1 ^a {n}\n" for n in range(16)) + conditions(count - 1, " (<s> ^a <x>)", "(state <s> ^a <y>)") + "stats\n"
+
+
+def negated_conditions(big):
+    return conditions(998, " -(<s> ^b 1)") + "".join(f"add-wme S1 ^a {n}\n" for n in range(200)) + "matches\n"
+
+
+def deep_negations(big):
+    return conditions(120, " -{(<s> ^b 1) -{(<s> ^c 1) -{(<s> ^d 1) -(<s> ^e 1)}}}") + "add-wme S1 ^a 1\nmatches\n"
+
+
+def many_variables(big):
+    inside = "".join(f" (<s> ^a <v{n}>)" for n in range(999))
+    return "sp {p (state <s> ^b 1)" + inside + " --> }\nadd-wme S1 ^a 1\nadd-wme S1 ^b 1\nmatches\n"
+
+
+def long_path(big):
+    return "sp {p (state <s> ^" + ".".join("a" for _ in range(999)) + " 1) --> }\nprint p\n"
+
+
+def chain_of_identifiers(big):
+    """Identifiers, each the value of the one before, and then the first link goes."""
+    count = 1_000_000 if big else 100_000
+    lines = ["watch 0", CHAIN.strip(), "input add S1 ^first <n0>"]
+    lines += [f"input add <n{n}> ^next <n{n + 1}>" for n in range(count)]
+    return "\n".join(lines + ["run 1", "stats", "input remove S1 ^first <n0>", "run 1", "stats"]) + "\n"
+
+
+def deep_chain(big):
+    """A chain of so many links that lasts, without any shorter way along it, and then its first link goes.
+
+    Each firing makes a piece of 1,996 identifiers between two that are given from outside; what was given then goes.
+    """
+    pieces = 2000 if big else 50
+    inner = " ".join(f"(<v{n}> ^c <v{n + 1}>)" for n in range(1, 1996))
+    piece = (
+        "sp {piece :o-support (state <s> ^superstate nil ^piece <p>) (<p> ^from <l> ^to <m>) --> "
+        + f"(<l> ^c <v1>) {inner} (<v1996> ^c <m>)}}"
+    )
+    start = "sp {start :o-support (state <s> ^superstate nil ^start <l>) --> (<s> ^c <l>)}"
+    lines = ["watch 0", start, piece, "input add S1 ^start <l0>"]
+    for n in range(pieces):
+        lines += [f"input add S1 ^piece <p{n}>", f"input add <p{n}> ^from <l{n}>", f"input add <p{n}> ^to <l{n + 1}>"]
+    lines += ["run 1", "stats"]
+    lines += [f"input remove S1 ^piece <p{n}>" for n in range(pieces)]
+    lines += ["run 1", "stats", "excise start", "input remove S1 ^start <l0>"]
+    lines += ["sp {cut :o-support (state <s> ^superstate nil ^c <l>) --> (<s> ^c <l> -)}", "run 1", "stats"]
+    return "\n".join(lines) + "\n"
+
+
+def many_elements(big):
+    """Elements of one slot, up to their limit."""
+    count = 4_000_100 if big else 200_000
+    return "watch 0\n" + "".join(f"input add S1 ^a {n}\n" for n in range(count)) + "run 1\nstats\n"
+
+
+def many_goals(big):
+    return "watch 0\nrun 1000\nstats\n"
+
+
+def ties(big):
+    """An operator for each of so many elements, none better than another."""
+    count = 300 if big else 100
+    return (
+        "watch 0\nsp {p (state <s> ^superstate nil ^a <x>) --> (<s> ^operator <o> +) (<o> ^a <x>)}\n"
+        + "".join(f"input add S1 ^a {n}\n" for n in range(count))
+        + "run 3\nstats\n"
+    )
+
+
+ATTACKS = [
+    one_byte_commands,
+    newlines_in_braces,
+    braces_nested,
+    braces_alone,
+    closing_braces,
+    longest_productions,
+    joined_conditions,
+    crossed_conditions,
+    negated_conditions,
+    deep_negations,
+    many_variables,
+    long_path,
+    chain_of_identifiers,
+    deep_chain,
+    many_elements,
+    many_goals,
+    ties,
+]
+
+
+def peak(pid, found, done):
+    """The most memory that the process had, as the system tells it."""
+    while not done.is_set():
+        try:
+            with open(f"/proc/{pid}/status", encoding="utf-8") as file:
+                for line in file:
+                    if line.startswith("VmHWM:"):
+                        found[0] = max(found[0], int(line.split()[1]))
+        except OSError:
+            return
+        done.wait(0.05)
+
+
+def attack(given, make):
+    text = make(given.big).encode()
+    with tempfile.TemporaryFile() as file:
+        file.write(text)
+        file.seek(0)
+        before = resource.getrusage(resource.RUSAGE_CHILDREN)
+        process = subprocess.Popen(
+            [given.program],
+            stdin=file,
+            stdout=subprocess.DEVNULL,
+            preexec_fn=lambda: resource.setrlimit(resource.RLIMIT_STACK, (8 * MIB, 8 * MIB)),
+        )
+        found, done = [0], threading.Event()
+        watcher = threading.Thread(target=peak, args=(process.pid, found, done))
+        watcher.start()
+        try:
+            status = process.wait(timeout=given.seconds)
+        except subprocess.TimeoutExpired:
+            process.kill()
+            process.wait()
+            status = None
+        done.set()
+        watcher.join()
+        after = resource.getrusage(resource.RUSAGE_CHILDREN)
+    spent = after.ru_utime + after.ru_stime - before.ru_utime - before.ru_stime
+    ended = "given up" if status is None else f"signal {-status}" if status < 0 else f"status {status}"
+    print(f"| {make.__name__} | {len(text) / MIB:.2f} | {ended} | {spent:.1f} | {found[0] / 1024:.0f} |", flush=True)
+
+
+def main():
+    asked = argparse.ArgumentParser(description=__doc__, formatter_class=argparse.RawDescriptionHelpFormatter)
+    asked.add_argument("program", type=os.path.abspath)
+    asked.add_argument("names", nargs="*")
+    asked.add_argument("--seconds", type=int, default=600)
+    asked.add_argument("--big", action="store_true")
+    given = asked.parse_intermixed_args()
+    print("| input | MiB | ended | CPU s | MiB held |\n|---|---|---|---|---|")
+    for make in ATTACKS:
+        if not given.names or make.__name__ in given.names:
+            attack(given, make)
+    return 0
+
+
+if __name__ == "__main__":
+    sys.exit(main())
