@@ -276,8 +276,8 @@ def main():
         why, status, out = judged(given, data)
         told[kind] += 1
         statuses[status] += 1
-        for word in (b"==>S:", b"chunk*", b"justification*", b"error ", b": O: ", b"remove "):
-            seen[word.decode()] += word in out
+        for word in (b"==>S:", b"\nlearn ", b"\njustify ", b"\nerror ", b": O: ", b"\nremove "):
+            seen[word.decode().strip()] += word in b"\n" + out
         if why:
             faults += 1
             os.makedirs(given.keep, exist_ok=True)
