@@ -1,3 +1,4 @@
+pub mod AlikeLemmas
 pub mod BlockingLemmas
 pub mod BodyLemmas
 pub mod PreferenceLemmas

@@ -1,3 +1,4 @@
+pub mod Alike
 pub mod Blocked
 pub mod Candidates
 pub mod Seen

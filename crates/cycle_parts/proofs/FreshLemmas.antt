@@ -80,8 +80,10 @@ fresh_sound a letters letter is sound =
       live_known = sound.live_known;
       live_given = sound.live_given;
       kept_up = sound.kept_up;
+      kept_ids = sound.kept_ids;
       past_named = sound.past_named;
       chains_known = sound.chains_known;
+      chains_kept = sound.chains_kept;
     }
 
 -- the symbol is the next of its letter, and nothing else changes

@@ -1,6 +1,7 @@
 -- What is sound stays so where a step changes rules and explanations, inputs, what waits, what is shown, or how many cycles there were.
-use Rattle.std.proofs.Common.{◌≡◌, ℕ, ◌+◌, ◌<◌, ◌≤◌, Bool, true, false, ◌&&◌, ◌||◌, not, cond, List, [], ◌∷◌, ◌++◌, map, filter, sym, ap, subst, ◌∙◌, arith, inl, inr, refl}
+use Rattle.std.proofs.Common.{◌≡◌, ℕ, ◌+◌, ◌<◌, ◌≤◌, Bool, true, false, ◌&&◌, ◌||◌, not, cond, List, [], ◌∷◌, ◌++◌, map, filter, sym, ap, subst, ◌==◌, ◌∙◌, arith, inl, inr, refl}
 use Rattle.std.proofs.lemmas.List.{map-append}
+use Rattle.std.specs.List.{list_any}
 use Rattle.soar_sym.specs.Equality.{mark_eq, symbol_eq}
 use Rattle.soar_sym.specs.Words.{Texts, IsKnown}
 use Rattle.soar_sym.specs.declared.symbol.Sym.{Sym}
@@ -14,7 +15,7 @@ use Rattle.defs_soar.specs.Agents.{Learnt}
 use Rattle.defs_soar.specs.Values.{has_triple_among, triple_eq}
 use Rattle.defs_run.specs.Carrying.{is_named}
 use Rattle.soar_settle.specs.Known.{AreRulesKnown, AreTriplesKnown}
-use Rattle.settling_laws.proofs.MemberLemmas.{filter_within}
+use Rattle.settling_laws.proofs.MemberLemmas.{any_more, filter_passes, filter_within}
 use Rattle.settling_laws.proofs.OrderLemmas.{has_filtered}
 use Rattle.soar_prefs.specs.Memory.{has_plain}
 use Rattle.input_queue.specs.Seen.{triple_queued}
@@ -24,6 +25,7 @@ use Rattle.program_laws.specs.Knowing.{AreChainsKnown}
 use Rattle.wave_learning.specs.Hands.{learned_rule_seen}
 use Rattle.wave_learning.specs.declared.program.LearnedRule.{LearnedRule}
 use Rattle.wave_parts.specs.KeptUp.{IsKeptUp}
+use Rattle.wave_parts.specs.Programs.{AreExplained}
 use Rattle.wave_parts.specs.Seen.{AreUpTo, IsSound}
 use Rattle.wave_parts.specs.declared.parts.Parts.{Parts as PartsKept}
 use Rattle.wave_parts.proofs.KeptUpLemmas.{kept_covered}
@@ -45,6 +47,7 @@ record IsSoundChange (words : Texts) (last : ℕ) (rules : List RuleOf) (last_ru
   queue_known : AreTriplesKnown words queued
   output_known : AreTriplesKnown words output
   chains_known : AreChainsKnown words chains
+  chains_kept : AreExplained rules chains
 
 still_sound : (a : PartsKept) (rules : List Rule) (last_rule : ℕ) (chains : List LearnedRule) (inputs moved : List Triple) (queue : List Queued) (cycles learned : ℕ) (output : List Triple) → IsSound a
     → IsSoundChange a.table a.last_rule (map rule_seen rules) last_rule (map learned_rule_seen chains) inputs (map triple_queued queue) output
@@ -76,7 +79,9 @@ still_sound a rules last_rule chains inputs moved queue cycles learned output so
   live_given = λ l is. omega (arith, sound.live_given l is, change.more_given);
   past_named = sound.past_named;
   chains_known = change.chains_known;
+  chains_kept = change.chains_kept;
   kept_up = kept_up;
+  kept_ids = sound.kept_ids;
 }
 
 -- ---- inputs, what waits and what is shown
@@ -95,6 +100,7 @@ with_same_rules a inputs moved queue cycles learned output sound inputs_known ke
       queue_known = queue_known;
       output_known = output_known;
       chains_known = sound.chains_known;
+      chains_kept = sound.chains_kept;
     }) kept_up
 
 -- in a new cycle nothing waits, and nothing was learned
@@ -189,8 +195,8 @@ sound_queued a queue q sound known are =
 -- with the inputs, what waits and what is shown
 with_other_rules : (a : PartsKept) (rules : List Rule) (last_rule : ℕ) (chains : List LearnedRule) (are : List RuleOf) (explained : List Learnt) → IsSound a
     → map rule_seen rules ≡ are → map learned_rule_seen chains ≡ explained → a.last_rule ≤ last_rule → AreNumbered are → AreUpTo last_rule are → AreRulesKnown a.table are → AreChainsKnown a.table explained
-    → IsSound (record a { rules = rules; last_rule = last_rule; chains = chains })
-with_other_rules a rules last_rule chains are explained sound is chains_are more numbered given known chains_known =
+    → AreExplained are explained → IsSound (record a { rules = rules; last_rule = last_rule; chains = chains })
+with_other_rules a rules last_rule chains are explained sound is chains_are more numbered given known chains_known chains_kept =
     still_sound a rules last_rule chains a.inputs a.changed a.queue a.cycles a.learned a.output sound (record {
       more_given = more;
       numbered = subst AreNumbered (sym is) numbered;
@@ -200,10 +206,35 @@ with_other_rules a rules last_rule chains are explained sound is chains_are more
       queue_known = sound.queue_known;
       output_known = sound.output_known;
       chains_known = subst (AreChainsKnown a.table) (sym chains_are) chains_known;
+      chains_kept = subst (λ rs. AreExplained rs (map learned_rule_seen chains)) (sym is) (subst (AreExplained are) (sym chains_are) chains_kept);
     }) sound.kept_up
 
 fewer_chains : (words : Texts) (p : Learnt → Bool) (chains : List Learnt) → AreChainsKnown words chains → AreChainsKnown words (filter p chains)
 fewer_chains words p chains known l is = known l (filter_within p chains l is)
+
+-- what does not pass both tests, though it passes the first, is left
+left_over : (p q : RuleOf → Bool) (rules : List RuleOf) → list_any p rules ≡ true → list_any (λ r. p r && q r) rules ≡ false → list_any p (filter (λ r. not (q r)) rules) ≡ true
+left_over p q [] some none = some
+left_over p q (rule ∷ rules) some none = go (p rule) (q rule) refl some none (left_over p q rules)
+  where
+    later : List RuleOf
+    later = filter (λ r. not (q r)) rules
+
+    go : (b c : Bool) → p rule ≡ b → (b || list_any p rules) ≡ true → ((b && c) || list_any (λ r. p r && q r) rules) ≡ false
+        → (list_any p rules ≡ true → list_any (λ r. p r && q r) rules ≡ false → list_any p later ≡ true) → list_any p (cond (not c) (rule ∷ later) later) ≡ true
+    go true true e some none left = absurd (cc)
+    go true false e some none left = ap (λ b. b || list_any p later) e
+    go false true e some none left = left some none
+    go false false e some none left = ap (λ b. b || list_any p later) e ∙ left some none
+
+untold : (b : Bool) → not b ≡ true → b ≡ false
+untold true h = absurd (cc)
+untold false h = refl
+
+unnamed_explained : (name : Sym) (rules : List RuleOf) (chains : List Learnt) → AreExplained rules chains → AreExplained (unnamed name rules) (unnamed_chains name rules chains)
+unnamed_explained name rules chains kept l is =
+    left_over (λ (r : RuleOf). r.number == l.rule) (is_named name) rules (kept l (filter_within (λ learnt. not (is_of_name name rules learnt.rule)) chains l is))
+    (untold (is_of_name name rules l.rule) (filter_passes (λ learnt. not (is_of_name name rules learnt.rule)) chains l is))
 
 -- without those of a name
 pub sound_dropped : (a new : PartsKept) (name : Sym) → IsSound a → AreDropped a new name → IsSound new
@@ -214,7 +245,7 @@ sound_dropped a new name sound dropped =
     subst IsSound (sym dropped.same)
     (with_other_rules a new.rules a.last_rule new.chains (unnamed name old) (unnamed_chains name old explained) sound dropped.rules_are dropped.chains_are (omega arith)
     (numbered_filter p old sound.numbered) (up_to_filter p a.last_rule old sound.numbers_given) (rules_filter p a.table old sound.rules_known)
-    (fewer_chains a.table (λ learnt. not (is_of_name name old learnt.rule)) explained sound.chains_known))
+    (fewer_chains a.table (λ learnt. not (is_of_name name old learnt.rule)) explained sound.chains_known) (unnamed_explained name old explained sound.chains_kept))
 
 -- a production under the next number, behind those that do not have its name
 pub sound_loaded : (a : PartsKept) (rules : List Rule) (number : ℕ) (chains : List LearnedRule) (production : ProductionOf) → IsSound a → AreKnown a.table (symbols_of production) → number ≡ a.last_rule + 1
@@ -231,3 +262,4 @@ sound_loaded a rules number chains production sound known next are chains_are =
     (numbered_last a.last_rule (filter p old) rule (numbered_filter p old sound.numbered) given less) (up_to_last a.last_rule (filter p old) rule given less)
     (rules_last a.table (filter p old) rule (rules_filter p a.table old sound.rules_known) known)
     (fewer_chains a.table (λ learnt. not (is_of_name production.name old learnt.rule)) explained sound.chains_known)
+    (λ l is. any_more (λ (r : RuleOf). r.number == l.rule) (filter p old) (rule ∷ []) (unnamed_explained production.name old explained sound.chains_kept l is))

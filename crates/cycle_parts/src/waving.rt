@@ -20,6 +20,7 @@ use crate::engine::Engine;
 use crate::retelling::{forget, take_up};
 use crate::telling::tell;
 use defs_match::Matcher;
+use outstanding::Outstanding;
 use soar_sym::{NoMemory, Text};
 use std::alloc::Global;
 use step_report::say_report;
@@ -34,7 +35,7 @@ pub enum Waved {
     Halted,
 }
 
-impl<M: Matcher> Engine<M> {
+impl<M: Outstanding> Engine<M> {
     /// Runs a wave of a phase, which may teach rules (Soar manual, chapter 2, elaboration cycle, and chapter 4, chunking),
     /// and appends what can be told of it.
     pub fn wave(
@@ -82,7 +83,7 @@ impl<M: Matcher> Engine<M> {
         Ok(!work.is_nothing())
     }
 
-    /// The work of a wave, from the conflict set.
+    /// The work of a wave, from what is outstanding.
     fn pending(&mut self, alloc: Global, phase: Phase) -> Result<Work, NoMemory>
         requires sound { IsSound self.old.parts }
         requires bond { Bond (M.rules self.old.matcher) (M.elements self.old.matcher) (M.failed self.old.matcher) self.old.parts }
@@ -94,10 +95,12 @@ impl<M: Matcher> Engine<M> {
         ensures parts { self.new.parts ≡ self.old.parts }
         ensures bond { OnOk result (Bond (M.rules self.new.matcher) (M.elements self.new.matcher) (M.failed self.new.matcher) self.new.parts) }
     {
-        let instances = self.conflict(alloc)?;
-        self.parts.pending(alloc, is_proposing(phase), instances)
+        let left = self.matcher.outstanding(alloc, &self.parts.live)?;
+        self.parts.pending(alloc, is_proposing(phase), left)
     }
+}
 
+impl<M: Matcher> Engine<M> {
     /// Carries the work of a wave out, and tells the matcher which elements and rules went and which came.
     fn carry_out(&mut self, alloc: Global, work: Work) -> Result<Done, Stop>
         requires sound { IsSound self.old.parts }

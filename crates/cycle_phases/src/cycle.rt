@@ -13,14 +13,14 @@ ghost use Rattle.wave_parts.specs.Stands.{Stands};
 
 use crate::phase::run_phase;
 use cycle_parts::Engine;
-use defs_match::Matcher;
+use outstanding::Outstanding;
 use soar_sym::Text;
 use std::alloc::Global;
 use trace_lines::Phase;
 use wave_parts::Stop;
 
 /// Runs a cycle, and tells whether the agent is halted in the end. After a halt the phases before output are left out.
-pub fn run_cycle<M: Matcher>(
+pub fn run_cycle<M: Outstanding>(
     engine: &mut Engine<M>,
     alloc: Global,
     out: &mut Text,
@@ -44,7 +44,7 @@ pub fn run_cycle<M: Matcher>(
     Ok(engine.parts.halted)
 }
 
-fn take_input<M: Matcher>(
+fn take_input<M: Outstanding>(
     engine: &mut Engine<M>,
     alloc: Global,
     out: &mut Text,
@@ -62,7 +62,7 @@ fn take_input<M: Matcher>(
     engine.take_input(alloc, out, mid_line)
 }
 
-fn propose<M: Matcher>(
+fn propose<M: Outstanding>(
     engine: &mut Engine<M>,
     alloc: Global,
     out: &mut Text,
@@ -81,7 +81,7 @@ fn propose<M: Matcher>(
     Ok(())
 }
 
-fn decide<M: Matcher>(
+fn decide<M: Outstanding>(
     engine: &mut Engine<M>,
     alloc: Global,
     out: &mut Text,
@@ -103,7 +103,7 @@ fn decide<M: Matcher>(
     Ok(())
 }
 
-fn apply<M: Matcher>(
+fn apply<M: Outstanding>(
     engine: &mut Engine<M>,
     alloc: Global,
     out: &mut Text,
@@ -125,7 +125,7 @@ fn apply<M: Matcher>(
     Ok(())
 }
 
-fn give_output<M: Matcher>(
+fn give_output<M: Outstanding>(
     engine: &mut Engine<M>,
     alloc: Global,
     out: &mut Text,

@@ -13,7 +13,7 @@ ghost use Rattle.wave_parts.specs.Seen.{IsSound};
 ghost use Rattle.wave_parts.specs.Stands.{Stands};
 
 use cycle_parts::{Engine, Waved};
-use defs_match::Matcher;
+use outstanding::Outstanding;
 use soar_sym::{NoMemory, Text};
 use std::alloc::Global;
 use step_report::{begin_part, say_cut_at};
@@ -30,7 +30,7 @@ pub enum Ended {
 }
 
 /// Runs a phase: tells that it begins, what its waves do, and that it was cut, where it was.
-pub fn run_phase<M: Matcher>(
+pub fn run_phase<M: Outstanding>(
     engine: &mut Engine<M>,
     alloc: Global,
     phase: Phase,
@@ -67,7 +67,7 @@ fn ended_as(cut: bool, halted: bool) -> Ended
 
 /// Runs the waves of a phase, until nothing is pending, a firing halts, or there were as many as are allowed. Tells
 /// whether the phase is cut, with work still pending.
-fn run_waves<M: Matcher>(
+fn run_waves<M: Outstanding>(
     engine: &mut Engine<M>,
     alloc: Global,
     phase: Phase,

@@ -20,7 +20,7 @@ use Rattle.learning_laws.specs.LawfulAgents.{IsNumbered}
 use Rattle.soar_fire.specs.Growth.{LettersKeep}
 use Rattle.soar_goals.specs.Known.{AreItemsKnown}
 use Rattle.wave_parts.specs.Remembers.{PastGoalsAreNumbered, Remembers}
-use Rattle.wave_parts.specs.Seen.{IsGoalKnown, IsSound, agent_of}
+use Rattle.wave_parts.specs.Seen.{IsGoalKnown, IsToSettle, agent_of}
 use Rattle.wave_parts.specs.Stands.{Stands}
 use Rattle.wave_parts.specs.declared.parts.Parts.{Parts as PartsKept}
 use Rattle.wave_parts.proofs.GrownLemmas.{numbered_later}
@@ -64,7 +64,7 @@ depends_pushed : NewGoalsDependOnNothing → (history : List RecordedFiring) (go
 depends_pushed law history [] goal some none = absurd (omega (arith, some))
 depends_pushed law history (top ∷ below) goal some none = sym (law history 2 below goal none)
 
-pub pushed_remembers : NewGoalsDependOnNothing → (a : PartsKept) (history : List RecordedFiring) (goal : Goal) (letters : List ℕ) (depends : List (List ℕ)) → IsSound a → LettersKeep a.letters letters
+pub pushed_remembers : NewGoalsDependOnNothing → (a : PartsKept) (history : List RecordedFiring) (goal : Goal) (letters : List ℕ) (depends : List (List ℕ)) → IsToSettle a → LettersKeep a.letters letters
     → goal.id ≡ Ident 83 (last_of a.letters 83 + 1) → depends ≡ a.depends ++ [] ∷ [] → Remembers a history → Remembers (with_pushed a goal letters depends) history
 pushed_remembers law a history goal letters depends sound keep id_is depends_is r =
     let none : (p : RecordedFiring) → IsIn p history → is_goal_of p.goal goal.id ≡ false =
@@ -81,8 +81,8 @@ in_pushed g goal [] (inr none) = absurd none
 in_pushed g goal (first ∷ goals) (inl e) = inl (inl e)
 in_pushed g goal (first ∷ goals) (inr is) = elim (in_pushed g goal goals is) [ inl here ↦ inl (inr here) | inr e ↦ inr e ]
 
-pub pushed_sound : (a : PartsKept) (goal : Goal) (letters : List ℕ) (depends : List (List ℕ)) → IsSound a → length a.goals < 100 → LettersKeep a.letters letters → IsGoalKnown a.table letters goal → goal.selected ≡ None
-    → depends ≡ a.depends ++ [] ∷ [] → IsSound (with_pushed a goal letters depends)
+pub pushed_sound : (a : PartsKept) (goal : Goal) (letters : List ℕ) (depends : List (List ℕ)) → IsToSettle a → length a.goals < 100 → LettersKeep a.letters letters → IsGoalKnown a.table letters goal → goal.selected ≡ None
+    → depends ≡ a.depends ++ [] ∷ [] → IsToSettle (with_pushed a goal letters depends)
 pushed_sound a goal letters depends sound room keep known none depends_is =
     let count = length-append a.goals (goal ∷ []) in
     record {
@@ -118,8 +118,10 @@ pushed_sound a goal letters depends sound room keep known none depends_is =
       live_known = sound.live_known;
       live_given = sound.live_given;
       kept_up = sound.kept_up;
+      kept_ids = refl;
       past_named = sound.past_named;
       chains_known = sound.chains_known;
+      chains_kept = sound.chains_kept;
     }
 
 -- ---- the answer
@@ -135,7 +137,7 @@ pub record IsPush (a : PartsKept) (why : Impasse) (items : List Item) (id : Sym)
   pub letters_are : letters ≡ with_last a.letters 83 (last_of a.letters 83 + 1)
   pub depends_are : depends ≡ a.depends ++ [] ∷ []
 
-known_goal : (a : PartsKept) (why : Impasse) (items : List Item) (id : Sym) (letters : List ℕ) → IsSound a → id ≡ Ident 83 (last_of a.letters 83 + 1)
+known_goal : (a : PartsKept) (why : Impasse) (items : List Item) (id : Sym) (letters : List ℕ) → IsToSettle a → id ≡ Ident 83 (last_of a.letters 83 + 1)
     → letters ≡ with_last a.letters 83 (last_of a.letters 83 + 1) → AreItemsKnown a.table items → IsGoalKnown a.table letters (new_goal id why items)
 known_goal a why items id letters sound id_is letters_are known =
     let last : last_of letters 83 ≡ last_of a.letters 83 + 1 = last_given a.letters letters 83 (last_of a.letters 83 + 1) sound.top_numbered letters_are in
@@ -147,17 +149,17 @@ known_goal a why items id letters sound id_is letters_are known =
       selection_known = tt;
     }
 
-pub push_is_sound : (a : PartsKept) (why : Impasse) (items : List Item) (id : Sym) (goals : List Goal) (letters : List ℕ) (depends : List (List ℕ)) → IsSound a → length a.goals < 100 → AreItemsKnown a.table items
-    → IsPush a why items id goals letters depends → IsSound (pushed_parts a goals letters depends)
+pub push_is_sound : (a : PartsKept) (why : Impasse) (items : List Item) (id : Sym) (goals : List Goal) (letters : List ℕ) (depends : List (List ℕ)) → IsToSettle a → length a.goals < 100 → AreItemsKnown a.table items
+    → IsPush a why items id goals letters depends → IsToSettle (pushed_parts a goals letters depends)
 push_is_sound a why items id goals letters depends sound room known p =
-    subst (λ gs. IsSound (pushed_parts a gs letters depends)) (sym p.goals_are)
+    subst (λ gs. IsToSettle (pushed_parts a gs letters depends)) (sym p.goals_are)
     (pushed_sound a (new_goal id why items) letters depends sound room (numbers_keep a.letters letters 83 p.letters_are) (known_goal a why items id letters sound p.id_is p.letters_are known) refl p.depends_are)
 
 pushed_at : (a : PartsKept) (history : List RecordedFiring) (why : Impasse) (items : List Item) (id : Sym) (letters : List ℕ) (depends : List (List ℕ)) → id ≡ Ident 83 (last_of a.letters 83 + 1)
     → letters ≡ with_last a.letters 83 (last_of a.letters 83 + 1) → agent_of (with_pushed a (new_goal id why items) letters depends) history ≡ with_substate (agent_of a history) why items
 pushed_at a history why items id letters depends id_is letters_are = λ k. agent_of (with_pushed a (new_goal (id_is k) why items) (letters_are k) depends) history
 
-pub has_pushed : NewGoalsDependOnNothing → (a : PartsKept) (why : Impasse) (items : List Item) (id : Sym) (goals : List Goal) (letters : List ℕ) (depends : List (List ℕ)) → IsSound a
+pub has_pushed : NewGoalsDependOnNothing → (a : PartsKept) (why : Impasse) (items : List Item) (id : Sym) (goals : List Goal) (letters : List ℕ) (depends : List (List ℕ)) → IsToSettle a
     → first_passed (identifiers_to (last_of a.letters 83 + 1) ∷ []) ≡ None → IsPush a why items id goals letters depends → (s : Agent) → Stands a s → HasPushed s why items (pushed_parts a goals letters depends) id
 has_pushed law a why items id goals letters depends sound within p =
     let goal = new_goal id why items in

@@ -38,7 +38,7 @@ use Rattle.wave_firings.specs.Numbered.{AreMakersOfFirings, AreOfFirings}
 use Rattle.wave_parts.proofs.KeptUpLemmas.{kept_renewed}
 use Rattle.wave_parts.specs.Modes.{is_fraction}
 use Rattle.wave_parts.specs.Remembers.{Remembers}
-use Rattle.wave_parts.specs.Seen.{AreGoalsKnown, AreLiveKnown, IsGoalKnown, IsSound, agent_of, IsSelectionKnown as IsSelectedKnown}
+use Rattle.wave_parts.specs.Seen.{AreGoalsKnown, AreLiveKnown, IsGoalKnown, IsSound, IsToSettle, agent_of, IsSelectionKnown as IsSelectedKnown}
 use Rattle.wave_parts.specs.Stands.{Stands}
 use Rattle.wave_parts.specs.declared.parts.Parts.{Parts as PartsKept}
 use Rattle.wave_parts.proofs.GrownLemmas.{rows_filtered}
@@ -214,7 +214,7 @@ walked_stands a goals depends prefs live first left walked_to =
     ∙ ap (λ (gs : List Goal). walked_state (agent_of a history) (record (walk_of (agent_of a history)) { goals = gs })) (walked_to history)))
 
 pub walked_sound : (a : PartsKept) (goals : List Goal) (depends : List (List ℕ)) (prefs : PreferenceMemory) (live : List Live) → RetractedKeepRange → IsSound a → AreFirst a.goals goals → HasLeft a goals depends prefs live
-    → AreListKnown a.table goals → AreSelectionsKnown a.table goals → AreMakersUpTo a.firings goals → IsSound (with_walked a goals depends prefs live)
+    → AreListKnown a.table goals → AreSelectionsKnown a.table goals → AreMakersUpTo a.firings goals → IsToSettle (with_walked a goals depends prefs live)
 walked_sound a goals depends prefs live range sound first left known selections makers =
     let gone = numbers_of (live_from (suc (length goals)) (map live_seen a.live)) in
     let rows = ap (λ (p : PreferenceMemory). p.rows) left.prefs_are in
@@ -245,6 +245,8 @@ walked_sound a goals depends prefs live range sound first left known selections 
       live_known = subst (AreLiveKnown a.table) (sym left.live_are) (live_filter a.table (λ l. nat_lt l.depth (suc (length goals))) (map live_seen a.live) sound.live_known);
       live_given = λ l is. sound.live_given l (filter_within (λ (m : LiveFiring). nat_lt m.depth (suc (length goals))) (map live_seen a.live) l (subst (IsIn l) left.live_are is));
       kept_up = kept_renewed a.prefs prefs a.inputs a.changed a.kept a.memory.elements (ap (λ (p : PreferenceMemory). p.settled) left.prefs_are) sound.kept_up;
+      kept_ids = refl;
       past_named = sound.past_named;
       chains_known = sound.chains_known;
+      chains_kept = sound.chains_kept;
     }

@@ -11,7 +11,7 @@ ghost use Rattle.matching_laws.specs.Telling.{IsTold};
 ghost use Rattle.soar_goals.specs.Known.{AreItemsKnown};
 ghost use Rattle.step_report.specs.Reports.{removed_seen};
 ghost use Rattle.trace_laws.specs.Events.{AreEventsKnown};
-ghost use Rattle.wave_parts.specs.Seen.{IsSound};
+ghost use Rattle.wave_parts.specs.Seen.{IsSound, IsToSettle};
 ghost use Rattle.wave_parts.specs.Stands.{Stands};
 
 use crate::decision::Decision;
@@ -56,7 +56,7 @@ fn follow(
     out: &mut Text,
     mid_line: &mut bool,
 ) -> Result<Decision, Stop>
-    requires sound { IsSound parts.old }
+    requires sound { IsToSettle parts.old }
     requires removed { AreEventsKnown parts.old.table (removal_events (map removed_seen end.removed)) }
     requires known { IsDecidedKnown parts.old.table (decided_seen end.decided) }
     ensures step { (s : AgentOf) → Stands parts.old s
@@ -87,7 +87,7 @@ fn meet(
     out: &mut Text,
     mid_line: &mut bool,
 ) -> Result<Decision, Stop>
-    requires sound { IsSound parts.old }
+    requires sound { IsToSettle parts.old }
     requires removed { AreEventsKnown parts.old.table (removal_events (map removed_seen removed)) }
     requires known { AreItemsKnown parts.old.table items }
     ensures step { (s : AgentOf) → Stands parts.old s

@@ -10,7 +10,7 @@ ghost use Rattle.matching_laws.specs.Telling.{IsTold};
 ghost use Rattle.step_report.specs.Reports.{removed_seen};
 ghost use Rattle.trace_laws.specs.Events.{AreEventsKnown};
 ghost use Rattle.wave_parts.specs.Resettles.{IsLeft};
-ghost use Rattle.wave_parts.specs.Seen.{IsSound};
+ghost use Rattle.wave_parts.specs.Seen.{IsSound, IsToSettle};
 ghost use Rattle.wave_parts.specs.Stands.{Stands};
 
 use crate::saying::{DecisionLine, say_decision};
@@ -30,7 +30,7 @@ pub fn end_decision(
     out: &mut Text,
     mid_line: &mut bool,
 ) -> Result<Changes, Stop>
-    requires sound { IsSound parts.old }
+    requires sound { IsToSettle parts.old }
     requires removed { AreEventsKnown parts.old.table (removal_events (map removed_seen removed)) }
     requires line { IsLineKnown parts.old.table line }
     ensures step { (s : AgentOf) → Stands parts.old s

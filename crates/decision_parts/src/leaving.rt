@@ -7,7 +7,7 @@ ghost use Rattle.defs_soar.specs.Resettling.{removal_events};
 ghost use Rattle.decision_parts.specs.Deciding.{removed_in_walk, walk_of, walked_state};
 ghost use Rattle.step_report.specs.Reports.{removed_seen};
 ghost use Rattle.trace_laws.specs.Events.{AreEventsKnown};
-ghost use Rattle.wave_parts.specs.Seen.{IsSound};
+ghost use Rattle.wave_parts.specs.Seen.{IsSound, IsToSettle};
 ghost use Rattle.wave_parts.specs.Stands.{Stands};
 
 use crate::walking::walk_goals;
@@ -34,7 +34,7 @@ pub fn walk_on(alloc: Global, parts: &mut Parts) -> Result<WalkEnd, NoMemory>
     ensures known { IfOk result (λ end. IsDecidedKnown parts.old.table (decided_seen end.decided)) }
     ensures removed_known { IfOk result (λ end. AreEventsKnown parts.old.table (removal_events (map removed_seen end.removed))) }
     ensures kept { (parts.new.table ≡ parts.old.table) × (parts.new.rules ≡ parts.old.rules) × (parts.new.memory ≡ parts.old.memory) × (parts.new.settings ≡ parts.old.settings) }
-    ensures sound { OnOk result (IsSound parts.new) }
+    ensures sound { OnOk result (IsToSettle parts.new) }
 {
     cuts_remove();
     let before = at_depths(alloc, parts.goals.list().as_slice())?;

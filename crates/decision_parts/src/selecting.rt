@@ -9,7 +9,7 @@ ghost use Rattle.decision_parts.specs.Stepping.{GoesStep};
 ghost use Rattle.matching_laws.specs.Telling.{IsTold};
 ghost use Rattle.step_report.specs.Reports.{removed_seen};
 ghost use Rattle.trace_laws.specs.Events.{AreEventsKnown};
-ghost use Rattle.wave_parts.specs.Seen.{IsSound};
+ghost use Rattle.wave_parts.specs.Seen.{IsSound, IsToSettle};
 ghost use Rattle.wave_parts.specs.Stands.{Stands};
 
 use crate::decision::Decision;
@@ -34,7 +34,7 @@ pub fn select(
     out: &mut Text,
     mid_line: &mut bool,
 ) -> Result<Decision, Stop>
-    requires sound { IsSound parts.old }
+    requires sound { IsToSettle parts.old }
     requires removed { AreEventsKnown parts.old.table (removal_events (map removed_seen removed)) }
     requires known { IsKnown parts.old.table operator }
     ensures step { (s : AgentOf) → Stands parts.old s
@@ -70,7 +70,7 @@ pub fn make_substate(
     out: &mut Text,
     mid_line: &mut bool,
 ) -> Result<Decision, Stop>
-    requires sound { IsSound parts.old }
+    requires sound { IsToSettle parts.old }
     requires removed { AreEventsKnown parts.old.table (removal_events (map removed_seen removed)) }
     requires room { length parts.old.goals < 100 }
     requires known { AreItemsKnown parts.old.table items }
@@ -105,7 +105,7 @@ pub fn halt_at_limit(
     out: &mut Text,
     mid_line: &mut bool,
 ) -> Result<Decision, Stop>
-    requires sound { IsSound parts.old }
+    requires sound { IsToSettle parts.old }
     requires removed { AreEventsKnown parts.old.table (removal_events (map removed_seen removed)) }
     ensures step { (s : AgentOf) → Stands parts.old s
         → GoesStep parts.old.settings.watch mid_line.old (limit_step s (map removed_seen removed)) parts.new mid_line.new out.old out.new result }

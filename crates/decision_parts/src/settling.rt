@@ -7,7 +7,7 @@ ghost use Rattle.matching_laws.specs.Telling.{IsTold};
 ghost use Rattle.step_report.specs.Reports.{removed_seen, settled_events};
 ghost use Rattle.trace_laws.specs.Events.{AreEventsKnown};
 ghost use Rattle.wave_parts.specs.Resettles.{IsLeft};
-ghost use Rattle.wave_parts.specs.Seen.{IsSound};
+ghost use Rattle.wave_parts.specs.Seen.{IsSound, IsToSettle};
 ghost use Rattle.wave_parts.specs.Stands.{Stands};
 
 use crate::merging::with_all_removed;
@@ -19,7 +19,7 @@ use wave_parts::{Parts, Stop};
 
 /// Settles what is held. Those of the goals that go are put among those that went before, by depth.
 pub fn settle(alloc: Global, parts: &mut Parts, removed: List<Removed>) -> Result<Settled, Stop>
-    requires sound { IsSound parts.old }
+    requires sound { IsToSettle parts.old }
     requires known { AreEventsKnown parts.old.table (removal_events (map removed_seen removed)) }
     ensures settled { (s : AgentOf) → Stands parts.old s → SettlesFrom parts.new s (map removed_seen removed) result }
     ensures told { IfOk result (λ settled. IsTold parts.old.memory.elements parts.new.memory.elements settled.changes) }

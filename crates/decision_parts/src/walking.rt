@@ -4,7 +4,7 @@ ghost use Rattle.decision_walk.specs.Ends.{decided_seen};
 ghost use Rattle.decision_walk.specs.Known.{IsDecidedKnown};
 ghost use Rattle.defs_soar.specs.Agents.{Agent as AgentOf};
 ghost use Rattle.decision_parts.specs.Deciding.{walk_of, walked_state};
-ghost use Rattle.wave_parts.specs.Seen.{IsSound};
+ghost use Rattle.wave_parts.specs.Seen.{IsSound, IsToSettle};
 ghost use Rattle.wave_parts.specs.Stands.{Stands};
 
 use decision_walk::{Decided, walk, walks_keep_goals};
@@ -25,7 +25,7 @@ pub fn walk_goals(alloc: Global, parts: &mut Parts) -> Result<Decided, NoMemory>
     ensures fewer { OnOk result (length parts.new.goals ≤ length parts.old.goals) }
     ensures known { IfOk result (λ decided. IsDecidedKnown parts.old.table (decided_seen decided)) }
     ensures kept { (parts.new.table ≡ parts.old.table) × (parts.new.rules ≡ parts.old.rules) × (parts.new.memory ≡ parts.old.memory) × (parts.new.settings ≡ parts.old.settings) }
-    ensures sound { OnOk result (IsSound parts.new) }
+    ensures sound { OnOk result (IsToSettle parts.new) }
 {
     rows_fit_decisions();
     walks_keep_goals();

@@ -1,5 +1,5 @@
 -- With a hundred goals at most, what levels tell is the level.
-use Rattle.std.proofs.Common.{◌≡◌, refl, ◌∙◌, ap, ℕ, suc, ◌+◌, ◌-◌, ◌^◌, ◌≤◌, min, arith, Bool, true, false, cond, List, [], ◌∷◌, length, map, Option, Some, None}
+use Rattle.std.proofs.Common.{◌≡◌, refl, ◌∙◌, ap, ℕ, suc, ◌+◌, ◌-◌, ◌^◌, ◌≤◌, min, arith, Bool, true, false, cond, List, [], ◌∷◌, length, map, Option, Some, None, option_map}
 use Rattle.std.proofs.lemmas.List.{length-map}
 use Rattle.soar_sym.specs.Equality.{symbol_eq}
 use Rattle.soar_sym.specs.declared.symbol.Sym.{Sym}
@@ -10,8 +10,10 @@ use Rattle.defs_soar.specs.declared.goal.Goal.{Goal}
 use Rattle.defs_soar.specs.Goals.{goal_ids}
 use Rattle.defs_soar.specs.Levels.{first_place, level, or_reached, reached_from, reaches}
 use Rattle.defs_soar.specs.Sorted.{has_symbol}
+use Rattle.level_laws.specs.Labels.{as_told}
+use Rattle.kept_triples.specs.Kept.{KeptOf, level_in_kept}
+use Rattle.firing_records.specs.Levels.{TellsLevels}
 use Rattle.firing_records.specs.Recorded.{Standing, reach_of}
-use Rattle.soar_levels.specs.Told.{as_answered, level_told, TellsLevels}
 
 -- a place is within the list
 place_low : {A : Type 0} (p : A → Bool) (n k : ℕ) (xs : List A) → first_place p n xs ≡ Some k → k ≤ n + length xs
@@ -42,11 +44,11 @@ level_low goals triples s =
     let many = ids_many goals in
     let as_many : length (reaches goals triples) ≡ length (goal_ids goals) = length-map (goal_ids goals) (reached_from (goal_ids goals) triples) in omega arith)
 
-same_answer : (o : Option ℕ) → IsLow 101 o → as_answered o ≡ o
+same_answer : (o : Option ℕ) → IsLow 101 o → option_map as_told o ≡ o
 same_answer None h = refl
 same_answer (Some n) h = let low : n ≤ 101 = h n refl in let same : min n (2 ^ 32 - 1) ≡ n = grind arith in ap Some same
 
 -- so what is told of levels is what was reached
-pub tells_reach : (told : List (Sym × Option ℕ)) (s : Standing) → length s.goals ≤ 100 → TellsLevels told s.goals (map triple_of s.elements) → TellsReach (level_told told) (reach_of s)
-tells_reach told s few tells symbol =
+pub tells_reach : (levels : KeptOf) (s : Standing) → length s.goals ≤ 100 → TellsLevels levels s.goals (map triple_of s.elements) → TellsReach (level_in_kept levels) (reach_of s)
+tells_reach levels s few tells symbol =
     tells symbol ∙ same_answer (level s.goals (map triple_of s.elements) symbol) (λ k q. let low = level_low s.goals (map triple_of s.elements) symbol k q in omega arith)

@@ -5,6 +5,7 @@ ghost use Rattle.soar_record.specs.Recorded.{recorded as kept_in};
 ghost use Rattle.explained_firings.specs.Explaining.{CanBeExplained, IsExplanation, TellsExplanation, teaches};
 
 use crate::kept::chain_of;
+use crate::levels::KeptLevels;
 use crate::results::has_result;
 use chunk_results::{results, taken_over};
 use defs_soar::{Chain, Firing};
@@ -60,8 +61,11 @@ fn explanation(
 {
     let alloc = before.alloc;
     let rows = before.prefs.all(alloc)?;
-    let found = results(alloc, firing, &rows, &before.levels, before.goals, table)?;
-    let goes_over = taken_over(alloc, firing, &rows, &before.levels, before.goals)?;
+    let levels = KeptLevels {
+        kept: before.levels,
+    };
+    let found = results(alloc, firing, &rows, &levels, before.goals, table)?;
+    let goes_over = taken_over(alloc, firing, &rows, &levels, before.goals)?;
     let chain = chain_of(alloc, past, firing, found.as_slice())?;
     Ok(Explained {
         number: firing.number,

@@ -3,6 +3,7 @@
 
 mod explained;
 mod kept;
+mod levels;
 mod results;
 
 pub use explained::{Explained, explain};

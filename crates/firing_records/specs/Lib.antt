@@ -1,4 +1,5 @@
 pub mod Among
+pub mod Levels
 pub mod Makers
 pub mod Own
 pub mod Recorded

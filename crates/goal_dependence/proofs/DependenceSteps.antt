@@ -1,5 +1,5 @@
 -- What goals depend on after a wave, from what they depended on before it.
-use Rattle.std.proofs.Common.{◌≡◌, ◌∙◌, refl, sym, ap, ap₂, ℕ, suc, inl, inr, List, [], ◌∷◌, ◌++◌, map}
+use Rattle.std.proofs.Common.{◌≡◌, ◌∙◌, refl, sym, ap, ap₂, ℕ, suc, inl, inr, List, [], ◌∷◌, ◌++◌, map, drop, length, take}
 use Rattle.defs_soar.specs.declared.goal.Goal.{Goal}
 use Rattle.defs_soar.specs.declared.preference.Preference.{Preference}
 use Rattle.defs_soar.specs.History.{FiringOf, Reach, RecordedFiring, firing_seen}
@@ -25,6 +25,25 @@ depends_after_wave history pasts depth goals depends kept tables is earlier late
     ∙ ap (λ k. each_with (dependencies_from history depth goals) (tags_found_from k pasts depth goals)) (sym (map_both (λ (past : RecordedFiring). past.firing) history pasts))
     ∙ ap (each_with (dependencies_from history depth goals)) (found_in_history (history ++ pasts) pasts depth goals)
     ∙ sym (goals_depend_on_more history pasts depth goals earlier later)
+
+-- ---- goals that are left
+
+added_to_left : (firings : List FiringOf) (pasts : List RecordedFiring) (depth : ℕ) (goals : List Goal) (depends : List (List ℕ))
+    → each_with depends (tags_found_from firings pasts depth goals) ≡ each_with depends (tags_found_from firings pasts depth (take (length depends) goals))
+added_to_left firings pasts depth goals [] = refl
+added_to_left firings pasts depth [] (tags ∷ depends) = refl
+added_to_left firings pasts depth (goal ∷ goals) (tags ∷ depends) =
+    ap (λ l. (tags ++ tags_found firings pasts goal.id depth) ∷ l) (added_to_left firings pasts (suc depth) goals depends)
+
+-- what was found for all goals adds to the tables of those that are left what was found for these
+pub tags_of_left : (firings : List FiringOf) (pasts : List RecordedFiring) (depth : ℕ) (old new : List Goal) (depends : List (List ℕ)) → new ≡ take (length new) old → suc (length depends) ≡ length new
+    → each_with depends (tags_found_from firings pasts depth (drop 1 old)) ≡ each_with depends (tags_found_from firings pasts depth (drop 1 new))
+tags_of_left firings pasts depth old new depends first fits =
+    by old ∙ ap (λ n. each_with depends (tags_found_from firings pasts depth (drop 1 (take n old)))) fits ∙ ap (λ (gs : List Goal). each_with depends (tags_found_from firings pasts depth (drop 1 gs))) (sym first)
+  where
+    by : (goals : List Goal) → each_with depends (tags_found_from firings pasts depth (drop 1 goals)) ≡ each_with depends (tags_found_from firings pasts depth (drop 1 (take (suc (length depends)) goals)))
+    by [] = refl
+    by (goal ∷ goals) = added_to_left firings pasts depth goals depends
 
 -- ---- the record
 

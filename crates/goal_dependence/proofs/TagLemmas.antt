@@ -1,9 +1,7 @@
 -- Lists with more behind some.
-use Rattle.std.proofs.Common.{◌≡◌, ◌∙◌, refl, sym, ap, ap₂, ℕ, zero, suc, ◌+◌, ◌≤◌, ◌<◌, add-one, arith, List, [], ◌∷◌, ◌++◌, length, drop, drop-cons, get_or, flat_map, Result, Ok, Err, OnOk}
+use Rattle.std.proofs.Common.{◌≡◌, ◌∙◌, refl, sym, ap, ℕ, zero, suc, ◌+◌, ◌≤◌, ◌<◌, add-one, arith, List, [], ◌∷◌, ◌++◌, length, drop, drop-cons, get_or, Result, Ok, Err, OnOk}
 use Rattle.std.specs.Prelude.{slice_index_or, slice_set}
-use Rattle.defs_soar.specs.History.{FiringOf}
-use Rattle.goal_dependence.specs.Counted.{each_from, higher_as_told, tags_as_told, with_more_at}
-use Rattle.goal_dependence.specs.Told.{Told}
+use Rattle.goal_dependence.specs.Counted.{each_from, with_more_at}
 
 -- ---- at one place
 
@@ -36,18 +34,14 @@ none_more (suc place) (tags ∷ lists) = ap (λ l. tags ∷ l) (none_more place 
 drop_item : {A : Type 0} (xs : List A) (i : ℕ) (x : A) → i < length xs → x ≡ get_or xs i x → drop i xs ≡ x ∷ drop (i + 1) xs
 drop_item xs i x within at = drop-cons xs i x within ∙ rw (← at, add-one i) refl
 
--- the tags of the firings of one list, and then of those behind it
-pub one_list : (told : Told) (kept : List FiringOf) (counted : List (List ℕ)) (place : ℕ) (item numbers : List ℕ) (lists : List (List ℕ)) → place < length counted
-    → item ≡ get_or counted place item → numbers ≡ item
-    → each_from (place + 1) (with_more_at place (flat_map (higher_as_told told kept (place + 2)) numbers) lists) (tags_as_told told kept (place + 1 + 2) (drop (place + 1) counted))
-    ≡ each_from place lists (tags_as_told told kept (place + 2) (drop place counted))
-one_list told kept counted place item numbers lists within at is =
-    let here : List ℕ = flat_map (higher_as_told told kept (place + 2)) numbers in
-    let next : place + 1 + 2 ≡ suc (place + 2) = omega arith in
-    ap₂ (λ n d. each_from n (with_more_at place here lists) (tags_as_told told kept d (drop (place + 1) counted))) (add-one place) next
-    ∙ sym (one_more place lists here (tags_as_told told kept (suc (place + 2)) (drop (place + 1) counted)))
-    ∙ ap (λ ns. each_from place lists (tags_as_told told kept (place + 2) (ns ∷ drop (place + 1) counted))) is
-    ∙ ap (λ l. each_from place lists (tags_as_told told kept (place + 2) l)) (sym (drop_item counted place item within at))
+-- the tags of one place, and then those behind it
+pub one_table : (tags : List (List ℕ)) (place : ℕ) (item more : List ℕ) (tables : List (List ℕ)) → place < length tags → item ≡ get_or tags place item → more ≡ item
+    → each_from (place + 1) (with_more_at place more tables) (drop (place + 1) tags) ≡ each_from place tables (drop place tags)
+one_table tags place item more tables within at is =
+    ap (λ n. each_from n (with_more_at place more tables) (drop (place + 1) tags)) (add-one place)
+    ∙ sym (one_more place tables more (drop (place + 1) tags))
+    ∙ ap (λ x. each_from place tables (x ∷ drop (place + 1) tags)) is
+    ∙ ap (each_from place tables) (sym (drop_item tags place item within at))
 
 -- ---- answers
 

@@ -1,5 +1,5 @@
 -- What levels tell is what was reached before the wave: so the firings that count, and the tags that they add, are those that are defined.
-use Rattle.std.proofs.Common.{◌≡◌, ◌∙◌, refl, ap, ap₂, ℕ, suc, ◌+◌, ◌-◌, ◌^◌, ◌<◌, ◌==◌, nat_lt, min, arith, Bool, true, false, ◌&&◌, ◌||◌, cond, List, [], ◌∷◌, ◌++◌, length, map, flat_map, filter, Option, Some, None}
+use Rattle.std.proofs.Common.{◌≡◌, ◌∙◌, refl, ap, ap₂, ℕ, suc, ◌+◌, ◌-◌, ◌^◌, ◌<◌, ◌==◌, nat_lt, min, arith, Bool, true, false, ◌&&◌, ◌||◌, cond, List, [], ◌∷◌, ◌++◌, length, map, flat_map, filter, Option, Some, None, option_map}
 use Rattle.std.specs.List.{list_any}
 use Rattle.soar_sym.specs.declared.symbol.Sym.{Sym}
 use Rattle.soar_wm.specs.declared.element.Element.{Element}
@@ -11,9 +11,9 @@ use Rattle.defs_soar.specs.Explanation.{chain_of}
 use Rattle.defs_soar.specs.History.{FiringOf, Reach, RecordedFiring, firing_seen}
 use Rattle.defs_soar.specs.Levels.{level}
 use Rattle.defs_soar.specs.Waves.{lasting_of}
-use Rattle.soar_levels.specs.Told.{as_answered, TellsLevels}
+use Rattle.level_laws.specs.Labels.{as_told}
 use Rattle.firing_records.specs.declared.outcome.Recorded.{Recorded}
-use Rattle.goal_dependence.specs.Counted.{counted_for, counted_from, counts_as_told, higher_as_told, tags_as_told}
+use Rattle.goal_dependence.specs.Counted.{counts_as_told, higher_as_told, tags_as_told, tags_as_told_from, tags_by}
 use Rattle.goal_dependence.specs.Remembered.{past_by, reach_over, tags_found_from}
 use Rattle.goal_dependence.specs.Told.{Told, is_told_local, was_told_at, was_told_below}
 
@@ -29,21 +29,21 @@ below_capped n depth small = grind arith
 any_same : {A : Type 0} (p q : A → Bool) (xs : List A) → ((x : A) → p x ≡ q x) → list_any p xs ≡ list_any q xs
 any_same p q xs same = ap (λ f. list_any f xs) (λ k x. same x k)
 
-module _ (told : Told) (before : List Goal) (elements : List Element) (tells : TellsLevels told before (map triple_of elements)) where
+module _ (told : Told) (before : List Goal) (elements : List Element) (tells : (s : Sym) → told s ≡ option_map as_told (level before (map triple_of elements) s)) where
   abbrev reach : Reach
   reach = reach_over before elements
 
   at_same : (depth : ℕ) (s : Sym) → depth < most → was_told_at told depth s ≡ has_level reach depth s
   at_same depth s small = ap (λ o. elim o as (λ x. Bool) [ Some n ↦ n == depth | None ↦ false ]) (tells s) ∙ by (level before (map triple_of elements) s)
     where
-      by : (o : Option ℕ) → elim (as_answered o) as (λ x. Bool) [ Some n ↦ n == depth | None ↦ false ] ≡ elim o as (λ x. Bool) [ Some n ↦ n == depth | None ↦ false ]
+      by : (o : Option ℕ) → elim (option_map as_told o) as (λ x. Bool) [ Some n ↦ n == depth | None ↦ false ] ≡ elim o as (λ x. Bool) [ Some n ↦ n == depth | None ↦ false ]
       by None = refl
       by (Some n) = at_capped n depth small
 
   below_same : (depth : ℕ) (s : Sym) → depth < most → was_told_below told depth s ≡ had_level_below reach depth s
   below_same depth s small = ap (λ o. elim o as (λ x. Bool) [ Some n ↦ nat_lt n depth | None ↦ true ]) (tells s) ∙ by (level before (map triple_of elements) s)
     where
-      by : (o : Option ℕ) → elim (as_answered o) as (λ x. Bool) [ Some n ↦ nat_lt n depth | None ↦ true ] ≡ elim o as (λ x. Bool) [ Some n ↦ nat_lt n depth | None ↦ true ]
+      by : (o : Option ℕ) → elim (option_map as_told o) as (λ x. Bool) [ Some n ↦ nat_lt n depth | None ↦ true ] ≡ elim o as (λ x. Bool) [ Some n ↦ nat_lt n depth | None ↦ true ]
       by None = refl
       by (Some n) = below_capped n depth small
 
@@ -65,27 +65,20 @@ module _ (told : Told) (before : List Goal) (elements : List Element) (tells : T
           ap (λ p. map (λ (e : Element). e.tag) (filter p (chain_of firings (r.firing.number ∷ []) []).grounds)) (λ k e. below_same depth e.id small k)
 
       tags_same : (goal : Sym) (depth : ℕ) (recorded : List Recorded) → depth < most
-          → flat_map (higher_as_told told firings depth) (counted_for told added recorded goal depth) ≡ flat_map (higher_grounds firings depth) (filter (counts_for goal depth) (map past recorded))
+          → tags_as_told told firings added goal depth recorded ≡ flat_map (higher_grounds firings depth) (filter (counts_for goal depth) (map past recorded))
       tags_same goal depth [] small = refl
       tags_same goal depth (r ∷ recorded) small =
-          by (filter (counts_as_told told added goal depth) recorded) (filter (counts_for goal depth) (map past recorded))
-          (counts_as_told told added goal depth r) (counts_for goal depth (past r)) (counts_same goal depth r small) (tags_same goal depth recorded small)
+          by (filter (counts_for goal depth) (map past recorded)) (counts_as_told told added goal depth r) (counts_for goal depth (past r)) (counts_same goal depth r small) (tags_same goal depth recorded small)
         where
-          by : (counted : List Recorded) (pasts : List RecordedFiring) (b c : Bool) → b ≡ c
-              → flat_map (higher_as_told told firings depth) (map (λ (r : Recorded). r.firing.number) counted) ≡ flat_map (higher_grounds firings depth) pasts
-              → flat_map (higher_as_told told firings depth) (map (λ (r : Recorded). r.firing.number) (cond b (r ∷ counted) counted))
-              ≡ flat_map (higher_grounds firings depth) (cond c (past r ∷ pasts) pasts)
-          by counted pasts true true e later = ap₂ (λ x y. x ++ y) (higher_same depth r small) later
-          by counted pasts true false e later = absurd (cc)
-          by counted pasts false true e later = absurd (cc)
-          by counted pasts false false e later = later
+          by : (pasts : List RecordedFiring) (b c : Bool) → b ≡ c → tags_as_told told firings added goal depth recorded ≡ flat_map (higher_grounds firings depth) pasts
+              → cond b (higher_as_told told firings depth r.firing.number) [] ++ tags_as_told told firings added goal depth recorded ≡ flat_map (higher_grounds firings depth) (cond c (past r ∷ pasts) pasts)
+          by pasts true true e later = ap₂ (λ x y. x ++ y) (higher_same depth r small) later
+          by pasts true false e later = absurd (cc)
+          by pasts false true e later = absurd (cc)
+          by pasts false false e later = later
 
       pub tags_same_from : (depth : ℕ) (recorded : List Recorded) (goals : List Goal) → depth + length goals < most
-          → tags_as_told told firings depth (counted_from told added recorded depth goals) ≡ tags_found_from firings (map past recorded) depth goals
+          → tags_as_told_from told firings added recorded depth goals ≡ tags_found_from firings (map past recorded) depth goals
       tags_same_from depth recorded [] small = refl
       tags_same_from depth recorded (goal ∷ goals) small =
           ap₂ (λ x y. x ∷ y) (tags_same goal.id depth recorded (omega arith)) (tags_same_from (suc depth) recorded goals (omega arith))
-
-pub counted_length : (told : Told) (added : List Preference) (recorded : List Recorded) (depth : ℕ) (goals : List Goal) → length (counted_from told added recorded depth goals) ≡ length goals
-counted_length told added recorded depth [] = refl
-counted_length told added recorded depth (goal ∷ goals) = ap suc (counted_length told added recorded (suc depth) goals)

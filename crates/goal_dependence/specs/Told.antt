@@ -1,20 +1,19 @@
 -- What levels tell, as they are answered: how the code goes, cited by no public clause.
-use Rattle.std.specs.Prelude.{ℕ, Bool, true, false, ◌&&◌, ◌||◌, ◌==◌, nat_lt, List, Option, Some, None}
+use Rattle.std.specs.Prelude.{ℕ, Bool, true, false, ◌&&◌, ◌||◌, ◌==◌, nat_lt, Option, Some, None}
 use Rattle.soar_sym.specs.declared.symbol.Sym.{Sym}
 use Rattle.defs_soar.specs.declared.preference.Preference.{Preference}
 use Rattle.defs_soar.specs.Dependencies.{is_new_in}
 use Rattle.defs_soar.specs.History.{FiringOf}
-use Rattle.soar_levels.specs.Told.{level_told}
 
--- symbols, each with its level or none
+-- the level of a symbol, or none
 abbrev pub Told : Type 0
-Told = List (Sym × Option ℕ)
+Told = Sym → Option ℕ
 
 abbrev pub was_told_at : Told → ℕ → Sym → Bool
-was_told_at told depth s = elim (level_told told s) [ Some n ↦ n == depth | None ↦ false ]
+was_told_at told depth s = elim (told s) [ Some n ↦ n == depth | None ↦ false ]
 
 abbrev pub was_told_below : Told → ℕ → Sym → Bool
-was_told_below told depth s = elim (level_told told s) [ Some n ↦ nat_lt n depth | None ↦ true ]
+was_told_below told depth s = elim (told s) [ Some n ↦ nat_lt n depth | None ↦ true ]
 
 -- told to be of the level, or new in the firing
 abbrev pub is_told_local : Told → ℕ → FiringOf → Sym → Bool

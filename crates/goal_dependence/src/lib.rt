@@ -1,6 +1,7 @@
 //! Which elements goals depend on, as waves add to it.
 #![tactic(auto)]
 
+mod adding;
 mod constants;
 mod counting;
 mod finding;
@@ -8,5 +9,7 @@ mod joining;
 mod locality;
 mod newness;
 mod remembering;
+mod wave_record;
 
+pub use finding::tags_found;
 pub use remembering::remember;

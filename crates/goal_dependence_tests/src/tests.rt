@@ -2,9 +2,9 @@ ghost use Rattle.std.specs.Prelude.{◌≡◌, [], IfOk};
 
 mod parts;
 
-use crate::tests::parts::{H1, L1, N1, S1, S2, goals, levels, row, used, wave};
+use crate::tests::parts::{H1, L1, N1, S1, S2, goals, kept, row, used, wave};
 use defs_soar::{How, Used};
-use goal_dependence::remember;
+use goal_dependence::{remember, tags_found};
 use soar_record::Record;
 use soar_sym::{List, NoMemory, Sym};
 use std::alloc::Global;
@@ -25,20 +25,20 @@ fn depends(
     expected: &[u32],
 ) -> Result<bool, NoMemory> {
     let goals = goals(alloc)?;
-    let levels = levels(alloc, &goals)?;
+    let kept = kept(alloc, &goals)?;
     let wave = wave(alloc, operator_kind, used, id)?;
-    let mut kept = Record::new(alloc)?;
-    let mut tables = List::new(alloc);
-    tables.push(List::new(alloc))?;
-    remember(
+    let mut past = Record::new(alloc)?;
+    let tags = tags_found(
         alloc,
-        &levels,
+        &kept,
         goals.as_slice(),
-        &mut tables,
-        &mut kept,
-        wave,
+        &past,
+        wave.as_slice(),
         &[row(id)],
     )?;
+    let mut tables = List::new(alloc);
+    tables.push(List::new(alloc))?;
+    remember(alloc, &mut tables, &mut past, wave, &tags)?;
     Ok(is_table(&tables, expected))
 }
 

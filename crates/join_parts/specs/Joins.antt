@@ -5,12 +5,18 @@ use Rattle.defs_match.specs.Laws.{IsIn}
 use Rattle.defs_match.specs.Rows.{Row, by_element}
 use Rattle.soar_rule.specs.declared.cond.Pattern.{Pattern}
 use Rattle.soar_wm.specs.declared.element.Element.{Element}
-use Rattle.node_memory.specs.Memories.{Found, has}
+use Rattle.soar_sym.specs.declared.symbol.Sym.{Sym}
+use Rattle.node_memory.specs.Memories.{Found, has, symbol_in}
 use Rattle.node_memory.specs.Held.{listed, Holds, SameElements}
+use Rattle.join_parts.specs.Known.{first_variable}
 
 -- it is what an element makes of a row that is found
 abbrev pub IsOne : Pattern → Element → Found → Row → Type 0
 IsOne p e found x = (r : Row) × has found r × IsIn x (by_element p r e)
+
+-- the same, of a row in which the variable of the pattern's identifier stands for this
+abbrev pub IsOneAt : Pattern → Element → Option Sym → Found → Row → Type 0
+IsOneAt p e id found x = (r : Row) × has found r × (symbol_in (first_variable p.id.tests) r.bindings ≡ id) × IsIn x (by_element p r e)
 
 abbrev pub IsOfOne : Pattern → Option Element → Found → Row → Type 0
 IsOfOne p None found x = ⊥

@@ -63,8 +63,8 @@ fn add_by_all(
     Ok(())
 }
 
-/// The elements that can extend a row by a pattern: those of its identifier, where it is known, and of its attribute, where it is
-/// a constant.
+/// The elements that can extend a row by a pattern: those of its identifier, where it is known, and then of its attribute and of
+/// its value, where they are.
 fn candidates(
     alloc: Global,
     p: &Pattern,
@@ -74,7 +74,11 @@ fn candidates(
     ensures { IfOk result (λ found. extend p.now found.items row.now ≡ extend p.now index.now row.now) }
 {
     match known(p.id.tests.as_slice(), row.bindings()) {
-        Some(id) => index.candidates(alloc, id, known_constant(p.attr.tests.as_slice())),
+        Some(id) => {
+            let attr = known(p.attr.tests.as_slice(), row.bindings());
+            let value = known(p.value.tests.as_slice(), row.bindings());
+            index.candidates(alloc, id, attr, value)
+        }
         None => index.all(alloc),
     }
 }

@@ -7,4 +7,4 @@ mod serve;
 
 pub use join::constants_of;
 pub use law::{constants_leave_out, join_rests, join_serves, prefix_joins, rows_are_one_each};
-pub use serve::{come_to_join, first_variable, go_from_join, serve_join};
+pub use serve::{come_to_join, go_from_join, joined_of, serve_join};

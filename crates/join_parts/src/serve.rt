@@ -1,5 +1,5 @@
 // What the change of its two sides makes of a join.
-ghost use Rattle.std.specs.Prelude.{◌≡◌, ◌↔◌, ◌⊎◌, ◌++◌, ℕ, filter, map, Some, None, OnOk, IfOk};
+ghost use Rattle.std.specs.Prelude.{◌≡◌, ◌↔◌, ◌⊎◌, ◌++◌, filter, map, OnOk, IfOk};
 ghost use Rattle.std.specs.Ordering.{nat_cmp};
 ghost use Rattle.std.specs.Cmp.Lexicographic.{slice_cmp};
 ghost use Rattle.std.specs.BTreeMap.{get, IsOrdered};
@@ -7,14 +7,14 @@ ghost use Rattle.std.specs.Map.{keys_of};
 ghost use Rattle.defs_match.specs.Laws.{IsIn};
 ghost use Rattle.defs_match.specs.Rows.{Row as RowOf};
 ghost use Rattle.node_memory.specs.Changes.{begins, is_below, below, join, tags_of};
-ghost use Rattle.join_parts.specs.Known.{first_variable};
+ghost use Rattle.join_parts.specs.Known.{first_variable, joined_of};
 ghost use Rattle.node_memory.specs.Memories.{IsIndexed, entries_not_below};
-ghost use Rattle.join_parts.specs.Joins.{IsOne, IsOfOne, GoesFrom, Serves};
+ghost use Rattle.join_parts.specs.Joins.{IsOne, IsOneAt, IsOfOne, GoesFrom, Serves};
 ghost use Rattle.node_memory.specs.Runs.{front_while};
 
 use crate::join::{add_all_extended, add_by_one};
 use match_row::Row;
-use node_memory::{ElementIndex, Memory, all_rows, change, rows_with};
+use node_memory::{ElementIndex, Joined, Memory, Symbols, change, rows_with};
 use soar_rule::{Atom, Pattern, Test};
 use soar_sym::{List, NoMemory, Sym};
 use soar_wm::Element;
@@ -22,7 +22,7 @@ use std::alloc::Global;
 use std::collections::BTreeMap;
 
 /// The variable that is a field's first test.
-pub fn first_variable(tests: &[Test]) -> Option<u32>
+fn first_variable(tests: &[Test]) -> Option<u32>
     ensures { result ≡ first_variable tests.now }
 {
     match tests.first() {
@@ -31,8 +31,40 @@ pub fn first_variable(tests: &[Test]) -> Option<u32>
     }
 }
 
-/// Adds the rows that one element makes of the rows of a memory: of those in which the pattern's variable stands for its
-/// identifier or for nothing, where the identifier's first test is a variable, and else of all.
+/// The variables by which a join finds the rows of its parent: those that are the first tests of its identifier and of its value.
+pub fn joined_of(p: &Pattern) -> Joined
+    ensures { result ≡ joined_of p.now }
+{
+    Joined {
+        id: first_variable(p.id.tests.as_slice()),
+        value: first_variable(p.value.tests.as_slice()),
+    }
+}
+
+/// Adds the rows that one element makes of the rows of a memory in which the variable of the pattern's identifier stands for this:
+/// of those in which that of its value stands for the element's, or for nothing.
+fn add_joined_at(
+    alloc: Global,
+    p: &Pattern,
+    memory: &Memory,
+    id: Option<Sym>,
+    e: &Element,
+    out: &mut Vec<Row>,
+) -> Result<(), NoMemory>
+    requires indexed { IsIndexed memory.now.joined.items (get (slice_cmp nat_cmp) memory.now.rows) memory.now.index }
+    requires joined { IsIn (joined_of p.now) memory.now.joined.items }
+    ensures { OnOk result ((x : RowOf) → IsIn x out.new.items ↔ (IsIn x out.old.items ⊎ IsOneAt p.now e.now id (get (slice_cmp nat_cmp) memory.now.rows) x)) }
+{
+    let joined = joined_of(p);
+    let value = Some(e.value);
+    let known = rows_with(alloc, memory, joined, Symbols { id, value })?;
+    let free = rows_with(alloc, memory, joined, Symbols { id, value: None })?;
+    add_by_one(alloc, p, known.as_slice(), e, out)?;
+    add_by_one(alloc, p, free.as_slice(), e, out)
+}
+
+/// Adds the rows that one element makes of the rows of a memory: of those in which the variables of the pattern's identifier and
+/// of its value stand for the element's, or for nothing.
 fn add_joined(
     alloc: Global,
     p: &Pattern,
@@ -41,21 +73,11 @@ fn add_joined(
     out: &mut Vec<Row>,
 ) -> Result<(), NoMemory>
     requires indexed { IsIndexed memory.now.joined.items (get (slice_cmp nat_cmp) memory.now.rows) memory.now.index }
-    requires joined { (v : ℕ) → first_variable p.now.id.tests ≡ Some v → IsIn v memory.now.joined.items }
+    requires joined { IsIn (joined_of p.now) memory.now.joined.items }
     ensures { OnOk result ((x : RowOf) → IsIn x out.new.items ↔ (IsIn x out.old.items ⊎ IsOne p.now e.now (get (slice_cmp nat_cmp) memory.now.rows) x)) }
 {
-    match first_variable(p.id.tests.as_slice()) {
-        Some(variable) => {
-            let known = rows_with(alloc, memory, variable, Some(e.id))?;
-            let free = rows_with(alloc, memory, variable, None)?;
-            add_by_one(alloc, p, known.as_slice(), e, out)?;
-            add_by_one(alloc, p, free.as_slice(), e, out)
-        }
-        None => {
-            let rows = all_rows(alloc, &memory.rows)?;
-            add_by_one(alloc, p, rows.as_slice(), e, out)
-        }
-    }
+    add_joined_at(alloc, p, memory, Some(e.id), e, out)?;
+    add_joined_at(alloc, p, memory, None, e, out)
 }
 
 /// Adds the rows that an element, if any, makes of the rows of a memory.
@@ -67,7 +89,7 @@ fn add_of_one(
     out: &mut Vec<Row>,
 ) -> Result<(), NoMemory>
     requires indexed { IsIndexed memory.now.joined.items (get (slice_cmp nat_cmp) memory.now.rows) memory.now.index }
-    requires joined { (v : ℕ) → first_variable p.now.id.tests ≡ Some v → IsIn v memory.now.joined.items }
+    requires joined { IsIn (joined_of p.now) memory.now.joined.items }
     ensures { OnOk result ((x : RowOf) → IsIn x out.new.items ↔ (IsIn x out.old.items ⊎ IsOfOne p.now e (get (slice_cmp nat_cmp) memory.now.rows) x)) }
 {
     match e {
@@ -87,7 +109,7 @@ pub fn come_to_join(
     come: Option<Element>,
 ) -> Result<Vec<Row>, NoMemory>
     requires indexed { IsIndexed parent.now.joined.items (get (slice_cmp nat_cmp) parent.now.rows) parent.now.index }
-    requires joined { (v : ℕ) → first_variable p.now.id.tests ≡ Some v → IsIn v parent.now.joined.items }
+    requires joined { IsIn (joined_of p.now) parent.now.joined.items }
     ensures { IfOk result (λ v. (x : RowOf) → IsIn x v.items ↔ (IsIn x (join p.now index.now rows_come.now) ⊎ IsOfOne p.now come (get (slice_cmp nat_cmp) parent.now.rows) x)) }
 {
     let mut out = Vec::new(alloc);
@@ -167,7 +189,7 @@ pub fn go_from_join(
     gone: Option<Element>,
 ) -> Result<Vec<List<u32>>, NoMemory>
     requires indexed { IsIndexed parent.now.joined.items (get (slice_cmp nat_cmp) parent.now.rows) parent.now.index }
-    requires joined { (v : ℕ) → first_variable p.now.id.tests ≡ Some v → IsIn v parent.now.joined.items }
+    requires joined { IsIn (joined_of p.now) parent.now.joined.items }
     ensures goes { IfOk result (λ v. GoesFrom p.now (get (slice_cmp nat_cmp) parent.now.rows) (keys_of child.now.rows.entries) rows_gone.now gone v.items) }
     ensures ordered { OnOk result (IsOrdered (slice_cmp nat_cmp) child.now.rows) }
 {
@@ -194,7 +216,7 @@ pub fn serve_join(
 ) -> Result<(Vec<Row>, Vec<List<u32>>), NoMemory>
     requires indexed { IsIndexed parent.now.joined.items (get (slice_cmp nat_cmp) parent.now.rows) parent.now.index }
     requires child { IsIndexed child.old.joined.items (get (slice_cmp nat_cmp) child.old.rows) child.old.index }
-    requires joined { (v : ℕ) → first_variable p.now.id.tests ≡ Some v → IsIn v parent.now.joined.items }
+    requires joined { IsIn (joined_of p.now) parent.now.joined.items }
     ensures serves { IfOk result (λ r. Serves p.now (get (slice_cmp nat_cmp) parent.now.rows) rows_come.now rows_gone.now index.now come goes (get (slice_cmp nat_cmp) child.old.rows) (get (slice_cmp nat_cmp) child.new.rows) r.0.items r.1.items) }
     ensures joined { OnOk result (child.new.joined.items ≡ child.old.joined.items) }
     ensures indexed { OnOk result (IsIndexed child.new.joined.items (get (slice_cmp nat_cmp) child.new.rows) child.new.index) }

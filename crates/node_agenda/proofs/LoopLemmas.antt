@@ -1,5 +1,5 @@
 -- From one turn of the agenda to the next.
-use Rattle.std.proofs.Common.{◌≡◌, ◌≢◌, ◌⊎◌, inl, inr, refl, sym, ap, subst, ◌∙◌, Bool, true, false, cond, not, ◌&&◌, ◌==◌, eq-eqb, ℕ, suc, ◌+◌, ◌<◌, ◌≤◌, length, List, [], ◌∷◌, Option, Some, arith}
+use Rattle.std.proofs.Common.{◌≡◌, ◌≢◌, ◌⊎◌, inl, inr, refl, sym, ap, subst, ◌∙◌, Bool, true, false, cond, not, ◌&&◌, ◌==◌, eq-eqb, ℕ, suc, ◌+◌, ◌<◌, ◌≤◌, length, List, [], ◌∷◌, ◌++◌, Option, Some, arith}
 use Rattle.std.proofs.lemmas.Option.{same_Some}
 use Rattle.std.proofs.lemmas.Bool.{cases_eq}
 use Rattle.std.specs.List.{All}
@@ -10,6 +10,7 @@ use Rattle.defs_match.specs.Laws.{IsIn, ElementsDiffer}
 use Rattle.soar_wm.specs.declared.element.Element.{Element}
 use Rattle.node_memory.specs.Changes.{ElementsChange}
 use Rattle.node_memory.specs.Held.{listed, SameElements}
+use Rattle.node_memory.proofs.ChangeLemmas.{in_left, in_right}
 use Rattle.node_memory.proofs.KeyLemmas.{then_less}
 use Rattle.node_table.specs.declared.node.NodeKey.{NodeKey}
 use Rattle.node_table.specs.declared.node.Node.{Node}
@@ -20,7 +21,7 @@ use Rattle.node_table.proofs.StandLemmas.{settled_holds, now, now_here, now_serv
 use Rattle.node_agenda.specs.declared.turns.Turn.{Turn}
 use Rattle.node_agenda.specs.declared.turns.TurnKey.{TurnKey}
 use Rattle.node_agenda.specs.Turns.{turn_cmp, under}
-use Rattle.node_agenda.specs.Agenda.{turn_of, is_nothing, is_changed, GoesOn, IsIdle, IsTurn, IsLinked, IsLoop, Settles}
+use Rattle.node_agenda.specs.Agenda.{turn_of, is_nothing, is_changed, GoesOn, IsIdle, IsTurn, IsLinked, IsLoop, Settles, AreServed, AllTell}
 use Rattle.node_agenda.proofs.AgendaLemmas.{settled}
 
 pub all_in : {A : Type 0} (P : A → Type 0) (xs : List A) → All P xs → (x : A) → IsIn x xs → P x
@@ -236,11 +237,20 @@ module _ (old new : ℕ → Option Node) (rest : List Turn) (t : Turn) (below : 
         | inr ne ↦ (let same : o ≡ node = same_Some o node (sym at ∙ sym (s.others n ne) ∙ there) in elim h [ inl e ↦ inl (ap (λ (x : Node). x.stamp) (sym same) ∙ e) | inr e ↦ inr (ap (λ (x : Node). x.stamp) (sym same) ∙ e) ])
       ]
 
--- When the agenda is empty, every node holds its rows.
-pub all_hold : (nodes : ℕ → Option Node) (below : List TurnKey) (stamp floor end : ℕ) (come goes : Option Element) → IsLoop nodes [] below stamp floor end come goes → (w0 w1 : List Element) → Stands nodes stamp w0 w1
-    → ElementsChange w0 w1 (listed come) (listed goes) → AllHold nodes w1
-all_hold nodes below stamp floor end come goes l w0 w1 stands ec n node here =
-    settled_holds (key_at nodes) stamp w0 w1 n node (stands n node here) (settled nodes [] below stamp floor end come goes l w0 w1 stands ec end (λ t i. absurd i) node.made n node here (omega arith) (l.table.early n node here))
+  -- the node is listed now too
+  pub served_on : (served : List ℕ) → AreServed old stamp served → AreServed new stamp (served ++ t.node ∷ [])
+  served_on served listed n node there stamped = elim (cases_eq n t.node) [
+    | inl e ↦ in_right n served (t.node ∷ []) (inl (sym e))
+    | inr ne ↦ in_left n served (t.node ∷ []) (listed n node (sym (s.others n ne) ∙ there) stamped)
+  ]
+
+-- When the agenda is empty, every node has told what the change made of its rows, and holds them.
+module _ (nodes : ℕ → Option Node) (below : List TurnKey) (stamp floor end : ℕ) (come goes : Option Element) (l : IsLoop nodes [] below stamp floor end come goes) (w0 w1 : List Element) (stands : Stands nodes stamp w0 w1) (ec : ElementsChange w0 w1 (listed come) (listed goes)) where
+  pub all_tell : AllTell nodes stamp w0 w1
+  all_tell n node here = settled nodes [] below stamp floor end come goes l w0 w1 stands ec end (λ t i. absurd i) node.made n node here (omega arith) (l.table.early n node here)
+
+  pub all_hold : AllHold nodes w1
+  all_hold n node here = settled_holds (key_at nodes) stamp w0 w1 n node (stands n node here) (all_tell n node here)
 
 pub empty_of : {A : Type 0} (xs : List A) → (0 < length xs → ⊥) → xs ≡ []
 empty_of [] h = refl
@@ -248,3 +258,7 @@ empty_of (x ∷ xs) h = absurd (h (omega arith))
 
 pub settles_first : (nodes : ℕ → Option Node) (stamp : ℕ) → Settles nodes nodes stamp
 settles_first nodes stamp = record { stays = λ n node there. (node, there, refl, refl, refl, refl, inl refl); still = λ n w at. (w, at) }
+
+-- before a change none has its stamp
+pub none_served : (nodes : ℕ → Option Node) (agenda : List Turn) (below : List TurnKey) (stamp end : ℕ) (come goes : Option Element) → IsLoop nodes agenda below stamp 0 end come goes → AreServed nodes stamp []
+none_served nodes agenda below stamp end come goes l n node here stamped = (let never : node.made < 0 = l.done n node here stamped in absurd (omega (arith, never)))

@@ -4,9 +4,9 @@ use Rattle.defs_match.specs.Laws.{IsIn}
 use Rattle.soar_wm.specs.declared.element.Element.{Element}
 use Rattle.node_table.specs.declared.node.NodeKey.{NodeKey}
 use Rattle.node_table.specs.declared.node.Node.{Node}
-use Rattle.node_table.specs.Nodes.{uppers}
+use Rattle.node_table.specs.Nodes.{key_at, uppers}
 use Rattle.node_table.specs.Serving.{come_at, gone_at, LeavesOut}
-use Rattle.node_table.specs.Content.{IsTable}
+use Rattle.node_table.specs.Content.{IsSettled, IsTable}
 use Rattle.node_agenda.specs.declared.turns.Turn.{Turn}
 use Rattle.node_agenda.specs.declared.turns.TurnKey.{TurnKey}
 use Rattle.node_agenda.specs.Turns.{under}
@@ -57,3 +57,11 @@ pub record IsLoop (nodes : ℕ → Option Node) (agenda : List Turn) (below : Li
 pub record Settles (old new : ℕ → Option Node) (stamp : ℕ) : Type 0 where
   pub stays : (n : ℕ) (node : Node) → new n ≡ Some node → (was : Node) × (old n ≡ Some was) × (node.key ≡ was.key) × (node.made ≡ was.made) × (node.alpha ≡ was.alpha) × (node.requests ≡ was.requests) × ((node.stamp ≡ was.stamp) ⊎ (node.stamp ≡ stamp))
   pub still : (n : ℕ) (was : Node) → old n ≡ Some was → (node : Node) × (new n ≡ Some node)
+
+-- each node that served the change is listed
+abbrev pub AreServed : (ℕ → Option Node) → ℕ → List ℕ → Type 0
+AreServed nodes stamp served = (n : ℕ) (node : Node) → nodes n ≡ Some node → (node.stamp == stamp) ≡ true → IsIn n served
+
+-- Each node tells what the change made of its rows, and one that was not served that they stay.
+abbrev pub AllTell : (ℕ → Option Node) → ℕ → List Element → List Element → Type 0
+AllTell nodes stamp w0 w1 = (n : ℕ) (node : Node) → nodes n ≡ Some node → IsSettled (key_at nodes) stamp w0 w1 n node

@@ -1,5 +1,5 @@
 // The nodes that a change reaches, served in the order in which they were made.
-ghost use Rattle.std.specs.Prelude.{◌≡◌, ◌↔◌, ◌⊎◌, ◌+◌, List as ListOf, OnOk};
+ghost use Rattle.std.specs.Prelude.{◌≡◌, ◌↔◌, ◌⊎◌, ◌+◌, List as ListOf, OnOk, IfOk};
 ghost use Rattle.slab.specs.Slab.{get};
 ghost use Rattle.defs_match.specs.Laws.{IsIn, ElementsDiffer};
 ghost use Rattle.soar_wm.specs.declared.element.Element.{Element as ElementOf};
@@ -7,13 +7,13 @@ ghost use Rattle.node_memory.specs.Changes.{ElementsChange};
 ghost use Rattle.node_memory.specs.Held.{listed, SameElements};
 ghost use Rattle.node_table.specs.Content.{IsTable, Stands, AllHold};
 ghost use Rattle.node_agenda.specs.Turns.{TurnOf, under, with_turn, with_turns};
-ghost use Rattle.node_agenda.specs.Agenda.{is_changed, GoesOn, IsLoop, IsLinked, Settles};
+ghost use Rattle.node_agenda.specs.Agenda.{is_changed, GoesOn, IsLoop, IsLinked, Settles, AreServed, AllTell};
 
 use crate::turns::{Turn, TurnIndex};
 use node_memory::ElementIndex;
 use node_table::{Node, serve};
 use slab::Slab;
-use soar_sym::NoMemory;
+use soar_sym::{List, NoMemory};
 use soar_wm::Element;
 use std::alloc::Global;
 use std::collections::BTreeSet;
@@ -77,7 +77,7 @@ fn go_on(
     Ok(())
 }
 
-/// Serves the nodes that a change reaches. At the end each node holds its rows over the elements after the change, served or not.
+/// Serves the nodes that a change reaches, and answers which. At the end each node holds its rows over the elements after the change, served or not.
 pub fn settle(
     alloc: Global,
     nodes: &mut Slab<Node>,
@@ -88,18 +88,22 @@ pub fn settle(
     index: &ElementIndex,
     come: Option<Element>,
     goes: Option<Element>,
-) -> Result<(), NoMemory>
+) -> Result<List<usize>, NoMemory>
     requires { IsLoop (get nodes.old) agenda.old.keys below.now stamp 0 end come goes }
     ensures table { OnOk result (IsTable (get nodes.new) end) }
     ensures links { OnOk result (IsLinked (get nodes.new) below.now) }
     ensures settles { OnOk result (Settles (get nodes.old) (get nodes.new) stamp) }
+    ensures served { IfOk result (λ served. AreServed (get nodes.new) stamp served) }
+    ensures tell { OnOk result ((w0 w1 : ListOf ElementOf) → Stands (get nodes.old) stamp w0 w1 → ElementsChange w0 w1 (listed come) (listed goes) → SameElements index.now w1 → ElementsDiffer w1 → AllTell (get nodes.new) stamp w0 w1) }
     ensures hold { OnOk result ((w0 w1 : ListOf ElementOf) → Stands (get nodes.old) stamp w0 w1 → ElementsChange w0 w1 (listed come) (listed goes) → SameElements index.now w1 → ElementsDiffer w1 → AllHold (get nodes.new) w1) }
 {
     let mut floor: u64 = 0;
+    let mut served = List::new(alloc);
     'turns: while let Some(turn) = agenda.pop_first() {
         serve(alloc, nodes, turn.node, stamp, index, come, goes)?;
         go_on(alloc, agenda, nodes, turn.node, below)?;
+        served.push(turn.node)?;
         floor = turn.made + 1;
     }
-    Ok(())
+    Ok(served)
 }

@@ -1,6 +1,7 @@
 -- What an index of elements finds, and what a change of it leaves.
 use Rattle.std.proofs.Common.{◌≡◌, ◌≢◌, ◌↔◌, ◌⊎◌, inl, inr, refl, sym, ap, ◌∙◌, Bool, true, false, cond, ◌||◌, List, [], ◌∷◌, filter, Option, eqb-true, eq-eqb}
 use Rattle.std.specs.Ordering.{nat_cmp, is_eq, match_ordering, ordering_then}
+use Rattle.std.specs.Option.{option_cmp}
 use Rattle.std.specs.declared.cmp.Ordering.{Ordering}
 use Rattle.std.specs.declared.cmp.Ordering.TheVariants.{Less, Equal, Greater}
 use Rattle.std.specs.Cmp.{IsTotalOrder, tied_itself, unsigned_tied}
@@ -17,6 +18,7 @@ use Rattle.node_memory.specs.declared.index.ElementKey.{ElementKey}
 use Rattle.node_memory.specs.contracts.index.ElementKeyOrd.TheImpl.Laws as laws
 use Rattle.node_memory.specs.Keys.{key_cmp, key_of, meets, key_meets}
 use Rattle.node_memory.specs.OwnKeys.{OwnKeys}
+use Rattle.node_memory.proofs.KeyLemmas.{sym_cmp}
 
 abbrev pub Keyed : Type 0
 Keyed = List (ElementKey × Element)
@@ -26,12 +28,12 @@ key_total = laws.total-law
 
 -- ---- what is found
 
-pub found_meets : (id : Sym) (attr : Option Sym) (es : Keyed) → OwnKeys es → values_of (filter (λ (p : ElementKey × Element). key_meets id attr p.0) es) ≡ filter (meets id attr) (values_of es)
-found_meets id attr [] own = refl
-found_meets id attr (p ∷ es) own = ap (λ (k : ElementKey). values_of (cond (key_meets id attr k) (p ∷ filter (λ (q : ElementKey × Element). key_meets id attr q.0) es) (filter (λ (q : ElementKey × Element). key_meets id attr q.0) es))) own.0 ∙ by (meets id attr p.1) (found_meets id attr es own.1)
+pub found_meets : (id : Sym) (attr value : Option Sym) (es : Keyed) → OwnKeys es → values_of (filter (λ (p : ElementKey × Element). key_meets id attr value p.0) es) ≡ filter (meets id attr value) (values_of es)
+found_meets id attr value [] own = refl
+found_meets id attr value (p ∷ es) own = ap (λ (k : ElementKey). values_of (cond (key_meets id attr value k) (p ∷ filter (λ (q : ElementKey × Element). key_meets id attr value q.0) es) (filter (λ (q : ElementKey × Element). key_meets id attr value q.0) es))) own.0 ∙ by (meets id attr value p.1) (found_meets id attr value es own.1)
   where
-    by : (b : Bool) → values_of (filter (λ (q : ElementKey × Element). key_meets id attr q.0) es) ≡ filter (meets id attr) (values_of es)
-        → values_of (cond b (p ∷ filter (λ (q : ElementKey × Element). key_meets id attr q.0) es) (filter (λ (q : ElementKey × Element). key_meets id attr q.0) es)) ≡ cond b (p.1 ∷ filter (meets id attr) (values_of es)) (filter (meets id attr) (values_of es))
+    by : (b : Bool) → values_of (filter (λ (q : ElementKey × Element). key_meets id attr value q.0) es) ≡ filter (meets id attr value) (values_of es)
+        → values_of (cond b (p ∷ filter (λ (q : ElementKey × Element). key_meets id attr value q.0) es) (filter (λ (q : ElementKey × Element). key_meets id attr value q.0) es)) ≡ cond b (p.1 ∷ filter (meets id attr value) (values_of es)) (filter (meets id attr value) (values_of es))
     by true deep = ap (λ l. p.1 ∷ l) deep
     by false deep = deep
 
@@ -44,7 +46,12 @@ then_equal Equal q h = h
 then_equal Greater q h = absurd (cc)
 
 same_tag : (k h : ElementKey) → key_cmp k h ≡ Equal → k.tag ≡ h.tag
-same_tag k h e = eqb-true k.tag h.tag (sym (unsigned_tied k.tag h.tag) ∙ ap is_eq (then_equal _ (nat_cmp k.tag h.tag) (then_equal _ _ e)))
+same_tag k h e =
+    let tags : Ordering = nat_cmp k.tag h.tag in
+    let values : Ordering = ordering_then (option_cmp sym_cmp k.value h.value) tags in
+    let attrs : Ordering = ordering_then (option_cmp sym_cmp k.attr h.attr) values in
+    let last : tags ≡ Equal = then_equal (option_cmp sym_cmp k.value h.value) tags (then_equal (option_cmp sym_cmp k.attr h.attr) values (then_equal (sym_cmp k.id h.id) attrs e)) in
+    eqb-true k.tag h.tag (sym (unsigned_tied k.tag h.tag) ∙ ap is_eq last)
 
 pub own_inserted : (es : Keyed) (e : Element) → OwnKeys es → list_any (has_tag e.tag) (values_of es) ≡ false → OwnKeys (insert_entry key_cmp es (key_of e) e)
 own_inserted [] e own new = (refl, tt)

@@ -15,7 +15,7 @@ use Rattle.soar_sym.specs.contracts.symbol.SymOrd.TheImpl.Laws as laws
 use Rattle.soar_sym.proofs.KeyLemmas.{symbol_same, symbol_derived}
 use Rattle.soar_wm.specs.declared.element.Element.{Element}
 use Rattle.node_memory.specs.declared.index.ElementKey.{ElementKey}
-use Rattle.node_memory.specs.Keys.{key_cmp, is_other, key_meets, least_key, entries_from}
+use Rattle.node_memory.specs.Keys.{key_cmp, is_other, value_beside, key_meets, least_key, entries_from}
 use Rattle.node_memory.specs.Runs.{front_while}
 use Rattle.node_memory.proofs.RunLemmas.{run_is_filter}
 
@@ -70,39 +70,55 @@ not_not : (b : Bool) → not b ≡ true → b ≡ false
 not_not true h = absurd (cc)
 not_not false h = refl
 
--- a key that meets is not below the least
-starts : (id : Sym) (attr : Option Sym) (k : ElementKey) → key_meets id attr k ≡ true → is_le (key_cmp (least_key id attr) k) ≡ true
-starts id attr k h =
-    let p = and_parts (symbol_eq id k.id) _ h in
-    ap is_le (at_same id k.id (ordering_then (option_cmp sym_cmp attr k.attr) (nat_cmp 0 k.tag)) p.0) ∙ by attr k.attr (not_not (is_other attr k.attr) p.1)
-  where
-    by : (a b : Option Sym) → is_other a b ≡ false → is_le (ordering_then (option_cmp sym_cmp a b) (nat_cmp 0 k.tag)) ≡ true
-    by None None h = zero_below k.tag
-    by None (Some s) h = refl
-    by (Some a) None h = absurd (cc)
-    by (Some a) (Some b) h = ap is_le (at_same a b (nat_cmp 0 k.tag) (told (symbol_eq a b) h)) ∙ zero_below k.tag
-      where
-        told : (b : Bool) → not b ≡ false → b ≡ true
-        told true h = refl
-        told false h = absurd (cc)
+told : (b : Bool) → not b ≡ false → b ≡ true
+told true h = refl
+told false h = absurd (cc)
 
-no_gap : (id : Sym) (attr : Option Sym) (h k : ElementKey) → is_le (key_cmp (least_key id attr) h) ≡ true → key_cmp h k ≡ Less → key_meets id attr k ≡ true → key_meets id attr h ≡ true
-no_gap id attr h k low high meets =
+-- a field that is not another is not below the one that is asked for
+field_starts : (a b : Option Sym) (o : Ordering) → is_other a b ≡ false → is_le o ≡ true → is_le (ordering_then (option_cmp sym_cmp a b) o) ≡ true
+field_starts None None o h low = low
+field_starts None (Some s) o h low = refl
+field_starts (Some a) None o h low = absurd (cc)
+field_starts (Some a) (Some b) o h low = ap is_le (at_same a b o (told (symbol_eq a b) h)) ∙ low
+
+-- a key that meets is not below the least
+starts : (id : Sym) (attr value : Option Sym) (k : ElementKey) → key_meets id attr value k ≡ true → is_le (key_cmp (least_key id attr value) k) ≡ true
+starts id attr value k h =
+    let p = and_parts (symbol_eq id k.id) _ h in
+    let q = and_parts (not (is_other attr k.attr)) (not (is_other value k.value)) p.1 in
+    ap is_le (at_same id k.id (ordering_then (option_cmp sym_cmp attr k.attr) (ordering_then (option_cmp sym_cmp value k.value) (nat_cmp 0 k.tag))) p.0)
+    ∙ field_starts attr k.attr _ (not_not (is_other attr k.attr) q.0) (field_starts value k.value (nat_cmp 0 k.tag) (not_not (is_other value k.value) q.1) (zero_below k.tag))
+
+-- what lies between fields that are asked for is one of them
+field_between : (a : Sym) (b c : Option Sym) (o q : Ordering) → is_other (Some a) c ≡ false → is_le (ordering_then (option_cmp sym_cmp (Some a) b) o) ≡ true → ordering_then (option_cmp sym_cmp b c) q ≡ Less
+    → (is_other (Some a) b ≡ false) × (is_le o ≡ true) × (q ≡ Less)
+field_between a None c o q other low high = absurd (cc)
+field_between a (Some b) None o q other low high = absurd (cc)
+field_between a (Some b) (Some c) o q other low high = (let s = squeezed a b c o q (told (symbol_eq a c) other) low high in (ap not s.0, s.1, s.2))
+
+field_no_gap : (a b c : Option Sym) (o q : Ordering) → is_other a c ≡ false → is_le (ordering_then (option_cmp sym_cmp a b) o) ≡ true → ordering_then (option_cmp sym_cmp b c) q ≡ Less → is_other a b ≡ false
+field_no_gap None b c o q other low high = refl
+field_no_gap (Some a) b c o q other low high = (field_between a b c o q other low high).0
+
+no_gap : (id : Sym) (attr value : Option Sym) (h k : ElementKey) → is_le (key_cmp (least_key id attr (value_beside attr value)) h) ≡ true → key_cmp h k ≡ Less → key_meets id attr (value_beside attr value) k ≡ true
+    → key_meets id attr (value_beside attr value) h ≡ true
+no_gap id attr value h k low high meets =
     let p = and_parts (symbol_eq id k.id) _ meets in
     let s = squeezed id h.id k.id _ _ p.0 low high in
-    ap₂ (λ x y. x && y) s.0 (by attr h.attr k.attr (not_not (is_other attr k.attr) p.1) s.1 s.2)
+    ap₂ (λ x y. x && y) s.0 (by attr p.1 s.1 s.2)
   where
-    told : (b : Bool) → not b ≡ false → b ≡ true
-    told true h = refl
-    told false h = absurd (cc)
-
-    by : (a b c : Option Sym) → is_other a c ≡ false → is_le (ordering_then (option_cmp sym_cmp a b) (nat_cmp 0 h.tag)) ≡ true → ordering_then (option_cmp sym_cmp b c) (nat_cmp h.tag k.tag) ≡ Less → not (is_other a b) ≡ true
-    by None b c other low high = refl
-    by (Some a) None c other low high = absurd (cc)
-    by (Some a) (Some b) None other low high = absurd (cc)
-    by (Some a) (Some b) (Some c) other low high = ap (λ x. not (not x)) (squeezed a b c _ _ (told (symbol_eq a c) other) low high).0
+    by : (a : Option Sym) → (not (is_other a k.attr) && not (is_other (value_beside a value) k.value)) ≡ true
+        → is_le (ordering_then (option_cmp sym_cmp a h.attr) (ordering_then (option_cmp sym_cmp (value_beside a value) h.value) (nat_cmp 0 h.tag))) ≡ true
+        → ordering_then (option_cmp sym_cmp h.attr k.attr) (ordering_then (option_cmp sym_cmp h.value k.value) (nat_cmp h.tag k.tag)) ≡ Less
+        → (not (is_other a h.attr) && not (is_other (value_beside a value) h.value)) ≡ true
+    by None both low high = refl
+    by (Some a) both low high =
+        let q = and_parts (not (is_other (Some a) k.attr)) (not (is_other value k.value)) both in
+        let f = field_between a h.attr k.attr _ _ (not_not (is_other (Some a) k.attr) q.0) low high in
+        ap₂ (λ x y. not x && not y) f.0 (field_no_gap value h.value k.value _ _ (not_not (is_other value k.value) q.1) f.1 f.2)
 
 -- the walk finds exactly the entries that meet
-pub run_of_id : (id : Sym) (attr : Option Sym) (es : List (ElementKey × Element)) → IsStrictlySortedBy key_cmp (keys_of es)
-    → front_while (λ (e : ElementKey × Element). key_meets id attr e.0) (entries_from (least_key id attr) es) ≡ filter (λ (e : ElementKey × Element). key_meets id attr e.0) es
-run_of_id id attr es s = run_is_filter key_cmp (least_key id attr) (key_meets id attr) es (starts id attr) (no_gap id attr) s
+pub run_of_id : (id : Sym) (attr value : Option Sym) (es : List (ElementKey × Element)) → IsStrictlySortedBy key_cmp (keys_of es)
+    → front_while (λ (e : ElementKey × Element). key_meets id attr (value_beside attr value) e.0) (entries_from (least_key id attr (value_beside attr value)) es)
+    ≡ filter (λ (e : ElementKey × Element). key_meets id attr (value_beside attr value) e.0) es
+run_of_id id attr value es s = run_is_filter key_cmp (least_key id attr (value_beside attr value)) (key_meets id attr (value_beside attr value)) es (starts id attr (value_beside attr value)) (no_gap id attr value) s

@@ -1,5 +1,5 @@
 -- What an index by symbols finds, and what a change of it leaves.
-use Rattle.std.proofs.Common.{◌≡◌, ◌≢◌, ◌↔◌, ◌⊎◌, inl, inr, refl, sym, ap, ap₂, ◌∙◌, Bool, true, false, cond, ◌&&◌, ◌==◌, ℕ, List, [], ◌∷◌, map, filter, Option, Some, None, eqb-true, eq-eqb}
+use Rattle.std.proofs.Common.{◌≡◌, ◌≢◌, ◌↔◌, ◌⊎◌, inl, inr, refl, sym, ap, ap₂, ◌∙◌, Bool, true, false, cond, ◌&&◌, ℕ, List, [], ◌∷◌, map, filter, Option, Some, None, eqb-true}
 use Rattle.std.specs.Ordering.{nat_cmp, is_le, is_eq, match_ordering, ordering_then, ordering_reverse}
 use Rattle.std.specs.Option.{option_cmp}
 use Rattle.std.specs.declared.cmp.Ordering.{Ordering}
@@ -16,15 +16,33 @@ use Rattle.std.proofs.lemmas.Bool.{and_parts}
 use Rattle.defs_match.specs.Laws.{IsIn}
 use Rattle.soar_sym.specs.declared.symbol.Sym.{Sym}
 use Rattle.soar_sym.proofs.KeyLemmas.{symbol_same}
+use Rattle.node_memory.specs.declared.symbols.Joined.{Joined}
+use Rattle.node_memory.specs.declared.symbols.Symbols.{Symbols}
 use Rattle.node_memory.specs.declared.symbols.SymbolKey.{SymbolKey}
+use Rattle.node_memory.specs.contracts.symbols.JoinedOrd.TheImpl as variables
+use Rattle.node_memory.specs.contracts.symbols.JoinedOrd.TheImpl.Laws as variable_laws
+use Rattle.node_memory.specs.contracts.symbols.SymbolsOrd.TheImpl as meanings
+use Rattle.node_memory.specs.contracts.symbols.SymbolsOrd.TheImpl.Laws as meaning_laws
 use Rattle.node_memory.specs.contracts.symbols.SymbolKeyOrd.TheImpl.Laws as laws
-use Rattle.node_memory.specs.Symbols.{symbol_cmp, same_symbol, is_of, least_of, from_least}
+use Rattle.node_memory.specs.Symbols.{symbol_cmp, joined_eq, symbols_eq, is_of, least_of, from_least}
 use Rattle.node_memory.specs.Runs.{front_while}
-use Rattle.node_memory.proofs.KeyLemmas.{sym_cmp, sym_tied, sym_itself, squeezed, le_then, then_less}
+use Rattle.node_memory.proofs.KeyLemmas.{sym_cmp, sym_tied, le_then, then_less}
 use Rattle.node_memory.proofs.RunLemmas.{run_is_filter}
 
 key_total : IsTotalOrder symbol_cmp
 key_total = laws.total-law
+
+abbrev joined_cmp : Joined → Joined → Ordering
+joined_cmp = (variables.ghosts).cmp
+
+joined_total : IsTotalOrder joined_cmp
+joined_total = variable_laws.total-law
+
+abbrev symbols_cmp : Symbols → Symbols → Ordering
+symbols_cmp = (meanings.ghosts).cmp
+
+symbols_total : IsTotalOrder symbols_cmp
+symbols_total = meaning_laws.total-law
 
 -- ---- keys that compare equal are one
 
@@ -36,11 +54,28 @@ then_parts Greater q h = absurd (cc)
 pub number_tied : (m n : ℕ) → nat_cmp m n ≡ Equal → m ≡ n
 number_tied m n h = eqb-true m n (sym (unsigned_tied m n) ∙ ap is_eq h)
 
-symbols_tied : (a b : Option Sym) → option_cmp sym_cmp a b ≡ Equal → a ≡ b
-symbols_tied None None h = refl
-symbols_tied None (Some b) h = absurd (cc)
-symbols_tied (Some a) None h = absurd (cc)
-symbols_tied (Some a) (Some b) h = (let same : a ≡ b = symbol_same a b (sym (sym_tied a b) ∙ ap is_eq h) in λ i. Some (same i))
+symbol_tied : (a b : Sym) → sym_cmp a b ≡ Equal → a ≡ b
+symbol_tied a b h = symbol_same a b (sym (sym_tied a b) ∙ ap is_eq h)
+
+option_tied : {K : Type 0} (R : K → K → Ordering) → ((a b : K) → R a b ≡ Equal → a ≡ b) → (a b : Option K) → option_cmp R a b ≡ Equal → a ≡ b
+option_tied R tied None None h = refl
+option_tied R tied None (Some b) h = absurd (cc)
+option_tied R tied (Some a) None h = absurd (cc)
+option_tied R tied (Some a) (Some b) h = (let same : a ≡ b = tied a b h in λ i. Some (same i))
+
+joined_tied : (a b : Joined) → joined_cmp a b ≡ Equal → a ≡ b
+joined_tied a b h =
+    let p = then_parts (option_cmp nat_cmp a.id b.id) (option_cmp nat_cmp a.value b.value) h in
+    let id = option_tied nat_cmp number_tied a.id b.id p.0 in
+    let value = option_tied nat_cmp number_tied a.value b.value p.1 in
+    λ i. record { id = id i; value = value i }
+
+symbols_tied : (a b : Symbols) → symbols_cmp a b ≡ Equal → a ≡ b
+symbols_tied a b h =
+    let p = then_parts (option_cmp sym_cmp a.id b.id) (option_cmp sym_cmp a.value b.value) h in
+    let id = option_tied sym_cmp symbol_tied a.id b.id p.0 in
+    let value = option_tied sym_cmp symbol_tied a.value b.value p.1 in
+    λ i. record { id = id i; value = value i }
 
 pub tags_tied : (t u : List ℕ) → slice_cmp nat_cmp t u ≡ Equal → t ≡ u
 tags_tied [] [] h = refl
@@ -50,33 +85,47 @@ tags_tied (m ∷ t) (n ∷ u) h = (let p = then_parts (nat_cmp m n) (slice_cmp n
 
 pub key_tied : (a b : SymbolKey) → symbol_cmp a b ≡ Equal → a ≡ b
 key_tied a b h =
-    let p = then_parts (nat_cmp a.variable b.variable) _ h in
-    let q = then_parts (option_cmp sym_cmp a.symbol b.symbol) (slice_cmp nat_cmp a.tags b.tags) p.1 in
-    let v = number_tied a.variable b.variable p.0 in
-    let s = symbols_tied a.symbol b.symbol q.0 in
+    let p = then_parts (joined_cmp a.joined b.joined) _ h in
+    let q = then_parts (symbols_cmp a.symbols b.symbols) (slice_cmp nat_cmp a.tags b.tags) p.1 in
+    let v = joined_tied a.joined b.joined p.0 in
+    let s = symbols_tied a.symbols b.symbols q.0 in
     let t = tags_tied a.tags b.tags q.1 in
-    λ i. record { variable = v i; symbol = s i; tags = t i }
+    λ i. record { joined = v i; symbols = s i; tags = t i }
+
+pub equal_told : (o : Ordering) → is_eq o ≡ true → o ≡ Equal
+equal_told Equal h = refl
+equal_told Less h = absurd (cc)
+equal_told Greater h = absurd (cc)
+
+pub joined_told : (a b : Joined) → joined_eq a b ≡ true → a ≡ b
+joined_told a b h = joined_tied a b (equal_told (joined_cmp a b) (sym (variable_laws.matches_eq-law a b) ∙ h))
+
+pub joined_itself : (a : Joined) → joined_eq a a ≡ true
+joined_itself a = variable_laws.matches_eq-law a a ∙ ap is_eq (tied_itself joined_total a)
+
+pub symbols_told : (a b : Symbols) → symbols_eq a b ≡ true → a ≡ b
+symbols_told a b h = symbols_tied a b (equal_told (symbols_cmp a b) (sym (meaning_laws.matches_eq-law a b) ∙ h))
+
+pub symbols_itself : (a : Symbols) → symbols_eq a a ≡ true
+symbols_itself a = meaning_laws.matches_eq-law a a ∙ ap is_eq (tied_itself symbols_total a)
 
 -- ---- a run
 
-number_same : (v n : ℕ) → (n == v) ≡ true → nat_cmp v n ≡ Equal
-number_same v n h = ap (nat_cmp v) (eqb-true n v h) ∙ tied_itself nat_cmp_total v
+joined_at : (j k : Joined) → joined_eq k j ≡ true → joined_cmp j k ≡ Equal
+joined_at j k h = ap (joined_cmp j) (joined_told k j h) ∙ tied_itself joined_total j
 
-symbol_at : (a b : Option Sym) → same_symbol a b ≡ true → option_cmp sym_cmp a b ≡ Equal
-symbol_at None None h = refl
-symbol_at None (Some b) h = absurd (cc)
-symbol_at (Some a) None h = absurd (cc)
-symbol_at (Some a) (Some b) h = ap (sym_cmp a) (sym (symbol_same a b h)) ∙ sym_itself a
+symbols_at : (s k : Symbols) → symbols_eq k s ≡ true → symbols_cmp s k ≡ Equal
+symbols_at s k h = ap (symbols_cmp s) (symbols_told k s h) ∙ tied_itself symbols_total s
 
 nothing_below : (t : List ℕ) → is_le (slice_cmp nat_cmp [] t) ≡ true
 nothing_below [] = refl
 nothing_below (n ∷ t) = refl
 
-starts : (v : ℕ) (s : Option Sym) (k : SymbolKey) → is_of v s k ≡ true → is_le (symbol_cmp (least_of v s) k) ≡ true
-starts v s k h =
-    let p = and_parts (k.variable == v) (same_symbol s k.symbol) h in
-    ap (λ o. is_le (ordering_then o (ordering_then (option_cmp sym_cmp s k.symbol) (slice_cmp nat_cmp [] k.tags)))) (number_same v k.variable p.0)
-    ∙ ap (λ o. is_le (ordering_then o (slice_cmp nat_cmp [] k.tags))) (symbol_at s k.symbol p.1) ∙ nothing_below k.tags
+starts : (j : Joined) (s : Symbols) (k : SymbolKey) → is_of j s k ≡ true → is_le (symbol_cmp (least_of j s) k) ≡ true
+starts j s k h =
+    let p = and_parts (joined_eq k.joined j) (symbols_eq k.symbols s) h in
+    ap (λ o. is_le (ordering_then o (ordering_then (symbols_cmp s k.symbols) (slice_cmp nat_cmp [] k.tags)))) (joined_at j k.joined p.0)
+    ∙ ap (λ o. is_le (ordering_then o (slice_cmp nat_cmp [] k.tags))) (symbols_at s k.symbols p.1) ∙ nothing_below k.tags
 
 -- what lies between equals is equal to them
 pub between : {K : Type 0} (R : K → K → Ordering) → IsTotalOrder R → (a h k : K) (o q : Ordering) → R a k ≡ Equal → is_le (ordering_then (R a h) o) ≡ true → ordering_then (R h k) q ≡ Less
@@ -92,24 +141,17 @@ between R total a h k o q same low high = go (le_then (R a h) o low) (then_less 
     go (inr e) (inl below) = (let bad : Equal ≡ Greater = sym e.0 ∙ turn ∙ ap ordering_reverse below in absurd (cc))
     go (inr e) (inr f) = (e.0, e.1, f.1)
 
-no_gap : (v : ℕ) (s : Option Sym) (h k : SymbolKey) → is_le (symbol_cmp (least_of v s) h) ≡ true → symbol_cmp h k ≡ Less → is_of v s k ≡ true → is_of v s h ≡ true
-no_gap v s h k low high passes =
-    let p = and_parts (k.variable == v) (same_symbol s k.symbol) passes in
-    let b = between nat_cmp nat_cmp_total v h.variable k.variable _ _ (number_same v k.variable p.0) low high in
-    ap₂ (λ x y. x && y) (eq-eqb h.variable v (sym (number_tied v h.variable b.0))) (by s h.symbol k.symbol p.1 b.1 b.2)
-  where
-    by : (a b c : Option Sym) → same_symbol a c ≡ true → is_le (ordering_then (option_cmp sym_cmp a b) (slice_cmp nat_cmp [] h.tags)) ≡ true → ordering_then (option_cmp sym_cmp b c) (slice_cmp nat_cmp h.tags k.tags) ≡ Less → same_symbol a b ≡ true
-    by None None c same low high = refl
-    by None (Some b) None same low high = absurd (cc)
-    by None (Some b) (Some c) same low high = absurd (cc)
-    by (Some a) None c same low high = absurd (cc)
-    by (Some a) (Some b) None same low high = absurd (cc)
-    by (Some a) (Some b) (Some c) same low high = (squeezed a b c _ _ same low high).0
+no_gap : (j : Joined) (s : Symbols) (h k : SymbolKey) → is_le (symbol_cmp (least_of j s) h) ≡ true → symbol_cmp h k ≡ Less → is_of j s k ≡ true → is_of j s h ≡ true
+no_gap j s h k low high passes =
+    let p = and_parts (joined_eq k.joined j) (symbols_eq k.symbols s) passes in
+    let b = between joined_cmp joined_total j h.joined k.joined _ _ (joined_at j k.joined p.0) low high in
+    let c = between symbols_cmp symbols_total s h.symbols k.symbols _ _ (symbols_at s k.symbols p.1) b.1 b.2 in
+    ap₂ (λ x y. x && y) (ap (λ x. joined_eq x j) (sym (joined_tied j h.joined b.0)) ∙ joined_itself j) (ap (λ x. symbols_eq x s) (sym (symbols_tied s h.symbols c.0)) ∙ symbols_itself s)
 
--- the walk finds exactly the entries of the variable and what it stands for
-pub run_of_symbol : {X : Type 0} (v : ℕ) (s : Option Sym) (es : List (SymbolKey × X)) → IsStrictlySortedBy symbol_cmp (keys_of es)
-    → front_while (λ (e : SymbolKey × X). is_of v s e.0) (from_least (least_of v s) es) ≡ filter (λ (e : SymbolKey × X). is_of v s e.0) es
-run_of_symbol v s es sorted = run_is_filter symbol_cmp (least_of v s) (is_of v s) es (starts v s) (no_gap v s) sorted
+-- the walk finds exactly the entries of the variables and what they stand for
+pub run_of_symbols : {X : Type 0} (j : Joined) (s : Symbols) (es : List (SymbolKey × X)) → IsStrictlySortedBy symbol_cmp (keys_of es)
+    → front_while (λ (e : SymbolKey × X). is_of j s e.0) (from_least (least_of j s) es) ≡ filter (λ (e : SymbolKey × X). is_of j s e.0) es
+run_of_symbols j s es sorted = run_is_filter symbol_cmp (least_of j s) (is_of j s) es (starts j s) (no_gap j s) sorted
 
 pub tags_found : {X : Type 0} (q : SymbolKey → Bool) (es : List (SymbolKey × X)) → map (λ (e : SymbolKey × X). e.0.tags) (filter (λ (e : SymbolKey × X). q e.0) es) ≡ map (λ (k : SymbolKey). k.tags) (filter q (keys_of es))
 tags_found q [] = refl
@@ -142,11 +184,6 @@ above_all : {X : Type 0} (es : List (SymbolKey × X)) (k x : SymbolKey) → AllB
 above_all [] k x above h = absurd h
 above_all (p ∷ es) k x above (inl e) = ap (symbol_cmp k) (sym e) ∙ above.0
 above_all (p ∷ es) k x above (inr h) = above_all es k x above.1 h
-
-pub equal_told : (o : Ordering) → is_eq o ≡ true → o ≡ Equal
-equal_told Equal h = refl
-equal_told Less h = absurd (cc)
-equal_told Greater h = absurd (cc)
 
 itself : (k h : SymbolKey) → k ≡ h → symbol_cmp k h ≡ Equal
 itself k h same = ap (symbol_cmp k) (sym same) ∙ tied_itself key_total k

@@ -1,4 +1,4 @@
--- The keys of an index of elements by identifier and attribute.
+-- The keys of an index of elements by identifier, attribute and value.
 use Rattle.std.specs.Prelude.{Bool, true, false, ◌&&◌, not, List, filter, Option, Some, None}
 use Rattle.std.specs.Ordering.{is_le}
 use Rattle.std.specs.declared.cmp.Ordering.{Ordering}
@@ -11,25 +11,30 @@ use Rattle.node_memory.specs.contracts.index.ElementKeyOrd.TheImpl as ord
 abbrev pub key_cmp : ElementKey → ElementKey → Ordering
 key_cmp = (ord.ghosts).cmp
 
--- an attribute is asked for, and it is another
+-- a symbol is asked for, and it is another
 abbrev pub is_other : Option Sym → Option Sym → Bool
-is_other None attr = false
+is_other None b = false
 is_other (Some a) None = true
 is_other (Some a) (Some b) = not (symbol_eq a b)
 
--- the element has the identifier, and the attribute where one is asked for
-abbrev pub meets : Sym → Option Sym → Element → Bool
-meets id attr e = symbol_eq id e.id && not (is_other attr (Some e.attr))
+-- the value that is asked for, where an attribute is
+abbrev pub value_beside : Option Sym → Option Sym → Option Sym
+value_beside None value = None
+value_beside (Some a) value = value
 
-abbrev pub key_meets : Sym → Option Sym → ElementKey → Bool
-key_meets id attr key = symbol_eq id key.id && not (is_other attr key.attr)
+-- the element has the identifier, and the attribute and the value where they are asked for
+abbrev pub meets : Sym → Option Sym → Option Sym → Element → Bool
+meets id attr value e = symbol_eq id e.id && (not (is_other attr (Some e.attr)) && not (is_other value (Some e.value)))
 
-abbrev pub least_key : Sym → Option Sym → ElementKey
-least_key id attr = record { id = id; attr = attr; tag = 0 }
+abbrev pub key_meets : Sym → Option Sym → Option Sym → ElementKey → Bool
+key_meets id attr value key = symbol_eq id key.id && (not (is_other attr key.attr) && not (is_other value key.value))
+
+abbrev pub least_key : Sym → Option Sym → Option Sym → ElementKey
+least_key id attr value = record { id = id; attr = attr; value = value; tag = 0 }
 
 -- the entries that are not below a key
 abbrev pub entries_from : ElementKey → List (ElementKey × Element) → List (ElementKey × Element)
 entries_from least es = filter (λ (p : ElementKey × Element). is_le (key_cmp least p.0)) es
 
 abbrev pub key_of : Element → ElementKey
-key_of e = record { id = e.id; attr = Some e.attr; tag = e.tag }
+key_of e = record { id = e.id; attr = Some e.attr; value = Some e.value; tag = e.tag }

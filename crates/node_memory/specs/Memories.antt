@@ -6,6 +6,9 @@ use Rattle.std.specs.Cmp.Lexicographic.{slice_cmp}
 use Rattle.defs_match.specs.Laws.{IsIn}
 use Rattle.defs_match.specs.Rows.{Row}
 use Rattle.defs_match.specs.Testing.{Bindings, symbol_of}
+use Rattle.soar_sym.specs.declared.symbol.Sym.{Sym}
+use Rattle.node_memory.specs.declared.symbols.Joined.{Joined}
+use Rattle.node_memory.specs.declared.symbols.Symbols.{Symbols}
 use Rattle.node_memory.specs.declared.symbols.SymbolKey.{SymbolKey}
 
 -- what a map of rows finds at a list of tags
@@ -16,17 +19,26 @@ Found = List ℕ → Option Bindings
 abbrev pub has : Found → Row → Type 0
 has found r = found r.tags ≡ Some r.bindings
 
--- the key of a row for a variable
-abbrev pub key_for : ℕ → Row → SymbolKey
-key_for v r = record { variable = v; symbol = symbol_of v r.bindings; tags = r.tags }
+-- what a variable, if there is one, stands for
+abbrev pub symbol_in : Option ℕ → Bindings → Option Sym
+symbol_in None bs = None
+symbol_in (Some v) bs = symbol_of v bs
 
--- its keys for these variables
-abbrev pub keys_for : List ℕ → Row → List SymbolKey
-keys_for vs r = map (λ v. key_for v r) vs
+-- what the variables stand for
+abbrev pub symbols_in : Joined → Bindings → Symbols
+symbols_in j bs = record { id = symbol_in j.id bs; value = symbol_in j.value bs }
+
+-- the key of a row for variables
+abbrev pub key_for : Joined → Row → SymbolKey
+key_for j r = record { joined = j; symbols = symbols_in j r.bindings; tags = r.tags }
+
+-- its keys for all these variables
+abbrev pub keys_for : List Joined → Row → List SymbolKey
+keys_for js r = map (λ j. key_for j r) js
 
 -- the keys of all rows for all these variables, and no others
-abbrev pub IsIndexed : List ℕ → Found → List SymbolKey → Type 0
-IsIndexed vs found keys = (k : SymbolKey) → IsIn k keys ↔ ((r : Row) × has found r × IsIn k (keys_for vs r))
+abbrev pub IsIndexed : List Joined → Found → List SymbolKey → Type 0
+IsIndexed js found keys = (k : SymbolKey) → IsIn k keys ↔ ((r : Row) × has found r × IsIn k (keys_for js r))
 
 -- the row of these tags, where it is found
 abbrev pub row_found : List ℕ → Option Bindings → List Row

@@ -1,4 +1,4 @@
-// The elements of working memory by identifier and attribute.
+// The elements of working memory by identifier, attribute and value.
 ghost use Rattle.std.specs.Prelude.{◌≡◌, ◌↔◌, ◌⊎◌, ◌≢◌, [], false, filter, OnOk, OnErr, IfOk};
 ghost use Rattle.std.specs.List.{list_any};
 ghost use Rattle.soar_wm.specs.WorkingMemory.{has_tag};
@@ -6,7 +6,7 @@ ghost use Rattle.std.specs.BTreeMap.{IsOrdered};
 ghost use Rattle.std.specs.Map.{values_of};
 ghost use Rattle.defs_match.specs.Laws.{IsIn};
 ghost use Rattle.soar_wm.specs.declared.element.Element.{Element as ElementOf};
-ghost use Rattle.node_memory.specs.Keys.{key_cmp, key_of, is_other, meets, key_meets, entries_from, least_key};
+ghost use Rattle.node_memory.specs.Keys.{key_cmp, key_of, is_other, value_beside, meets, key_meets, entries_from, least_key};
 ghost use Rattle.node_memory.specs.Runs.{front_while};
 
 use soar_sym::{NoMemory, Sym, is_symbol};
@@ -15,15 +15,17 @@ use std::alloc::Global;
 use std::collections::BTreeMap;
 use std::marker::Model;
 
-/// The key of an element: by identifier, then attribute, then tag. A key without an attribute is before all of its identifier.
+/// The key of an element: by identifier, then attribute, then value, then tag. A key without an attribute is before all of its
+/// identifier, and one without a value before all of its attribute.
 #[derive(Clone, Copy, PartialEq, Eq, PartialOrd, Ord)]
 pub struct ElementKey {
     pub id: Sym,
     pub attr: Option<Sym>,
+    pub value: Option<Sym>,
     pub tag: u32,
 }
 
-/// The elements of working memory by identifier and attribute. What one change costs grows with the logarithm of their number,
+/// The elements of working memory by identifier, attribute and value. What one change costs grows with the logarithm of their number,
 /// and what a look-up costs with that and what it finds.
 #[derive(Drop)]
 pub struct ElementIndex {
@@ -50,6 +52,7 @@ fn key_of(e: &Element) -> ElementKey
     ElementKey {
         id: e.id,
         attr: Some(e.attr),
+        value: Some(e.value),
         tag: e.tag,
     }
 }
@@ -75,16 +78,18 @@ impl ElementIndex {
         }
     }
 
-    /// The elements of an identifier, and of an attribute where one is asked for.
+    /// The elements of an identifier, of an attribute where one is asked for, and then also of a value where one is asked for.
     pub fn candidates(
         &self,
         alloc: Global,
         id: Sym,
         attr: Option<Sym>,
+        value: Option<Sym>,
     ) -> Result<Vec<Element>, NoMemory>
-        ensures { IfOk result (λ v. v.items ≡ filter (meets id attr) self.now) }
+        ensures { IfOk result (λ v. v.items ≡ filter (meets id attr (value_beside attr value)) self.now) }
     {
-        run_of(alloc, &self.by_key, id, attr)
+        let value = value_beside(attr, value);
+        run_of(alloc, &self.by_key, id, attr, value)
     }
 
     /// Copies of all elements.
@@ -114,39 +119,55 @@ impl ElementIndex {
     }
 }
 
-/// Whether an attribute is asked for, and another.
-fn is_other(asked: Option<Sym>, attr: Option<Sym>) -> bool
-    ensures { result ≡ is_other asked attr }
+/// Whether a symbol is asked for, and another.
+fn is_other(asked: Option<Sym>, symbol: Option<Sym>) -> bool
+    ensures { result ≡ is_other asked symbol }
 {
-    match (asked, attr) {
+    match (asked, symbol) {
         (None, _) => false,
         (Some(_), None) => true,
-        (Some(asked), Some(attr)) => !is_symbol(asked, attr),
+        (Some(asked), Some(symbol)) => !is_symbol(asked, symbol),
     }
 }
 
-/// Whether a key is of an identifier, and of an attribute where one is asked for.
-fn key_meets(key: &ElementKey, id: Sym, attr: Option<Sym>) -> bool
-    ensures { result ≡ key_meets id attr key.now }
+/// The value that is asked for, where an attribute is.
+fn value_beside(attr: Option<Sym>, value: Option<Sym>) -> Option<Sym>
+    ensures { result ≡ value_beside attr value }
 {
-    is_symbol(id, key.id) && !is_other(attr, key.attr)
+    match attr {
+        Some(_) => value,
+        None => None,
+    }
 }
 
-/// The elements of an identifier, and of an attribute where one is asked for, by a walk over their keys.
+/// Whether a key is of an identifier, and of an attribute and of a value where they are asked for.
+fn key_meets(key: &ElementKey, id: Sym, attr: Option<Sym>, value: Option<Sym>) -> bool
+    ensures { result ≡ key_meets id attr value key.now }
+{
+    is_symbol(id, key.id) && !is_other(attr, key.attr) && !is_other(value, key.value)
+}
+
+/// The elements of the keys that are not below the least, up to the first that does not meet.
 fn run_of(
     alloc: Global,
     by_key: &BTreeMap<ElementKey, Element>,
     id: Sym,
     attr: Option<Sym>,
+    value: Option<Sym>,
 ) -> Result<Vec<Element>, NoMemory>
-    ensures run { IfOk result (λ v. v.items ≡ values_of (front_while (λ e. key_meets id attr e.0) (entries_from (least_key id attr) by_key.now.entries))) }
+    ensures run { IfOk result (λ v. v.items ≡ values_of (front_while (λ e. key_meets id attr value e.0) (entries_from (least_key id attr value) by_key.now.entries))) }
     ensures ordered { OnOk result (IsOrdered key_cmp by_key.now) }
 {
     let _count = by_key.len();
     let mut out = Vec::new(alloc);
-    let least = ElementKey { id, attr, tag: 0 };
+    let least = ElementKey {
+        id,
+        attr,
+        value,
+        tag: 0,
+    };
     'run: for (key, element) in by_key.range(least..) {
-        if !key_meets(key, id, attr) {
+        if !key_meets(key, id, attr, value) {
             break 'run;
         }
         out.push(*element)?;

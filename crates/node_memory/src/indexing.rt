@@ -1,4 +1,4 @@
-// A memory is indexed by one variable more.
+// A memory is indexed by more variables.
 ghost use Rattle.std.specs.Prelude.{◌≡◌, ◌↔◌, ◌⊎◌, ◌++◌, ◌∷◌, [], map, OnOk, IfOk};
 ghost use Rattle.std.specs.Ordering.{nat_cmp};
 ghost use Rattle.std.specs.Cmp.Lexicographic.{slice_cmp};
@@ -8,7 +8,7 @@ ghost use Rattle.node_memory.specs.Memories.{IsIndexed, key_for, rows_in};
 ghost use Rattle.node_memory.specs.Symbols.{SymbolKeyOf};
 
 use crate::memory::{Memory, add_key};
-use crate::symbols::SymbolIndex;
+use crate::symbols::{Joined, SymbolIndex};
 use match_row::Row;
 use soar_sym::{List, NoMemory, Sym};
 use std::alloc::Global;
@@ -32,30 +32,30 @@ pub fn all_rows(
     Ok(out)
 }
 
-/// Adds the keys of rows for a variable.
+/// Adds the keys of rows for variables.
 fn add_rows_keys(
     alloc: Global,
     index: &mut SymbolIndex,
-    variable: u32,
+    joined: Joined,
     rows: &[Row],
 ) -> Result<(), NoMemory>
-    ensures { OnOk result ((k : SymbolKeyOf) → IsIn k index.new ↔ (IsIn k (map (key_for variable) rows.now) ⊎ IsIn k index.old)) }
+    ensures { OnOk result ((k : SymbolKeyOf) → IsIn k index.new ↔ (IsIn k (map (key_for joined) rows.now) ⊎ IsIn k index.old)) }
 {
     'rows: for row in rows {
-        add_key(alloc, index, variable, row)?;
+        add_key(alloc, index, joined, row)?;
     }
     Ok(())
 }
 
-/// Indexes a memory by one variable more.
-pub fn index_by(alloc: Global, memory: &mut Memory, variable: u32) -> Result<(), NoMemory>
+/// Indexes a memory by these variables too.
+pub fn index_by(alloc: Global, memory: &mut Memory, joined: Joined) -> Result<(), NoMemory>
     requires indexed { IsIndexed memory.old.joined.items (get (slice_cmp nat_cmp) memory.old.rows) memory.old.index }
-    ensures joined { OnOk result (memory.new.joined.items ≡ memory.old.joined.items ++ variable ∷ []) }
+    ensures joined { OnOk result (memory.new.joined.items ≡ memory.old.joined.items ++ joined ∷ []) }
     ensures rows { OnOk result (memory.new.rows.entries ≡ memory.old.rows.entries) }
     ensures indexed { OnOk result (IsIndexed memory.new.joined.items (get (slice_cmp nat_cmp) memory.new.rows) memory.new.index) }
 {
     let rows = all_rows(alloc, &memory.rows)?;
-    add_rows_keys(alloc, &mut memory.index, variable, rows.as_slice())?;
-    memory.joined.push(variable)?;
+    add_rows_keys(alloc, &mut memory.index, joined, rows.as_slice())?;
+    memory.joined.push(joined)?;
     Ok(())
 }

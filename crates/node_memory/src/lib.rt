@@ -9,4 +9,4 @@ mod symbols;
 pub use index::{ElementIndex, ElementKey};
 pub use indexing::{all_rows, index_by};
 pub use memory::{Memory, add_found, change, empty, filled, rows_with};
-pub use symbols::{SymbolIndex, SymbolKey};
+pub use symbols::{Joined, SymbolIndex, SymbolKey, Symbols};

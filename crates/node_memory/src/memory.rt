@@ -5,93 +5,106 @@ ghost use Rattle.std.specs.Cmp.Lexicographic.{slice_cmp};
 ghost use Rattle.std.specs.BTreeMap.{get};
 ghost use Rattle.defs_match.specs.Laws.{IsIn};
 ghost use Rattle.defs_match.specs.Rows.{Row as RowOf};
-ghost use Rattle.defs_match.specs.Testing.{symbol_of};
-ghost use Rattle.node_memory.specs.Memories.{has, key_for, keys_for, IsIndexed, row_found, put_at, taken_at, puts, takens};
+ghost use Rattle.node_memory.specs.Memories.{has, symbol_in, symbols_in, key_for, keys_for, IsIndexed, row_found, put_at, taken_at, puts, takens};
 ghost use Rattle.node_memory.specs.Changes.{RowsChange, OneEach};
 ghost use Rattle.node_memory.specs.Held.{Holds};
 ghost use Rattle.node_memory.specs.Symbols.{SymbolKeyOf};
 
-use crate::symbols::{SymbolIndex, SymbolKey};
+use crate::symbols::{Joined, SymbolIndex, SymbolKey, Symbols};
 use match_row::{Row, symbol_of};
 use soar_sym::{List, NoMemory, Sym};
 use std::alloc::Global;
 use std::collections::BTreeMap;
 
-/// The rows of a node: by tags, and for each variable on which a node below joins by what it stands for.
+/// The rows of a node: by tags, and for the variables on which each node below joins by what they stand for.
 #[derive(Drop)]
 pub struct Memory {
     pub rows: BTreeMap<List<u32>, List<(u32, Sym)>>,
     pub index: SymbolIndex,
-    pub joined: Vec<u32>,
+    pub joined: Vec<Joined>,
 }
 
-/// Adds the key of a row for a variable.
+/// Adds the key of a row for variables.
 pub fn add_key(
     alloc: Global,
     index: &mut SymbolIndex,
-    variable: u32,
+    joined: Joined,
     row: &Row,
 ) -> Result<(), NoMemory>
-    ensures { OnOk result ((k : SymbolKeyOf) → IsIn k index.new ↔ ((key_for variable row.now ≡ k) ⊎ IsIn k index.old)) }
+    ensures { OnOk result ((k : SymbolKeyOf) → IsIn k index.new ↔ ((key_for joined row.now ≡ k) ⊎ IsIn k index.old)) }
 {
     let tags = List::from_slice(alloc, row.tags())?;
-    index.add(key_of(variable, tags, row.bindings()))?;
+    index.add(key_of(joined, tags, row.bindings()))?;
     Ok(())
 }
 
-/// Adds the keys of a row for these variables.
+/// Adds the keys of a row for all these variables.
 fn add_keys(
     alloc: Global,
     index: &mut SymbolIndex,
-    joined: &[u32],
+    all: &[Joined],
     row: &Row,
 ) -> Result<(), NoMemory>
-    ensures { OnOk result ((k : SymbolKeyOf) → IsIn k index.new ↔ (IsIn k (keys_for joined.now row.now) ⊎ IsIn k index.old)) }
+    ensures { OnOk result ((k : SymbolKeyOf) → IsIn k index.new ↔ (IsIn k (keys_for all.now row.now) ⊎ IsIn k index.old)) }
 {
-    'joined: for variable in joined {
-        add_key(alloc, index, *variable, row)?;
+    'all: for joined in all {
+        add_key(alloc, index, *joined, row)?;
     }
     Ok(())
 }
 
-/// The key of a row for a variable. It takes no memory.
-fn key_of(variable: u32, tags: List<u32>, bindings: &[(u32, Sym)]) -> SymbolKey
-    ensures { result ≡ key_for variable (record { tags = tags; bindings = bindings.now }) }
+/// What a variable, if there is one, stands for.
+fn symbol_in(variable: Option<u32>, bindings: &[(u32, Sym)]) -> Option<Sym>
+    ensures { result ≡ symbol_in variable bindings.now }
 {
+    match variable {
+        Some(variable) => symbol_of(variable, bindings),
+        None => None,
+    }
+}
+
+/// The key of a row for variables. It takes no memory.
+fn key_of(joined: Joined, tags: List<u32>, bindings: &[(u32, Sym)]) -> SymbolKey
+    ensures { result ≡ key_for joined (record { tags = tags; bindings = bindings.now }) }
+{
+    let symbols = Symbols {
+        id: symbol_in(joined.id, bindings),
+        value: symbol_in(joined.value, bindings),
+    };
     SymbolKey {
-        variable,
-        symbol: symbol_of(variable, bindings),
+        joined,
+        symbols,
         tags,
     }
 }
 
-/// Takes the key of a row for a variable out, and answers the tags. It takes no memory.
+/// Takes the key of a row for variables out, and answers the tags. It takes no memory.
 fn remove_key(
     index: &mut SymbolIndex,
-    variable: u32,
+    joined: Joined,
     tags: List<u32>,
     bindings: &[(u32, Sym)],
 ) -> List<u32>
     ensures tags { result ≡ tags }
-    ensures index { (k : SymbolKeyOf) → IsIn k index.new ↔ (IsIn k index.old × (key_for variable (record { tags = tags; bindings = bindings.now }) ≢ k)) }
+    ensures index { (k : SymbolKeyOf) → IsIn k index.new ↔ (IsIn k index.old × (key_for joined (record { tags = tags; bindings = bindings.now }) ≢ k)) }
 {
-    let key = key_of(variable, tags, bindings);
+    let key = key_of(joined, tags, bindings);
     index.remove(&key);
     let SymbolKey { tags, .. } = key;
     tags
 }
 
-/// Takes the keys of a row for these variables out. It takes no memory.
+/// Takes the keys of a row for all these variables out. It takes no memory.
 fn remove_keys(
     index: &mut SymbolIndex,
-    joined: &[u32],
+    all: &[Joined],
     mut tags: List<u32>,
     bindings: &[(u32, Sym)],
 )
-    ensures { (k : SymbolKeyOf) → IsIn k index.new ↔ (IsIn k index.old × (IsIn k (keys_for joined.now (record { tags = tags; bindings = bindings.now })) → ⊥)) }
+    ensures { (k : SymbolKeyOf) → IsIn k index.new ↔ (IsIn k index.old × (IsIn k (keys_for all.now (record { tags = tags; bindings = bindings.now })) → ⊥)) }
 {
-    'joined: for variable in joined {
-        tags = remove_key(index, *variable, tags, bindings);
+    'all: for joined in all {
+        tags = remove_key(index, *joined, tags, bindings);
     }
 }
 
@@ -161,18 +174,18 @@ fn rows_at(
     Ok(out)
 }
 
-/// The rows in which a variable, by which the memory is indexed, stands for a symbol, or for nothing.
+/// The rows in which variables, by which the memory is indexed, stand for these symbols.
 pub fn rows_with(
     alloc: Global,
     memory: &Memory,
-    variable: u32,
-    symbol: Option<Sym>,
+    joined: Joined,
+    symbols: Symbols,
 ) -> Result<Vec<Row>, NoMemory>
     requires indexed { IsIndexed memory.now.joined.items (get (slice_cmp nat_cmp) memory.now.rows) memory.now.index }
-    requires joined { IsIn variable memory.now.joined.items }
-    ensures { IfOk result (λ v. (x : RowOf) → IsIn x v.items ↔ (has (get (slice_cmp nat_cmp) memory.now.rows) x × (symbol_of variable x.bindings ≡ symbol))) }
+    requires joined { IsIn joined memory.now.joined.items }
+    ensures { IfOk result (λ v. (x : RowOf) → IsIn x v.items ↔ (has (get (slice_cmp nat_cmp) memory.now.rows) x × (symbols_in joined x.bindings ≡ symbols))) }
 {
-    let all = memory.index.with_symbol(alloc, variable, symbol)?;
+    let all = memory.index.with_symbols(alloc, joined, symbols)?;
     rows_at(alloc, &memory.rows, all.as_slice())
 }
 

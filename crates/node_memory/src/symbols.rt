@@ -1,25 +1,39 @@
-// The rows of a node by what a variable stands for.
+// The rows of a node by what variables stand for.
 ghost use Rattle.std.specs.Prelude.{◌≡◌, ◌↔◌, ◌⊎◌, ◌≢◌, [], map, filter, OnOk, OnErr, IfOk};
 ghost use Rattle.std.specs.BTreeMap.{IsOrdered};
 ghost use Rattle.std.specs.Map.{keys_of};
 ghost use Rattle.defs_match.specs.Laws.{IsIn};
 ghost use Rattle.node_memory.specs.Runs.{front_while};
-ghost use Rattle.node_memory.specs.Symbols.{SymbolKeyOf, same_symbol, symbol_cmp, is_of, least_of, from_least};
+ghost use Rattle.node_memory.specs.Symbols.{SymbolKeyOf, symbol_cmp, is_of, least_of, from_least};
 
-use soar_sym::{List, NoMemory, Sym, is_symbol};
+use soar_sym::{List, NoMemory, Sym};
 use std::alloc::Global;
 use std::collections::BTreeMap;
 use std::marker::Model;
 
-/// What a variable stands for in the row of these tags: nothing where it is not bound.
+/// The variables by which a join finds rows: that of its identifier, and that of its value.
+#[derive(Clone, Copy, PartialEq, Eq, PartialOrd, Ord)]
+pub struct Joined {
+    pub id: Option<u32>,
+    pub value: Option<u32>,
+}
+
+/// What these variables stand for: nothing where there is none, or it is not bound.
+#[derive(Clone, Copy, PartialEq, Eq, PartialOrd, Ord)]
+pub struct Symbols {
+    pub id: Option<Sym>,
+    pub value: Option<Sym>,
+}
+
+/// What variables stand for in the row of these tags.
 #[derive(Drop, PartialEq, Eq, PartialOrd, Ord)]
 pub struct SymbolKey {
-    pub variable: u32,
-    pub symbol: Option<Sym>,
+    pub joined: Joined,
+    pub symbols: Symbols,
     pub tags: List<u32>,
 }
 
-/// The tags of rows, by a variable and what it stands for. What one change costs grows with the logarithm of their number,
+/// The tags of rows, by variables and what they stand for. What one change costs grows with the logarithm of their number,
 /// and what a look-up costs with that and what it finds.
 #[derive(Drop)]
 pub struct SymbolIndex {
@@ -36,36 +50,32 @@ impl Model for SymbolIndex {
     ghost view = { λ a. keys_of a.keys.entries };
 }
 
-/// Whether what a variable stands for is the same.
-fn same_symbol(a: Option<Sym>, b: Option<Sym>) -> bool
-    ensures { result ≡ same_symbol a b }
+/// Whether a key is of these variables and of what they stand for.
+fn is_of(key: &SymbolKey, joined: Joined, symbols: Symbols) -> bool
+    ensures { result ≡ is_of joined symbols key.now }
 {
-    match (a, b) {
-        (None, None) => true,
-        (Some(a), Some(b)) => is_symbol(a, b),
-        _ => false,
-    }
+    key.joined == joined && key.symbols == symbols
 }
 
-/// The tags under a variable and what it stands for, by a walk over their keys.
+/// The tags under these variables and what they stand for, by a walk over their keys.
 fn run_of(
     alloc: Global,
     keys: &BTreeMap<SymbolKey, ()>,
-    variable: u32,
-    symbol: Option<Sym>,
+    joined: Joined,
+    symbols: Symbols,
 ) -> Result<Vec<List<u32>>, NoMemory>
-    ensures run { IfOk result (λ v. v.items ≡ map (λ e. e.0.tags) (front_while (λ e. is_of variable symbol e.0) (from_least (least_of variable symbol) keys.now.entries))) }
+    ensures run { IfOk result (λ v. v.items ≡ map (λ e. e.0.tags) (front_while (λ e. is_of joined symbols e.0) (from_least (least_of joined symbols) keys.now.entries))) }
     ensures ordered { OnOk result (IsOrdered symbol_cmp keys.now) }
 {
     let _count = keys.len();
     let mut out = Vec::new(alloc);
     let least = SymbolKey {
-        variable,
-        symbol,
+        joined,
+        symbols,
         tags: List::new(alloc),
     };
     'run: for (key, _) in keys.range(least..) {
-        if key.variable != variable || !same_symbol(symbol, key.symbol) {
+        if !is_of(key, joined, symbols) {
             break 'run;
         }
         out.push(List::from_slice(alloc, key.tags.as_slice())?)?;
@@ -83,16 +93,16 @@ impl SymbolIndex {
         }
     }
 
-    /// The tags of the rows in which a variable stands for a symbol, or for nothing.
-    pub fn with_symbol(
+    /// The tags of the rows in which these variables stand for these symbols.
+    pub fn with_symbols(
         &self,
         alloc: Global,
-        variable: u32,
-        symbol: Option<Sym>,
+        joined: Joined,
+        symbols: Symbols,
     ) -> Result<Vec<List<u32>>, NoMemory>
-        ensures { IfOk result (λ v. v.items ≡ map (λ k. k.tags) (filter (is_of variable symbol) self.now)) }
+        ensures { IfOk result (λ v. v.items ≡ map (λ k. k.tags) (filter (is_of joined symbols) self.now)) }
     {
-        run_of(alloc, &self.keys, variable, symbol)
+        run_of(alloc, &self.keys, joined, symbols)
     }
 
     /// Takes in a key.

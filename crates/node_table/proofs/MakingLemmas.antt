@@ -1,5 +1,5 @@
 -- The table as a parent is made ready for a new node.
-use Rattle.std.proofs.Common.{◌≡◌, ◌≢◌, ◌==◌, ◌<◌, zero, ap, inl, inr, refl, sym, subst, ◌∙◌, Bool, true, false, ◌||◌, eqb-true, ℕ, List, [], ◌∷◌, Option, Some}
+use Rattle.std.proofs.Common.{◌≡◌, ◌≢◌, ◌<◌, zero, ap, inl, inr, refl, sym, subst, ◌∙◌, Bool, true, false, ◌||◌, ℕ, List, [], ◌∷◌, Option, Some}
 use Rattle.std.proofs.lemmas.Option.{same_Some}
 use Rattle.std.proofs.lemmas.Bool.{cases_eq}
 use Rattle.std.specs.List.{list_any}
@@ -11,6 +11,9 @@ use Rattle.defs_match.specs.Laws.{IsIn}
 use Rattle.defs_match.specs.Rows.{Row}
 use Rattle.defs_match.specs.Testing.{Bindings}
 use Rattle.soar_wm.specs.declared.element.Element.{Element}
+use Rattle.node_memory.specs.declared.symbols.Joined.{Joined}
+use Rattle.node_memory.specs.Symbols.{joined_eq}
+use Rattle.node_memory.proofs.SymbolLemmas.{joined_told}
 use Rattle.node_table.specs.declared.node.Step.{Step}
 use Rattle.node_table.specs.declared.node.NodeKey.{NodeKey}
 use Rattle.node_table.specs.declared.node.Node.{Node}
@@ -19,16 +22,16 @@ use Rattle.node_table.specs.Serving.{found, first_of, tags_after, AreIndexed}
 use Rattle.node_table.specs.Content.{content, IsTable, AllHold}
 use Rattle.node_table.specs.Making.{IsReady}
 
-pub any_in : (v : ℕ) (xs : List ℕ) → list_any (λ x. x == v) xs ≡ true → IsIn v xs
+pub any_in : (v : Joined) (xs : List Joined) → list_any (λ x. joined_eq x v) xs ≡ true → IsIn v xs
 any_in v [] h = absurd (cc)
-any_in v (x ∷ xs) h = by (any_in v xs) (x == v) refl h
+any_in v (x ∷ xs) h = by (any_in v xs) (joined_eq x v) refl h
   where
-    by : (list_any (λ y. y == v) xs ≡ true → IsIn v xs) → (b : Bool) → (x == v) ≡ b → (b || list_any (λ y. y == v) xs) ≡ true → IsIn v (x ∷ xs)
-    by deep true is e = inl (eqb-true x v is)
+    by : (list_any (λ y. joined_eq y v) xs ≡ true → IsIn v xs) → (b : Bool) → joined_eq x v ≡ b → (b || list_any (λ y. joined_eq y v) xs) ≡ true → IsIn v (x ∷ xs)
+    by deep true is e = inl (joined_told x v is)
     by deep false is e = inr (deep e)
 
-pub only_first : (step : Step) (v : ℕ) (xs : List ℕ) → first_of step ≡ Some v → IsIn v xs → (u : ℕ) → first_of step ≡ Some u → IsIn u xs
-only_first step v xs first i u other = subst (λ (x : ℕ). IsIn x xs) (same_Some v u (sym first ∙ other)) i
+pub only_first : (step : Step) (v : Joined) (xs : List Joined) → first_of step ≡ Some v → IsIn v xs → (u : Joined) → first_of step ≡ Some u → IsIn u xs
+only_first step v xs first i u other = subst (λ (x : Joined). IsIn x xs) (same_Some v u (sym first ∙ other)) i
 
 -- ---- the table stays as a parent is made ready
 
@@ -37,7 +40,7 @@ module _ (old new : ℕ → Option Node) (n end : ℕ) (step : Step) (t : IsTabl
   record Keeps (a b : Node) : Type 0 where
     same : b ≡ record a { memory = b.memory }
     rows : b.memory.rows.entries ≡ a.memory.rows.entries
-    kept : (v : ℕ) → IsIn v a.memory.joined.items → IsIn v b.memory.joined.items
+    kept : (v : Joined) → IsIn v a.memory.joined.items → IsIn v b.memory.joined.items
 
   was_kept : (k : ℕ) (m : Node) → new k ≡ Some m → (o : Node) × (old k ≡ Some o) × Keeps o m
   was_kept k m there = elim (cases_eq k n) [

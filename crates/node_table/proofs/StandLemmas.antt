@@ -6,6 +6,7 @@ use Rattle.std.specs.Prelude.{option_and_then}
 use Rattle.defs_match.specs.Laws.{IsIn, ElementsDiffer}
 use Rattle.defs_match.specs.Rows.{Row}
 use Rattle.soar_wm.specs.declared.element.Element.{Element}
+use Rattle.node_memory.specs.declared.symbols.Joined.{Joined}
 use Rattle.node_memory.specs.Changes.{RowsChange, ElementsChange}
 use Rattle.node_memory.specs.Memories.{Found}
 use Rattle.node_memory.specs.Held.{listed, Holds, SameElements}
@@ -110,7 +111,7 @@ module _ (old new : ℕ → Option Node) (n stamp : ℕ) (index : List Element) 
               parent = p.0;
               above = p.1;
               tags = o.2.tags ∙ b.tags ∙ ap (λ (x : ℕ). tags_after key.step x) (sym p.2.tags);
-              joined = λ v first. subst (λ (vs : List ℕ). IsIn v vs) (sym p.2.joined) (b.joined v first);
+              joined = λ v first. subst (λ (js : List Joined). IsIn v js) (sym p.2.joined) (b.joined v first);
             };
         once = λ k l m x there here same.
             let o = was k m there in

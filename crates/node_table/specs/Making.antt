@@ -7,6 +7,7 @@ use Rattle.soar_wm.specs.declared.element.Element.{Element}
 use Rattle.rete_alpha.specs.Alphas.{AlphaOf, Asks}
 use Rattle.join_parts.specs.Known.{constants_of}
 use Rattle.node_memory.specs.declared.memory.Memory.{Memory}
+use Rattle.node_memory.specs.declared.symbols.Joined.{Joined}
 use Rattle.node_memory.specs.Changes.{OneEach}
 use Rattle.node_memory.specs.Held.{Holds, SameElements}
 use Rattle.node_table.specs.declared.node.Step.{Step}
@@ -22,7 +23,7 @@ use Rattle.node_table.specs.Asked.{IsAsked}
 pub record IsReady (old new : Node) (step : Step) : Type 0 where
   pub same : new ≡ record old { memory = new.memory }
   pub rows : new.memory.rows.entries ≡ old.memory.rows.entries
-  pub kept : (v : ℕ) → IsIn v old.memory.joined.items → IsIn v new.memory.joined.items
+  pub kept : (j : Joined) → IsIn j old.memory.joined.items → IsIn j new.memory.joined.items
   pub joined : CanJoin step new.memory
   pub indexed : AreIndexed new.memory
 

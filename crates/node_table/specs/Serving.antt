@@ -8,11 +8,12 @@ use Rattle.defs_match.specs.Rows.{Row}
 use Rattle.soar_rule.specs.declared.cond.Pattern.{Pattern}
 use Rattle.soar_wm.specs.declared.element.Element.{Element}
 use Rattle.node_memory.specs.declared.memory.Memory.{Memory}
+use Rattle.node_memory.specs.declared.symbols.Joined.{Joined}
 use Rattle.node_memory.specs.Changes.{join, OneEach, RowsChange, ElementsChange}
 use Rattle.node_memory.specs.Memories.{Found, IsIndexed}
 use Rattle.node_memory.specs.Held.{listed, Holds, SameElements}
 use Rattle.rete_alpha.specs.Taking.{takes}
-use Rattle.join_parts.specs.Known.{first_variable, constants_of}
+use Rattle.join_parts.specs.Known.{joined_of, constants_of}
 use Rattle.negation_parts.specs.Negations.{AllLong, kept}
 use Rattle.node_table.specs.declared.node.Step.{Step}
 use Rattle.node_table.specs.declared.node.Step.TheVariants.{Join, Negation}
@@ -26,14 +27,14 @@ found m = get (slice_cmp nat_cmp) m.rows
 abbrev pub AreIndexed : Memory → Type 0
 AreIndexed m = IsIndexed m.joined.items (found m) m.index
 
--- the variable by which a step finds the rows of its parent
-abbrev pub first_of : Step → Option ℕ
-first_of (Join p) = first_variable p.id.tests
+-- the variables by which a step finds the rows of its parent
+abbrev pub first_of : Step → Option Joined
+first_of (Join p) = Some (joined_of p)
 first_of (Negation m) = None
 
--- the rows are indexed by it
+-- the rows are indexed by them
 abbrev pub CanJoin : Step → Memory → Type 0
-CanJoin step m = (v : ℕ) → first_of step ≡ Some v → IsIn v m.joined.items
+CanJoin step m = (j : Joined) → first_of step ≡ Some j → IsIn j m.joined.items
 
 -- what a step makes of the rows of its parent
 abbrev pub stepped : Step → List Element → (ℕ → List Row) → List Row → List Row

@@ -1,44 +1,45 @@
 // A parent is made ready for a new node.
-ghost use Rattle.std.specs.Prelude.{◌≡◌, ◌==◌, ◌≢◌, ℕ, Some, OnOk, IfSome};
+ghost use Rattle.std.specs.Prelude.{◌≡◌, ◌≢◌, ℕ, Some, OnOk, IfSome};
 ghost use Rattle.std.specs.List.{list_any};
 ghost use Rattle.slab.specs.Slab.{get};
+ghost use Rattle.node_memory.specs.Symbols.{joined_eq};
 ghost use Rattle.node_table.specs.Serving.{AreIndexed, first_of};
 ghost use Rattle.node_table.specs.Making.{IsReady, ReadyAt};
 
 use crate::node::{Node, Step};
-use join_parts::first_variable;
-use node_memory::index_by;
+use join_parts::joined_of;
+use node_memory::{Joined, index_by};
 use slab::Slab;
 use soar_sym::NoMemory;
 use std::alloc::Global;
 
-/// Whether a variable is among these.
-fn is_among(joined: &[u32], variable: u32) -> bool
-    ensures { result ≡ list_any (λ v. v == variable) joined.now }
+/// Whether variables are among these.
+fn is_among(all: &[Joined], joined: Joined) -> bool
+    ensures { result ≡ list_any (λ j. joined_eq j joined) all.now }
 {
-    joined.iter().any(|v| *v == variable)
+    all.iter().any(|j| *j == joined)
 }
 
-/// The variable by which a step finds the rows of its parent.
-fn first_of(step: &Step) -> Option<u32>
+/// The variables by which a step finds the rows of its parent.
+fn first_of(step: &Step) -> Option<Joined>
     ensures { result ≡ first_of step.now }
 {
     match step {
-        Step::Join(p) => first_variable(p.id.tests.as_slice()),
+        Step::Join(p) => Some(joined_of(p)),
         Step::Negation(_) => None,
     }
 }
 
-/// Indexes the rows of a node by a variable, unless they are already.
-fn index_once(alloc: Global, node: &mut Node, step: &Step, variable: u32) -> Result<(), NoMemory>
+/// Indexes the rows of a node by variables, unless they are already.
+fn index_once(alloc: Global, node: &mut Node, step: &Step, joined: Joined) -> Result<(), NoMemory>
     requires indexed { AreIndexed node.old.memory }
-    requires first { first_of step.now ≡ Some variable }
+    requires first { first_of step.now ≡ Some joined }
     ensures { OnOk result (IsReady node.old node.new step.now) }
 {
-    if is_among(node.memory.joined.as_slice(), variable) {
+    if is_among(node.memory.joined.as_slice(), joined) {
         return Ok(());
     }
-    index_by(alloc, &mut node.memory, variable)?;
+    index_by(alloc, &mut node.memory, joined)?;
     Ok(())
 }
 
@@ -48,7 +49,7 @@ fn index_for(alloc: Global, node: &mut Node, step: &Step) -> Result<(), NoMemory
     ensures { OnOk result (IsReady node.old node.new step.now) }
 {
     match first_of(step) {
-        Some(variable) => index_once(alloc, node, step, variable),
+        Some(joined) => index_once(alloc, node, step, joined),
         None => Ok(()),
     }
 }

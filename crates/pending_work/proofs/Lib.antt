@@ -1,7 +1,7 @@
 pub mod BindingLemmas
 pub mod ConflictLemmas
 pub mod FirableLemmas
-pub mod KeyLemmas
+pub mod OpenLemmas
 pub mod LeastLemmas
 pub mod PendingLemmas
 pub mod RuleLemmas

@@ -1,5 +1,5 @@
 pub mod Active
 pub mod Candidates
 pub mod Firables
-pub mod Keys
+pub mod Open
 pub mod Working

@@ -3,7 +3,6 @@
 
 mod active;
 mod candidates;
-mod instances;
 mod work;
 
 pub use work::{Work, pending};

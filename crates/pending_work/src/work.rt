@@ -1,19 +1,21 @@
-ghost use Rattle.std.specs.Prelude.{◌≡◌, map, IfOk};
+ghost use Rattle.std.specs.Prelude.{◌≡◌, List as ListOf, map, IfOk};
 ghost use Rattle.soar_sym.specs.Words.{Texts};
 ghost use Rattle.defs_match.specs.Rules.{rule_seen};
 ghost use Rattle.defs_match.specs.Conflict.{conflict};
 ghost use Rattle.defs_soar.specs.Pending.{pending_in};
 ghost use Rattle.pending_work.specs.Working.{is_nothing};
 ghost use Rattle.pending_work.specs.Firables.{AreNumbered, AreBound, IsPending};
+ghost use Rattle.pending_work.specs.Open.{IsOpen};
 ghost use Rattle.live_firings.specs.Living.{live_seen};
+ghost use Rattle.live_firings.specs.declared.live.Live.{Live as LiveOf};
 ghost use Rattle.soar_settle.specs.Known.{AreElementsKnown, AreInstancesKnown};
 
 use crate::active::of_active_level;
-use crate::candidates::{ready, unmatched};
-use crate::instances::InstanceSet;
+use crate::candidates::ready;
 use defs_match::Instance;
 use defs_soar::Goal;
 use live_firings::Live;
+use outstanding::Open;
 use rule_shelf::Rules;
 use soar_sym::{List, NoMemory};
 use soar_wm::Memory;
@@ -35,7 +37,7 @@ impl Work {
     }
 }
 
-/// The work of the active level, which is the least that has any, where these are the instances of the conflict set
+/// The work of the active level, which is the least that has any, where this is what is outstanding in the conflict set
 /// (Soar manual, chapter 2, elaboration cycle). `proposing` leaves out the instances of operator kind.
 pub fn pending(
     alloc: Global,
@@ -43,21 +45,17 @@ pub fn pending(
     rules: &Rules,
     memory: &Memory,
     goals: &List<Goal>,
-    live: &List<Live>,
-    instances: List<Instance>,
+    left: Open,
 ) -> Result<Work, NoMemory>
     requires numbered { AreNumbered (map rule_seen rules.now) }
-    requires conflict { instances ≡ conflict (map rule_seen rules.now) memory.now.elements }
-    ensures work { IfOk result (λ work. IsPending (map rule_seen rules.now) memory.now.elements work
-        (pending_in proposing (map rule_seen rules.now) memory.now.elements goals.now (map live_seen live.now))) }
+    requires left { (live : ListOf LiveOf) × IsOpen (conflict (map rule_seen rules.now) memory.now.elements) live left }
+    ensures work { (live : ListOf LiveOf) → IsOpen (conflict (map rule_seen rules.now) memory.now.elements) live left
+        → IfOk result (λ work. IsPending (map rule_seen rules.now) memory.now.elements work (pending_in proposing (map rule_seen rules.now) memory.now.elements goals.now (map live_seen live))) }
     // What a caller needs to fire these instances.
     ensures bound { IfOk result (λ work. AreBound (map rule_seen rules.now) work.fired) }
     ensures known { IfOk result (λ work. (words : Texts) → AreElementsKnown words memory.now.elements → AreInstancesKnown words work.fired) }
 {
-    let live = live.as_slice();
-    let matched = InstanceSet::of(alloc, instances.as_slice())?;
-    let gone = unmatched(alloc, live, &matched)?;
-    let living = InstanceSet::of_live(alloc, live)?;
-    let ready = ready(alloc, proposing, rules, memory, goals, &living, instances)?;
-    of_active_level(alloc, goals.as_slice(), memory, gone, ready)
+    let Open { unfired, unmatched } = left;
+    let ready = ready(alloc, proposing, rules, memory, goals, unfired)?;
+    of_active_level(alloc, goals.as_slice(), memory, unmatched, ready)
 }

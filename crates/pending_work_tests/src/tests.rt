@@ -1,6 +1,7 @@
 mod parts;
 
 use match_direct::conflict;
+use outstanding::compare;
 use parts::{goals, listed, live_of, memory, rules};
 use pending_work::{Work, pending};
 use soar_sym::NoMemory;
@@ -46,7 +47,8 @@ fn is_pending(
     let elements = memory.all(alloc)?;
     let listed = listed(alloc, &rules)?;
     let instances = conflict(alloc, listed.as_slice(), elements.as_slice())?;
-    let work = pending(alloc, proposing, &rules, &memory, &goals, &live, instances)?;
+    let left = compare(alloc, instances, live.as_slice())?;
+    let work = pending(alloc, proposing, &rules, &memory, &goals, left)?;
     Ok(is_work(&work, retracted, fired))
 }
 

@@ -5,5 +5,6 @@ pub mod NetworkLemmas
 pub mod SettleLemmas
 pub mod SpreadLemmas
 pub mod StartLemmas
+pub mod ToldLemmas
 pub mod ViewLemmas
 pub mod WayLemmas

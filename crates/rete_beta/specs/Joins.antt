@@ -2,6 +2,7 @@
 use Rattle.std.specs.Prelude.{◌≡◌, ◌≢◌, ◌<◌, ◌+◌, ◌-◌, nat_lt, ℕ, Bool, false, List, [], Option, Some, None, IsSome, option_and_then, slice_index_or, count_by, is_some, if◌then◌else◌}
 use Rattle.soar_wm.specs.declared.element.Element.{Element}
 use Rattle.defs_match.specs.Laws.{IsIn}
+use Rattle.defs_match.specs.Rows.{Row}
 use Rattle.node_table.specs.declared.node.NodeKey.{NodeKey}
 use Rattle.node_table.specs.Nodes.{uppers}
 
@@ -10,9 +11,18 @@ pub record Asked : Type 0 where
   pub key : Option NodeKey
   pub requests : ℕ
 
--- the live nodes under their numbers, the elements by tag, and whether memory was refused
+-- what the last change that a node served made of its rows: some that came, and tags of some that went
+pub record Told : Type 0 where
+  pub come : List Row
+  pub gone : List (List ℕ)
+
+abbrev pub nothing_told : Told
+nothing_told = record { come = []; gone = [] }
+
+-- the live nodes under their numbers, what each told, the elements by tag, and whether memory was refused
 pub record JoinsOf : Type 0 where
   pub nodes : List (Option Asked)
+  pub told : List Told
   pub elements : List Element
   pub failed : Bool
 
@@ -26,6 +36,10 @@ key_of a = a.key
 -- its key
 abbrev pub key_at : JoinsOf → ℕ → Option NodeKey
 key_at j n = option_and_then key_of (node_at j n)
+
+-- what the node of a number told
+abbrev pub told_at : JoinsOf → ℕ → Told
+told_at j n = slice_index_or j.told n nothing_told
 
 abbrev pub IsLive : JoinsOf → ℕ → Type 0
 IsLive j n = IsSome (node_at j n)

@@ -5,16 +5,18 @@ ghost use Rattle.defs_match.specs.Conflict.{instance_of};
 ghost use Rattle.defs_match.specs.Contents.{with_element, HasTag, Works};
 ghost use Rattle.defs_match.specs.Rows.{rows};
 ghost use Rattle.node_table.specs.declared.node.Step.TheVariants.{Join, Negation};
-ghost use Rattle.rete_beta.specs.Joins.{node_at, key_at, IsLive, SameNodes, Asks, CanDrop, Drops, IsStart, AreNodes, live_count};
+ghost use Rattle.rete_beta.specs.Joins.{node_at, key_at, IsLive, SameNodes, Asks, CanDrop, Drops, IsStart, AreNodes, live_count, told_at};
 ghost use Rattle.rete_beta.specs.Networks.{key_made};
+ghost use Rattle.rete_beta.specs.Told.{IsTold, IsRowOf};
 ghost use Rattle.rete_beta.specs.Ways.{Way, IsWay, conditions_of};
 
 use crate::asking::{ask_join, ask_negation};
 use crate::changing::{minus, plus};
 use crate::dropping::drop_at;
 use crate::network::{Network, start};
-use crate::reading::tokens_at;
+use crate::reading::{come_to, gone_from, row_at, tokens_at};
 use defs_match::Instance;
+use match_row::Row;
 use soar_rule::Pattern;
 use soar_sym::{List, NoMemory};
 use soar_wm::Element;
@@ -105,12 +107,15 @@ impl Joins {
         }
     }
 
-    /// Takes in an element whose tag is new, and serves each node that it reaches.
-    pub fn add(&mut self, e: Element) -> Result<(), NoMemory>
+    /// Takes in an element whose tag is new, serves each node that it reaches, and answers which.
+    ///
+    /// Rows of no other node come or go. What came to one of these and went from it, `come` and `gone` tell.
+    pub fn add(&mut self, e: Element) -> Result<List<usize>, NoMemory>
         requires new { self.old.failed ≡ false → list_any (has_tag e.tag) self.old.elements ≡ false }
         ensures works { OnOk result (Works self.old.failed self.new.failed) }
         ensures elements { OnOk result (self.new.elements ≡ with_element self.old.elements e) }
         ensures nodes { OnOk result (SameNodes self.old self.new) }
+        ensures told { IfOk result (λ served. IsTold self.old self.new served) }
         ensures err { OnErr result (self.new.failed ≡ true) }
     {
         if self.failed {
@@ -121,12 +126,13 @@ impl Joins {
         added
     }
 
-    /// Takes the element of a tag out, and serves each node that this reaches.
-    pub fn remove(&mut self, tag: u32) -> Result<(), NoMemory>
+    /// Takes the element of a tag out, serves each node that this reaches, and answers which, as `add` does.
+    pub fn remove(&mut self, tag: u32) -> Result<List<usize>, NoMemory>
         requires there { self.old.failed ≡ false → HasTag self.old.elements tag }
         ensures works { OnOk result (Works self.old.failed self.new.failed) }
         ensures elements { OnOk result (self.new.elements ≡ without_tag tag self.old.elements) }
         ensures nodes { OnOk result (SameNodes self.old self.new) }
+        ensures told { IfOk result (λ served. IsTold self.old self.new served) }
         ensures err { OnErr result (self.new.failed ≡ true) }
     {
         if self.failed {
@@ -147,6 +153,37 @@ impl Joins {
             return Err(NoMemory);
         }
         tokens_at(alloc, &self.network, n)
+    }
+
+    /// The row of a live node with these tags as an instance of rule 0, where there is one.
+    pub fn row(
+        &self,
+        alloc: Global,
+        n: usize,
+        tags: &List<u32>,
+    ) -> Result<Option<Instance>, NoMemory>
+        requires live { self.now.failed ≡ false → IsLive self.now n }
+        ensures works { OnOk result (self.now.failed ≡ false) }
+        ensures row { IfOk result (λ i. (way : Way) → IsWay (key_at self.now) way n → IsRowOf (rows (conditions_of way) self.now.elements) tags.now i) }
+    {
+        if self.failed {
+            return Err(NoMemory);
+        }
+        row_at(alloc, &self.network, n, tags)
+    }
+
+    /// The rows that came to a node at the last change that it served; some may have been there. It takes no memory.
+    pub fn come(&self, n: usize) -> &[Row]
+        ensures { result.now ≡ (told_at self.now n).come }
+    {
+        come_to(&self.network.nodes, n)
+    }
+
+    /// The tags of the rows that went from a node at the last change that it served; some may not have been there. It takes no memory.
+    pub fn gone(&self, n: usize) -> &[List<u32>]
+        ensures { result.now ≡ (told_at self.now n).gone }
+    {
+        gone_from(&self.network.nodes, n)
     }
 
     /// How many nodes are live, the root among them. It takes no memory.

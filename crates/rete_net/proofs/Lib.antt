@@ -1,9 +1,11 @@
 pub mod AskLemmas
 pub mod CountLemmas
 pub mod DropLemmas
+pub mod EndLemmas
 pub mod GroundLemmas
 pub mod LeadLemmas
 pub mod LoadLemmas
 pub mod ReadLemmas
 pub mod RuleLemmas
+pub mod ToldLemmas
 pub mod WayLemmas

@@ -47,7 +47,7 @@ times_inserted k cs i c =
     let whole = ap (λ xs. times k (nodes_of xs)) (take-append-drop i cs) in
     omega (arith, times_parts k (take i cs) (c ∷ drop i cs), times_one k c (drop i cs), times_parts k (take i cs) (drop i cs), whole)
 
-around : (cs : List Chain) (i : ℕ) (c : Chain) → i < length cs → c ≡ get_or cs i c → cs ≡ take i cs ++ c ∷ drop (suc i) cs
+pub around : (cs : List Chain) (i : ℕ) (c : Chain) → i < length cs → c ≡ get_or cs i c → cs ≡ take i cs ++ c ∷ drop (suc i) cs
 around cs i c within is =
     sym (take-append-drop i cs) ∙ ap (λ (l : List Chain). take i cs ++ l) (drop-cons cs i c within ∙ ap (λ (x : Chain). x ∷ drop (suc i) cs) (sym is))
 
@@ -76,7 +76,7 @@ all_one : (P : Chain → Type 0) (c : Chain) → P c → All P (c ∷ [])
 all_one P c h zero d l = h
 all_one P c h (suc k) d l = absurd (omega (arith, l))
 
-all_in : (P : Chain → Type 0) (cs : List Chain) (c : Chain) → All P cs → IsIn c cs → P c
+pub all_in : (P : Chain → Type 0) (cs : List Chain) (c : Chain) → All P cs → IsIn c cs → P c
 all_in P [] c all i = absurd i
 all_in P (d ∷ cs) c all (inl e) = subst P e (all 0 d (omega arith))
 all_in P (d ∷ cs) c all (inr i) = all_in P cs c (λ k x l. all (suc k) x (omega (arith, l))) i

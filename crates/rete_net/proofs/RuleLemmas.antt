@@ -58,7 +58,7 @@ any_with number (q ∷ rs) r = by (nat_lt r.number q.number) (any_with number rs
     by true later = refl
     by false later = ap (λ e. is_numbered number q || e) later ∙ turn (is_numbered number q) (is_numbered number r) (list_any (is_numbered number) rs)
 
-first_false : (a b : Bool) → (a || b) ≡ false → (a ≡ false) × (b ≡ false)
+pub first_false : (a b : Bool) → (a || b) ≡ false → (a ≡ false) × (b ≡ false)
 first_false true b e = absurd (cc)
 first_false false b e = (refl, e)
 

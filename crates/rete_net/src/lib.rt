@@ -7,5 +7,7 @@ mod dropping;
 mod loaded;
 mod net;
 mod reading;
+mod telling;
+mod told;
 
 pub use net::Net;

@@ -7,7 +7,9 @@ ghost use Rattle.defs_match.specs.Conflict as meaning;
 ghost use Rattle.defs_match.specs.Contents.{with_element, with_rule, without_rule, is_numbered, HasTag};
 ghost use Rattle.defs_match.specs.Rules.{rule_seen};
 ghost use Rattle.rete_beta.specs.Joins.{node_at};
+ghost use Rattle.rete_beta.specs.Told.{IsTold};
 ghost use Rattle.rete_net.specs.Chains.{rule_of, IsServed};
+ghost use Rattle.rete_net.specs.Ends.{end_of};
 ghost use Rattle.rete_net.specs.Loads.{IsLoaded};
 ghost use Rattle.rete_net.specs.Requests.{HasRoot, Grows, key_in};
 
@@ -16,6 +18,7 @@ use crate::chain::Chain;
 use crate::dropping::drop_all;
 use crate::reading;
 use defs_match::{Instance, Rule};
+use node_agenda::{Turn, TurnIndex, TurnKey};
 use rete_beta::Joins;
 use soar_rule::canonical;
 use soar_sym::{List, NoMemory};
@@ -23,11 +26,25 @@ use soar_wm::Element;
 use std::alloc::Global;
 use std::collections::BTreeMap;
 
-/// The network, and the chains of the loaded rules by number.
+/// The network, the chains of the loaded rules by number, and which rules end at a node.
 #[derive(Drop)]
 pub struct Loaded {
     pub joins: Joins,
     pub chains: BTreeMap<u64, Chain>,
+    pub ends: TurnIndex,
+}
+
+/// The end of a rule: under its last node its turn, which is by its number.
+fn end_of(last: usize, number: u64) -> TurnKey
+    ensures { result ≡ end_of last number }
+{
+    TurnKey {
+        number: last,
+        turn: Turn {
+            made: number,
+            node: last,
+        },
+    }
 }
 
 /// Asks for the nodes of a rule, whose variables are numbered by first occurrence.
@@ -56,6 +73,7 @@ pub fn load(alloc: Global, loaded: &mut Loaded, rule: &Rule) -> Result<(), NoMem
     ensures elements { OnOk result (loaded.new.joins.elements ≡ loaded.old.joins.elements) }
 {
     let chain = chain_of(alloc, &mut loaded.joins, rule)?;
+    loaded.ends.add(end_of(chain.last, chain.rule.number))?;
     loaded.chains.insert(rule.number, chain)?;
     Ok(())
 }
@@ -68,28 +86,31 @@ pub fn unload(loaded: &mut Loaded, number: u64)
     ensures elements { loaded.new.joins.elements ≡ loaded.old.joins.elements }
 {
     if let Some(chain) = loaded.chains.remove(&number) {
+        loaded.ends.remove(&end_of(chain.last, chain.rule.number));
         drop_all(&mut loaded.joins, chain.nodes);
     }
 }
 
-/// Takes in an element whose tag is new.
-pub fn add(loaded: &mut Loaded, element: Element) -> Result<(), NoMemory>
+/// Takes in an element whose tag is new, and answers the nodes that this reached.
+pub fn add(loaded: &mut Loaded, element: Element) -> Result<List<usize>, NoMemory>
     requires loaded { IsLoaded loaded.old }
     requires new { list_any (has_tag element.tag) loaded.old.joins.elements ≡ false }
     ensures loaded { OnOk result (IsLoaded loaded.new) }
     ensures chains { OnOk result (loaded.new.chains.entries ≡ loaded.old.chains.entries) }
     ensures elements { OnOk result (loaded.new.joins.elements ≡ with_element loaded.old.joins.elements element) }
+    ensures told { IfOk result (λ served. IsTold loaded.old.joins loaded.new.joins served) }
 {
     loaded.joins.add(element)
 }
 
-/// Takes the element of a tag out.
-pub fn remove(loaded: &mut Loaded, tag: u32) -> Result<(), NoMemory>
+/// Takes the element of a tag out, and answers the nodes that this reached.
+pub fn remove(loaded: &mut Loaded, tag: u32) -> Result<List<usize>, NoMemory>
     requires loaded { IsLoaded loaded.old }
     requires there { HasTag loaded.old.joins.elements tag }
     ensures loaded { OnOk result (IsLoaded loaded.new) }
     ensures chains { OnOk result (loaded.new.chains.entries ≡ loaded.old.chains.entries) }
     ensures elements { OnOk result (loaded.new.joins.elements ≡ without_tag tag loaded.old.joins.elements) }
+    ensures told { IfOk result (λ served. IsTold loaded.old.joins loaded.new.joins served) }
 {
     loaded.joins.remove(tag)
 }
@@ -112,5 +133,6 @@ pub fn start(alloc: Global) -> Result<Loaded, NoMemory>
     Ok(Loaded {
         joins,
         chains: BTreeMap::new(alloc),
+        ends: TurnIndex::new(alloc),
     })
 }

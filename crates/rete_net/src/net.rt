@@ -3,7 +3,9 @@ ghost use Rattle.rete_net.specs.Chains.{rule_of};
 ghost use Rattle.rete_net.specs.Nets.{IsEmpty, IsShared, live_nodes};
 
 use crate::loaded::{self, Loaded};
+use crate::told;
 use defs_match::{Instance, Matcher, Rule};
+use match_changes::{MatchChanges, MatchKey};
 use soar_sym::{List, NoMemory};
 use soar_wm::Element;
 use std::alloc::Global;
@@ -76,7 +78,8 @@ impl Matcher for Net {
         }
         let added = loaded::add(&mut self.loaded, element);
         self.failed = added.is_err();
-        added
+        added?;
+        Ok(())
     }
 
     fn remove_element(&mut self, tag: u32) -> Result<(), NoMemory> {
@@ -85,7 +88,8 @@ impl Matcher for Net {
         }
         let removed = loaded::remove(&mut self.loaded, tag);
         self.failed = removed.is_err();
-        removed
+        removed?;
+        Ok(())
     }
 
     fn add_rule(&mut self, rule: &Rule) -> Result<(), NoMemory> {
@@ -110,5 +114,47 @@ impl Matcher for Net {
         let instances = loaded::conflict(alloc, &self.loaded);
         self.failed = instances.is_err();
         instances
+    }
+}
+
+impl MatchChanges for Net {
+    fn add_element_told(
+        &mut self,
+        alloc: Global,
+        element: Element,
+    ) -> Result<List<MatchKey>, NoMemory> {
+        if self.failed {
+            return Err(NoMemory);
+        }
+        let told = told::add(alloc, &mut self.loaded, element);
+        self.failed = told.is_err();
+        told
+    }
+
+    fn remove_element_told(&mut self, alloc: Global, tag: u32) -> Result<List<MatchKey>, NoMemory> {
+        if self.failed {
+            return Err(NoMemory);
+        }
+        let told = told::remove(alloc, &mut self.loaded, tag);
+        self.failed = told.is_err();
+        told
+    }
+
+    fn add_rule_told(&mut self, alloc: Global, rule: &Rule) -> Result<List<MatchKey>, NoMemory> {
+        if self.failed {
+            return Err(NoMemory);
+        }
+        let told = told::load(self.alloc, alloc, &mut self.loaded, rule);
+        self.failed = told.is_err();
+        told
+    }
+
+    fn instance(&mut self, alloc: Global, key: &MatchKey) -> Result<Option<Instance>, NoMemory> {
+        if self.failed {
+            return Err(NoMemory);
+        }
+        let found = told::instance(alloc, &self.loaded, key);
+        self.failed = found.is_err();
+        found
     }
 }

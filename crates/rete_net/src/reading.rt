@@ -2,9 +2,11 @@
 ghost use Rattle.std.specs.Prelude.{◌≡◌, ◌++◌, map, false, OnOk, IfOk};
 ghost use Rattle.std.specs.Map.{values_of};
 ghost use Rattle.defs_match.specs.Conflict as meaning;
+ghost use Rattle.match_changes.specs.Told.{IsTheOne};
 ghost use Rattle.rete_beta.specs.Joins.{node_at};
 ghost use Rattle.rete_net.specs.Chains.{IsServed, AllServed, rule_of, numbered};
 ghost use Rattle.rete_net.specs.Requests.{HasRoot, key_in};
+ghost use Rattle.rete_net.specs.Telling.{match_key};
 
 use crate::chain::Chain;
 use defs_match::Instance;
@@ -33,7 +35,7 @@ fn add_numbered(
 }
 
 /// Adds the instances of a rule: the rows of its last node.
-fn add_instances(
+pub fn add_instances(
     alloc: Global,
     joins: &Joins,
     chain: &Chain,
@@ -65,4 +67,27 @@ pub fn conflict(
         add_instances(alloc, joins, chain, &mut out)?;
     }
     Ok(out)
+}
+
+/// The instance of a rule with these tags, where there is one: by one look-up among the rows of its last node.
+pub fn instance(
+    alloc: Global,
+    joins: &Joins,
+    chain: &Chain,
+    tags: &List<u32>,
+) -> Result<Option<Instance>, NoMemory>
+    requires works { joins.now.failed ≡ false }
+    requires root { HasRoot (node_at joins.now) }
+    requires served { IsServed (key_in (node_at joins.now)) chain.now }
+    ensures { IfOk result (λ found. IsTheOne (meaning.instances_of joins.now.elements (rule_of chain.now)) (match_key chain.now.rule.number tags.now) found) }
+{
+    canonical_forms_match();
+    let Some(row) = joins.row(alloc, chain.last, tags)? else {
+        return Ok(None);
+    };
+    Ok(Some(Instance {
+        rule: chain.rule.number,
+        tags: row.tags,
+        binds: row.binds,
+    }))
 }

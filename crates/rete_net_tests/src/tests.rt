@@ -1,10 +1,12 @@
 mod calls;
+mod follower;
 mod random;
 mod rules;
 mod shown;
 mod world;
 
 use calls::{Call, calls_of, conflicts_of};
+use follower::Follower;
 use match_direct::Direct;
 use random::random_calls;
 use rete_net::Net;
@@ -182,6 +184,43 @@ fn rules_that_begin_alike_share_nodes(rt: HostRuntime) -> Result<(), Fail> {
         ("l1 l2 x1 x2", 1),
     ] {
         assert!(rt; nodes_after(rt.alloc(), calls)? == nodes, "{calls}");
+    }
+    Ok(())
+}
+
+/// Whether what a network tells makes its conflict set after each of these calls.
+fn tells(alloc: Global, rules: &[Ready], calls: &[Call]) -> Result<bool, Fail> {
+    let mut matcher = Follower::new(alloc)?;
+    let _conflicts = conflicts_of(alloc, &mut matcher, rules, calls)?;
+    Ok(matcher.agrees())
+}
+
+/// Whether it does after the calls of a text.
+fn tells_of(alloc: Global, rules: &[&str], calls: &str) -> Result<bool, Fail> {
+    let rules = rules_of(alloc, rules)?;
+    let calls = calls_of(alloc, calls)?;
+    tells(alloc, rules.as_slice(), calls.as_slice())
+}
+
+/// Whether it does after so many random calls.
+fn tells_at_random(alloc: Global, seed: u64, count: usize) -> Result<bool, Fail> {
+    let rules = rules_of(alloc, &MIXED)?;
+    let calls = random_calls(alloc, seed, count)?;
+    tells(alloc, rules.as_slice(), calls.as_slice())
+}
+
+#[test]
+fn what_is_told_makes_the_conflict_set(rt: HostRuntime) -> Result<(), Fail> {
+    let alloc = rt.alloc();
+    for calls in [
+        "+SaT l1 +TbU -SaT +SaT x1",
+        "l1 l2 l3 l4 l5 +SaT +TbU +Uc1 -Uc1 x2 -TbU +TbU",
+        "+SaT +TbU +UcS +SbT l2 l3 x3 -UcS +UcS l3 -SaT",
+    ] {
+        assert!(rt; tells_of(alloc, &MIXED, calls)?, "{calls}");
+    }
+    for seed in 9..12 {
+        assert!(rt; tells_at_random(alloc, seed, 300)?, "{seed}");
     }
     Ok(())
 }

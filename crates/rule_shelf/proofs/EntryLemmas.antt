@@ -7,6 +7,8 @@ use Rattle.std.specs.Ordering.{is_eq, is_lt, match_ordering, nat_cmp}
 use Rattle.std.specs.declared.cmp.Ordering.TheVariants.{Greater}
 use Rattle.std.specs.declared.ops.Bound.TheVariants.{Excluded, Unbounded}
 use Rattle.std.proofs.lemmas.List.{map-append}
+use Rattle.body_marks.specs.Fingerprint.{fingerprint}
+use Rattle.soar_rule.specs.Productions.{production_seen}
 use Rattle.defs_match.specs.Contents.{rule_numbered, without_rule}
 use Rattle.defs_match.specs.Rules.{RuleOf, rule_seen}
 use Rattle.defs_match.specs.declared.rule.Rule.{Rule}
@@ -46,7 +48,7 @@ module _ (es ds : Entries) (old new : Index) (rule : Rule) (shelf : IsShelf es o
   pub values_pushed : values_of ds ≡ values_of es ++ rule ∷ []
   values_pushed = ap values_of is_pushed ∙ map-append (λ e. e.1) es ((rule.number, rule) ∷ [])
 
-  pub shelf_pushed : rule.number < 2 ^ 64 → Notes rule.production.name rule.number (is_justified (rule_seen rule)) old new → IsShelf ds new
+  pub shelf_pushed : rule.number < 2 ^ 64 → Notes rule.production.name rule.number (fingerprint (production_seen rule.production)) (is_justified (rule_seen rule)) old new → IsShelf ds new
   shelf_pushed small notes =
       subst (λ l. IsShelf l new) (sym is_pushed)
       (record {
@@ -57,11 +59,11 @@ module _ (es ds : Entries) (old new : Index) (rule : Rule) (shelf : IsShelf es o
 pub shelf_same : (es : Entries) (old new : Index) → IsShelf es old → IsSame old new → IsShelf es new
 shelf_same es old new shelf same = record { numbered = shelf.numbered; indexed = still_indexed (rules_in es) old new shelf.indexed same }
 
-pub shelf_back : (es ds : Entries) (old middle new : Index) (rule : Rule) (justified : Bool) → IsShelf es old → AreBelow rule.number (rules_in es) → ds ≡ es
-    → Notes rule.production.name rule.number justified old middle → Forgets rule.production.name rule.number middle new → IsShelf ds new
-shelf_back es ds old middle new rule justified shelf below same notes forgets =
+pub shelf_back : (es ds : Entries) (old middle new : Index) (rule : Rule) (print : ℕ) (justified : Bool) → IsShelf es old → AreBelow rule.number (rules_in es) → ds ≡ es
+    → Notes rule.production.name rule.number print justified old middle → Forgets rule.production.name rule.number print middle new → IsShelf ds new
+shelf_back es ds old middle new rule print justified shelf below same notes forgets =
     subst (λ l. IsShelf l new) (sym same)
-    (record { numbered = shelf.numbered; indexed = put_back (rules_in es) rule.production.name rule.number justified old middle new shelf.indexed below notes forgets })
+    (record { numbered = shelf.numbered; indexed = put_back (rules_in es) rule.production.name rule.number print justified old middle new shelf.indexed below notes forgets })
 
 -- ---- a rule is found
 
@@ -122,7 +124,7 @@ pub rules_gone : (es ds : Entries) (index : Index) (number : ℕ) → IsShelf es
 rules_gone es ds index number shelf removed = ap rules_in removed ∙ rules_without es number shelf.numbered shelf.indexed.rising
 
 pub shelf_gone : (es ds : Entries) (old new : Index) (number : ℕ) (rule : Rule) → IsShelf es old → Some rule ≡ lookup (is_at (nat_cmp number)) es → ds ≡ remove_entry (is_at (nat_cmp number)) es
-    → Forgets rule.production.name number old new → IsShelf ds new
+    → Forgets rule.production.name number (fingerprint (production_seen rule.production)) old new → IsShelf ds new
 shelf_gone es ds old new number rule shelf there removed forgets =
     subst (λ l. IsShelf l new) (sym removed)
     (record {

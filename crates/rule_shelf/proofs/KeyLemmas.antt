@@ -8,7 +8,7 @@ use Rattle.std.specs.declared.cmp.Ordering.TheVariants.{Greater}
 use Rattle.soar_sym.specs.Equality.{symbol_eq}
 use Rattle.soar_sym.specs.declared.symbol.Sym.{Sym}
 use Rattle.soar_wm.proofs.KeyLemmas.{sym_cmp, cmp_same, nat_same, nat_is, symbol_is, then_same}
-use Rattle.rule_shelf.specs.Marks.{place_cmp}
+use Rattle.rule_shelf.specs.Marks.{place_cmp, print_cmp}
 
 -- ---- names with numbers
 
@@ -29,6 +29,18 @@ place_is p q h =
     let names : p.0 ≡ q.0 = symbol_is p.0 q.0 (left (symbol_eq p.0 q.0) (p.1 == q.1) both) in
     let numbers : p.1 ≡ q.1 = nat_is p.1 q.1 (right (symbol_eq p.0 q.0) (p.1 == q.1) both) in
     λ i. (names i, numbers i)
+
+-- ---- fingerprints with numbers
+
+pub same_print : (p q : ℕ × ℕ) → is_at (print_cmp p) q ≡ ((p.0 == q.0) && (p.1 == q.1))
+same_print p q = then_same (nat_cmp p.0 q.0) (nat_cmp p.1 q.1) ∙ ap₂ (λ x y. x && y) (nat_same p.0 q.0) (nat_same p.1 q.1)
+
+pub print_is : (p q : ℕ × ℕ) → is_at (print_cmp p) q ≡ true → p ≡ q
+print_is p q h =
+    let both : ((p.0 == q.0) && (p.1 == q.1)) ≡ true = sym (same_print p q) ∙ h in
+    let prints : p.0 ≡ q.0 = nat_is p.0 q.0 (left (p.0 == q.0) (p.1 == q.1) both) in
+    let numbers : p.1 ≡ q.1 = nat_is p.1 q.1 (right (p.0 == q.0) (p.1 == q.1) both) in
+    λ i. (prints i, numbers i)
 
 -- ---- numbers
 

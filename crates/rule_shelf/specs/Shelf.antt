@@ -1,5 +1,6 @@
 -- Rules in order of number.
-use Rattle.std.specs.Prelude.{ℕ, ◌<◌, Bool, List, [], ◌∷◌, map, filter}
+use Rattle.std.specs.Prelude.{ℕ, ◌<◌, ◌==◌, Bool, List, [], ◌∷◌, map, filter}
+use Rattle.body_marks.specs.Fingerprint.{fingerprint}
 use Rattle.defs_match.specs.Rules.{RuleOf}
 use Rattle.defs_soar.specs.Pending.{is_justification}
 
@@ -24,3 +25,7 @@ is_justified rule = is_justification rule.production.kind
 -- the numbers of the justifications
 abbrev pub justification_numbers : List RuleOf → List ℕ
 justification_numbers rules = map (λ (rule : RuleOf). rule.number) (filter is_justified rules)
+
+-- the numbers of the rules of a fingerprint
+abbrev pub alike_numbers : ℕ → List RuleOf → List ℕ
+alike_numbers print rules = map (λ (rule : RuleOf). rule.number) (filter (λ (rule : RuleOf). fingerprint rule.production == print) rules)

@@ -1,4 +1,4 @@
-//! The rules of an agent, found by number and by name.
+//! The rules of an agent, found by number, by name and by fingerprint.
 #![tactic(auto)]
 
 mod index;

@@ -5,19 +5,20 @@ ghost use Rattle.std.specs.Option.{option_copied, option_map};
 ghost use Rattle.defs_match.specs.Contents.{rule_numbered, without_rule};
 ghost use Rattle.defs_match.specs.Rules.{rule_seen};
 ghost use Rattle.defs_run.specs.Carrying.{is_named, rule_named};
-ghost use Rattle.rule_shelf.specs.Shelf.{is_justified, justification_numbers, AreBelow, IsRising};
+ghost use Rattle.rule_shelf.specs.Shelf.{alike_numbers, is_justified, justification_numbers, AreBelow, IsRising};
 
 use crate::index::{Index, first_number};
+use body_marks::fingerprint;
 use defs_match::Rule;
 use soar_rule::Kind;
 use soar_sym::{List, NoMemory, Sym};
 use std::alloc::Global;
-use std::collections::BTreeMap;
 use std::collections::btree_map::{Range, Values};
+use std::collections::{BTreeMap, btree_set};
 use std::marker::Model;
 use std::ops::Bound;
 
-/// The rules of an agent, in order of number, found by number and by name.
+/// The rules of an agent, in order of number, found by number, by name and by fingerprint.
 #[derive(Drop)]
 pub struct Rules {
     by_number: BTreeMap<u64, Rule>,
@@ -60,11 +61,12 @@ impl Rules {
     {
         let name = rule.production.name;
         let number = rule.number;
-        self.index.note(name, number, is_justified(&rule))?;
+        let mark = fingerprint(&rule.production);
+        self.index.note(name, number, mark, is_justified(&rule))?;
         match self.by_number.insert(number, rule) {
             Ok(_) => Ok(()),
             Err(_) => {
-                self.index.forget(name, number);
+                self.index.forget(name, number, mark);
                 Err(NoMemory)
             }
         }
@@ -77,7 +79,8 @@ impl Rules {
     {
         match self.by_number.remove(&number) {
             Some(rule) => {
-                self.index.forget(rule.production.name, number);
+                let mark = fingerprint(&rule.production);
+                self.index.forget(rule.production.name, number, mark);
                 Some(rule)
             }
             None => None,
@@ -114,6 +117,13 @@ impl Rules {
         ensures { result ≡ list_any (is_named name) (map rule_seen self.now) }
     {
         self.first_named(name).is_some()
+    }
+
+    /// The numbers of the rules of a fingerprint, each behind it, in order. It takes no memory.
+    pub fn alike(&self, fingerprint: u64) -> btree_set::Range<'_, (u64, u64)>
+        ensures { map (λ place. place.1) result ≡ alike_numbers fingerprint (map rule_seen self.now) }
+    {
+        self.index.of_print(fingerprint)
     }
 
     /// The numbers of the justifications, in order (Soar manual, chapter 4, justifications).

@@ -4,7 +4,7 @@ ghost use Rattle.soar_sym.specs.Words.{Texts};
 ghost use Rattle.defs_run.specs.Sessions.{refused_by};
 ghost use Rattle.defs_soar.specs.History.{RecordedFiring};
 ghost use Rattle.wave_parts.specs.Remembers.{Remembers};
-ghost use Rattle.soar_cycle.specs.Agents.{standing_after};
+ghost use Rattle.soar_cycle.specs.Agents.{StaysAsItIs, standing_after};
 ghost use Rattle.session_parts.specs.Reasons.{IsReasonKnown, refusal_by};
 ghost use Rattle.soar_agent.specs.Carries.{Replies};
 ghost use Rattle.soar_agent.specs.Commands.{IsToldByCaller, RefusesTold, refusal_told};
@@ -55,6 +55,7 @@ impl<M: Matcher> Session<M> {
         ensures settings { self.new.agent.parts.settings ≡ self.old.agent.parts.settings }
         ensures standing { self.new.standing ≡ standing_after self.old.standing result }
         ensures stopped { StaysStopped self.old.standing text.old text.new result }
+        ensures still { StaysAsItIs self.old.standing self.old self.new }
         ensures sound { IsSoundSession self.new }
     {
         let standing = self.standing;

@@ -9,7 +9,7 @@ ghost use Rattle.defs_run.specs.Orders.{run_cycles};
 ghost use Rattle.soar_agent.specs.Running.{run_learning};
 ghost use Rattle.wave_parts.specs.Remembers.{Remembers};
 ghost use Rattle.wave_parts.specs.Seen.{agent_of};
-ghost use Rattle.soar_cycle.specs.Agents.{standing_after};
+ghost use Rattle.soar_cycle.specs.Agents.{StaysAsItIs, standing_after};
 ghost use Rattle.soar_agent.specs.Commands.{CarriesOut, Cycled};
 ghost use Rattle.soar_agent.specs.States.{IsReady, IsSoundSession, StaysStopped};
 
@@ -17,6 +17,7 @@ use crate::outcome::{Outcome, outcome_of};
 use crate::standing::standing_after;
 use crate::state::Session;
 use defs_match::Matcher;
+use outstanding::Outstanding;
 use session_parts::{Origin, Reason, say_stop};
 use soar_cycle::{Standing, Stop};
 use soar_sym::Text;
@@ -38,7 +39,9 @@ impl<M: Matcher> Session<M> {
         }
         Ok(Outcome::Run(count))
     }
+}
 
+impl<M: Outstanding> Session<M> {
     /// Runs a cycle, and appends what it says. At a limit that is what comes before, and the line of the limit;
     /// nothing where there is no memory. True exactly where the agent is halted in the end.
     pub fn cycle(&mut self, text: &mut Text) -> Result<bool, Stop>
@@ -50,6 +53,7 @@ impl<M: Matcher> Session<M> {
         ensures settings { self.new.agent.parts.settings ≡ self.old.agent.parts.settings }
         ensures standing { self.new.standing ≡ standing_after self.old.standing result }
         ensures stopped { StaysStopped self.old.standing text.old text.new result }
+        ensures still { StaysAsItIs self.old.standing self.old self.new }
         ensures sound { IsSoundSession self.new }
     {
         let standing = self.standing;

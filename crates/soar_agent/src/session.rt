@@ -8,7 +8,7 @@ ghost use Rattle.loading_laws.specs.Orders.{IsLawfulOrder};
 ghost use Rattle.soar_cmd.specs.Asked.{order_seen};
 ghost use Rattle.soar_cmd.specs.Known.{IsOrderKnown};
 ghost use Rattle.wave_parts.specs.Remembers.{Remembers};
-ghost use Rattle.soar_cycle.specs.Agents.{standing_after};
+ghost use Rattle.soar_cycle.specs.Agents.{StaysAsItIs, standing_after};
 ghost use Rattle.soar_agent.specs.Running.{run_learning};
 ghost use Rattle.soar_agent.specs.Commands.{CarriesOut, Commands, Outcomes};
 ghost use Rattle.soar_agent.specs.States.{IsReady, IsSoundSession, StaysStopped, session_of};
@@ -56,6 +56,7 @@ impl<M: Matcher> Session<M> {
             Commands s (obeyed whole_stage source.now c.now.line c.now.text s) self.new text.old text.new result }
         ensures standing { self.new.standing ≡ standing_after self.old.standing result }
         ensures stopped { StaysStopped self.old.standing text.old text.new result }
+        ensures still { StaysAsItIs self.old.standing self.old self.new }
         ensures sound { IsSoundSession self.new }
     {
         let standing = self.standing;

@@ -61,8 +61,10 @@ sound_grown a words more sound = record {
   live_known = live_grown a.table words (map live_seen a.live) more sound.live_known;
   live_given = sound.live_given;
   kept_up = sound.kept_up;
+  kept_ids = sound.kept_ids;
   past_named = named_grown a.table words (recorded a.past) more sound.past_named;
   chains_known = chains_grown a.table words (map learned_rule_seen a.chains) more sound.chains_known;
+  chains_kept = sound.chains_kept;
 }
 
 -- ---- the state with these words

@@ -39,6 +39,10 @@ stop_of (standing.PastLimit limit) = Some (stop.Limit limit)
 abbrev pub IsStopped : {T : Type 0} → Standing → Result T Stop → Type 0
 IsStopped s result = (why : Stop) → stop_of s ≡ Some why → result ≡ Err why
 
+-- what stands for no state stays as it is
+abbrev pub StaysAsItIs : {T : Type 0} → Standing → T → T → Type 0
+StaysAsItIs s old new = (why : Stop) → stop_of s ≡ Some why → new ≡ old
+
 -- what an answer leaves
 abbrev pub standing_after : {T : Type 0} → Standing → Result T Stop → Standing
 standing_after s (Ok done) = s

@@ -1,7 +1,7 @@
 // The calls by which a session works. Each changes the part of the state that it names.
 ghost use Rattle.std.specs.Prelude.{◌≡◌, ◌+◌, ◌≤◌, Ok, Err, IfOk};
 ghost use Rattle.defs_soar.specs.Agents.{Agent as AgentOf};
-ghost use Rattle.soar_cycle.specs.Agents.{IsSoundAgent, IsStopped, standing_after};
+ghost use Rattle.soar_cycle.specs.Agents.{IsSoundAgent, IsStopped, StaysAsItIs, standing_after};
 ghost use Rattle.wave_parts.specs.Stands.{Stands};
 ghost use Rattle.soar_sym.specs.Letters.{last_of};
 ghost use Rattle.soar_sym.specs.Words.{IsKnown};
@@ -26,6 +26,8 @@ impl<M: Matcher> Agent<M> {
         ensures settings { self.new.parts.settings ≡ self.old.parts.settings }
         ensures standing { self.new.standing ≡ standing_after self.old.standing result }
         ensures stopped { IsStopped self.old.standing result }
+        ensures still { StaysAsItIs self.old.standing self.old self.new }
+        ensures silent { StaysAsItIs self.old.standing text.old text.new }
         ensures sound { IsSoundAgent self.new }
         ensures unwritten { result ≡ Err Stop.NoMemory → text.new ≡ text.old }
     {
@@ -49,6 +51,7 @@ impl<M: Matcher> Agent<M> {
         ensures settings { self.new.parts.settings ≡ self.old.parts.settings }
         ensures standing { self.new.standing ≡ standing_after self.old.standing result }
         ensures stopped { IsStopped self.old.standing result }
+        ensures still { StaysAsItIs self.old.standing self.old self.new }
         ensures sound { IsSoundAgent self.new }
         ensures mid_line { self.new.mid_line ≡ self.old.mid_line }
     {
@@ -67,6 +70,7 @@ impl<M: Matcher> Agent<M> {
         ensures settings { self.new.parts.settings ≡ self.old.parts.settings }
         ensures standing { self.new.standing ≡ standing_after self.old.standing result }
         ensures stopped { IsStopped self.old.standing result }
+        ensures still { StaysAsItIs self.old.standing self.old self.new }
         ensures sound { IsSoundAgent self.new }
         ensures mid_line { self.new.mid_line ≡ self.old.mid_line }
     {
@@ -90,6 +94,7 @@ impl<M: Matcher> Agent<M> {
         ensures settings { self.new.parts.settings ≡ self.old.parts.settings }
         ensures standing { self.new.standing ≡ standing_after self.old.standing result }
         ensures stopped { IsStopped self.old.standing result }
+        ensures still { StaysAsItIs self.old.standing self.old self.new }
         ensures sound { IsSoundAgent self.new }
         ensures mid_line { self.new.mid_line ≡ self.old.mid_line }
     {
@@ -110,6 +115,7 @@ impl<M: Matcher> Agent<M> {
         ensures settings { self.new.parts.settings ≡ self.old.parts.settings }
         ensures standing { self.new.standing ≡ standing_after self.old.standing result }
         ensures stopped { IsStopped self.old.standing result }
+        ensures still { StaysAsItIs self.old.standing self.old self.new }
         ensures sound { IsSoundAgent self.new }
         ensures mid_line { self.new.mid_line ≡ self.old.mid_line }
     {

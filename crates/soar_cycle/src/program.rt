@@ -1,7 +1,7 @@
 // The rules of an agent.
 ghost use Rattle.std.specs.Prelude.{◌≡◌, false, map, true, Ok, Err, IfErr, IfOk, MatchResult};
 ghost use Rattle.defs_soar.specs.Agents.{Agent as AgentOf};
-ghost use Rattle.soar_cycle.specs.Agents.{IsSoundAgent, IsStopped, standing_after};
+ghost use Rattle.soar_cycle.specs.Agents.{IsSoundAgent, IsStopped, StaysAsItIs, standing_after};
 ghost use Rattle.wave_parts.specs.Stands.{Stands};
 ghost use Rattle.soar_rule.specs.AsItStands.{can_be_matched};
 ghost use Rattle.soar_rule.specs.Productions.{production_seen};
@@ -31,6 +31,7 @@ impl<M: Matcher> Agent<M> {
         ensures settings { self.new.parts.settings ≡ self.old.parts.settings }
         ensures standing { self.new.standing ≡ standing_after self.old.standing result }
         ensures stopped { IsStopped self.old.standing result }
+        ensures still { StaysAsItIs self.old.standing self.old self.new }
         ensures sound { IsSoundAgent self.new }
         ensures mid_line { self.new.mid_line ≡ self.old.mid_line }
     {
@@ -68,6 +69,7 @@ impl<M: Matcher> Agent<M> {
         ensures settings { self.new.parts.settings ≡ self.old.parts.settings }
         ensures standing { self.new.standing ≡ standing_after self.old.standing result }
         ensures stopped { IsStopped self.old.standing result }
+        ensures still { StaysAsItIs self.old.standing self.old self.new }
         ensures sound { IsSoundAgent self.new }
         ensures mid_line { self.new.mid_line ≡ self.old.mid_line }
     {

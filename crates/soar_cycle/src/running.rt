@@ -1,7 +1,7 @@
 // Waves, phases, decisions and cycles (Soar manual, chapter 2, execution cycle).
 ghost use Rattle.std.specs.Prelude.{◌≡◌, false, Err, IfOk};
 ghost use Rattle.defs_soar.specs.Agents.{Agent as AgentOf};
-ghost use Rattle.soar_cycle.specs.Agents.{IsSoundAgent, IsStopped, standing_after};
+ghost use Rattle.soar_cycle.specs.Agents.{IsSoundAgent, IsStopped, StaysAsItIs, standing_after};
 ghost use Rattle.soar_cycle.specs.Chunks.{LearnsWell};
 ghost use Rattle.wave_parts.specs.Stands.{Stands};
 ghost use Rattle.defs_soar.specs.Cycle.{cycle};
@@ -16,12 +16,12 @@ use crate::standing::{Standing, standing_after};
 use crate::telling::tell;
 use cycle_parts::Waved;
 use cycle_phases::{Ended, run_cycle, run_phase};
-use defs_match::Matcher;
+use outstanding::Outstanding;
 use soar_sym::Text;
 use trace_lines::Phase;
 use wave_parts::Stop;
 
-impl<M: Matcher> Agent<M> {
+impl<M: Outstanding> Agent<M> {
     /// Runs a wave of a phase, and appends what is told of it. Nothing is appended where memory is wanting. What it
     /// learns can be trusted: each of its chunks goes again where it was learned.
     pub fn wave(&mut self, phase: Phase, text: &mut Text) -> Result<Waved, Stop>
@@ -31,6 +31,8 @@ impl<M: Matcher> Agent<M> {
         ensures settings { self.new.parts.settings ≡ self.old.parts.settings }
         ensures standing { self.new.standing ≡ standing_after self.old.standing result }
         ensures stopped { IsStopped self.old.standing result }
+        ensures still { StaysAsItIs self.old.standing self.old self.new }
+        ensures silent { StaysAsItIs self.old.standing text.old text.new }
         ensures sound { IsSoundAgent self.new }
         ensures unwritten { result ≡ Err Stop.NoMemory → text.new ≡ text.old }
     {
@@ -54,6 +56,8 @@ impl<M: Matcher> Agent<M> {
         ensures settings { self.new.parts.settings ≡ self.old.parts.settings }
         ensures standing { self.new.standing ≡ standing_after self.old.standing result }
         ensures stopped { IsStopped self.old.standing result }
+        ensures still { StaysAsItIs self.old.standing self.old self.new }
+        ensures silent { StaysAsItIs self.old.standing text.old text.new }
         ensures sound { IsSoundAgent self.new }
         ensures unwritten { result ≡ Err Stop.NoMemory → text.new ≡ text.old }
     {
@@ -81,6 +85,8 @@ impl<M: Matcher> Agent<M> {
         ensures settings { self.new.parts.settings ≡ self.old.parts.settings }
         ensures standing { self.new.standing ≡ standing_after self.old.standing result }
         ensures stopped { IsStopped self.old.standing result }
+        ensures still { StaysAsItIs self.old.standing self.old self.new }
+        ensures silent { StaysAsItIs self.old.standing text.old text.new }
         ensures sound { IsSoundAgent self.new }
         ensures unwritten { result ≡ Err Stop.NoMemory → text.new ≡ text.old }
     {
@@ -104,6 +110,8 @@ impl<M: Matcher> Agent<M> {
         ensures settings { self.new.parts.settings ≡ self.old.parts.settings }
         ensures standing { self.new.standing ≡ standing_after self.old.standing result }
         ensures stopped { IsStopped self.old.standing result }
+        ensures still { StaysAsItIs self.old.standing self.old self.new }
+        ensures silent { StaysAsItIs self.old.standing text.old text.new }
         ensures sound { IsSoundAgent self.new }
         ensures unwritten { result ≡ Err Stop.NoMemory → text.new ≡ text.old }
     {

@@ -10,14 +10,14 @@ ghost use Rattle.soar_run.specs.Cycles.{IsRanOk, WritesCycle, course_text, cycle
 ghost use Rattle.soar_run.specs.Ready.{IsReadySession};
 
 use command_runs::{Answered, Next};
-use defs_match::Matcher;
+use outstanding::Outstanding;
 use soar_agent::{Session, Stop};
 use soar_edge::{PutFault, Sink, put_all};
 use soar_sym::Text;
 use std::alloc::Global;
 
 /// Runs so many cycles, or until the agent is halted, and writes what each says before the next begins.
-pub fn run_cycles<M: Matcher, O: Sink>(
+pub fn run_cycles<M: Outstanding, O: Sink>(
     alloc: Global,
     session: &mut Session<M>,
     count: u32,
@@ -47,7 +47,7 @@ pub fn run_cycles<M: Matcher, O: Sink>(
 }
 
 /// Runs a cycle, and writes what it says. False where it passes a limit.
-fn write_cycle<M: Matcher, O: Sink>(
+fn write_cycle<M: Outstanding, O: Sink>(
     alloc: Global,
     session: &mut Session<M>,
     out: &mut O,

@@ -6,7 +6,7 @@ ghost use Rattle.soar_run.specs.Spoken.{StandsFor};
 
 use crate::step::{answer_command, refuse_told};
 use command_runs::{Answered, Carrier, Unread};
-use defs_match::Matcher;
+use outstanding::{Followed, Outstanding};
 use rete_net::Net;
 use soar_agent::Session;
 use soar_edge::{Command, PutFault, Sink};
@@ -15,11 +15,11 @@ use std::alloc::Global;
 
 /// What carries the commands of a run out.
 #[derive(Drop)]
-pub struct Speaker<M: Matcher> {
+pub struct Speaker<M: Outstanding> {
     pub session: Session<M>,
 }
 
-impl<M: Matcher> Carrier for Speaker<M> {
+impl<M: Outstanding> Carrier for Speaker<M> {
     ghost use Rattle.soar_run.specs.Ready.{IsReadySession};
     ghost use Rattle.soar_run.specs.Spoken.{StandsFor};
 
@@ -51,11 +51,12 @@ impl<M: Matcher> Carrier for Speaker<M> {
 }
 
 /// The session before the first command, at a watch level from 0 to 5.
-pub fn first_speaker(alloc: Global, watch: u8) -> Result<Speaker<Net>, NoMemory>
+pub fn first_speaker(alloc: Global, watch: u8) -> Result<Speaker<Followed<Net>>, NoMemory>
     ensures stands { IfOk result (λ speaker. StandsFor speaker.session (first_session watch)) }
     ensures ready { IfOk result (λ speaker. IsReadySession speaker.session) }
 {
-    let matcher = Net::new(alloc)?;
+    let net = Net::new(alloc)?;
+    let matcher = Followed::new(alloc, net);
     let session = Session::new(alloc, matcher, watch)?;
     Ok(Speaker { session })
 }

@@ -11,14 +11,14 @@ ghost use Rattle.soar_run.specs.Spoken.{StandsFor};
 
 use crate::cycles::run_cycles;
 use command_runs::{Answered, Next, Unread};
-use defs_match::Matcher;
+use outstanding::Outstanding;
 use soar_agent::{Outcome, Session, Stop};
 use soar_edge::{Command, PutFault, Sink, put_all};
 use soar_sym::Text;
 use std::alloc::Global;
 
 /// Carries a command of a source out, and writes what it says; what each of its cycles says before the next begins.
-pub fn answer_command<M: Matcher, O: Sink>(
+pub fn answer_command<M: Outstanding, O: Sink>(
     alloc: Global,
     session: &mut Session<M>,
     command: &Command,
@@ -45,7 +45,7 @@ pub fn answer_command<M: Matcher, O: Sink>(
 }
 
 /// Writes what a command said, or runs the cycles that it asks for.
-fn follow<M: Matcher, O: Sink>(
+fn follow<M: Outstanding, O: Sink>(
     alloc: Global,
     session: &mut Session<M>,
     outcome: Outcome,
@@ -81,7 +81,7 @@ fn put_answer<O: Sink>(out: &mut O, text: &Text, answer: Answered) -> Result<Ans
 }
 
 /// Refuses on a line of a source what is no command, and writes that.
-pub fn refuse_told<M: Matcher, O: Sink>(
+pub fn refuse_told<M: Outstanding, O: Sink>(
     alloc: Global,
     session: &mut Session<M>,
     why: Unread,

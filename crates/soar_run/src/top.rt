@@ -16,6 +16,7 @@ ghost use Rattle.soar_run.specs.Spoken.{StandsFor};
 use crate::speaker::{Speaker, first_speaker};
 use command_runs::run_whole;
 use command_words::{Options, read_options};
+use outstanding::Followed;
 use rete_net::Net;
 use soar_edge::{PutFault, Shelf, Sink, Source, Status, put_all};
 use soar_sym::NoMemory;
@@ -96,7 +97,7 @@ pub fn run_soar<I: Source, F: Shelf, O: Sink>(
 #[derive(Drop)]
 struct Start {
     options: Options,
-    speaker: Speaker<Net>,
+    speaker: Speaker<Followed<Net>>,
 }
 
 /// Reads the words, and makes the session before the first command. None where the words aren't of the form.

@@ -2,8 +2,10 @@ ghost use Rattle.std.specs.Prelude.{◌≡◌, ◌∷◌, []};
 ghost use Rattle.defs_soar.specs.Goals.{goal_ids};
 
 mod parts;
+mod world;
 
-use crate::tests::parts::{S1, S2, goals, instance, memory, rule};
+use crate::tests::parts::{OTHERS, S1, S2, goals, instance, rule};
+use crate::tests::world::make_world;
 use defs_soar::Preference;
 use firing_records::{Before, Recorded};
 use live_firings::Live;
@@ -21,8 +23,8 @@ use wave_firings::{Fired, fire_all};
 fn fired(alloc: Global) -> Result<Fired, Stop> {
     let goals = goals(alloc)?;
     let prefs = Prefs::new(alloc, 9)?;
-    let memory = memory(alloc)?;
-    let before = Before::new(alloc, &goals, &prefs, &memory)?;
+    let world = make_world(alloc, &goals, &OTHERS)?;
+    let before = Before::new(alloc, &goals, &prefs, &world.memory, &world.kept)?;
     fired_after(&before)
 }
 
@@ -35,8 +37,8 @@ fn fired_after(before: &Before<'_>) -> Result<Fired, Stop>
     let mut rules = Rules::new(alloc);
     rules.push(rule(alloc)?)?;
     let mut instances = List::new(alloc);
-    instances.push(instance(alloc, 1)?)?;
-    instances.push(instance(alloc, 2)?)?;
+    instances.push(instance(alloc, 12)?)?;
+    instances.push(instance(alloc, 13)?)?;
     fire_all(
         alloc,
         &mut table,
@@ -83,7 +85,7 @@ fn are_live(live: &[Live]) -> bool {
 /// Whether they are recorded, each with its goal, the element that it used, and its three wishes.
 fn are_recorded(recorded: &[Recorded]) -> bool {
     match recorded {
-        [top, below] => is_recorded(top, 8, S1, 1) && is_recorded(below, 9, S2, 2),
+        [top, below] => is_recorded(top, 8, S1, 12) && is_recorded(below, 9, S2, 13),
         _ => false,
     }
 }

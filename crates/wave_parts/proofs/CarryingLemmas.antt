@@ -201,8 +201,10 @@ renewed_sound a prefs live gone made new keeps s renews lives fit =
         | inr here ↦ fit.live_given l here
       ];
       kept_up = kept_renewed a.prefs prefs a.inputs a.changed a.kept a.memory.elements (ap (λ (p : PreferenceMemory). p.settled) renews.rows) s.kept_up;
+      kept_ids = s.kept_ids;
       past_named = s.past_named;
       chains_known = s.chains_known;
+      chains_kept = s.chains_kept;
     }
 
 -- counts are not part of it
@@ -233,6 +235,8 @@ counted_sound a waves retractions s = record {
   live_known = s.live_known;
   live_given = s.live_given;
   kept_up = s.kept_up;
+  kept_ids = s.kept_ids;
   past_named = s.past_named;
   chains_known = s.chains_known;
+  chains_kept = s.chains_kept;
 }

@@ -1,5 +1,5 @@
 -- What a wave changed, and what carrying it out comes to.
-use Rattle.std.proofs.Common.{◌≡◌, ℕ, ◌+◌, ◌≤◌, ◌∙◌, List, ◌++◌, map, drop, length, Result, Ok, Err, refl, sym, ap, subst}
+use Rattle.std.proofs.Common.{◌≡◌, ℕ, ◌+◌, ◌≤◌, ◌∙◌, List, ◌++◌, map, drop, take, length, Result, Ok, Err, refl, sym, ap, subst}
 use Rattle.std.specs.Prelude.{flat_map}
 use Rattle.soar_choose.specs.Rows.{AreInRange}
 use Rattle.soar_fire.specs.Growth.{LettersKeep}
@@ -23,6 +23,7 @@ use Rattle.agent_laws.specs.Dependence.{GoalsDependOnMore, MakersAreEarlier, eac
 use Rattle.agent_laws.specs.Records.{AreRisingFrom}
 use Rattle.firing_records.specs.Recorded.{recorded_seen}
 use Rattle.goal_dependence.specs.Remembered.{CanJoin, firings_of, past_by, reach_over, tags_found_from}
+use Rattle.goal_dependence.proofs.DependenceSteps.{tags_of_left}
 use Rattle.live_firings.specs.Living.{live_seen}
 use Rattle.pending_work.specs.Firables.{IsPending}
 use Rattle.pending_work.specs.declared.work.Work.{Work}
@@ -55,6 +56,10 @@ use Rattle.wave_parts.proofs.NamedLemmas.{live_grown}
 use Rattle.wave_parts.proofs.RememberedLemmas.{makers_joined, makers_of_new, recorded_firings}
 use Rattle.wave_parts.proofs.RetaughtLemmas.{retaught, retracted_given}
 use Rattle.wave_parts.proofs.StandsLemmas.{stands_at}
+
+-- nothing changes where nothing settles
+pub left_itself : (a : PartsKept) → IsLeft a a
+left_itself a = record { table = refl; letters = refl; rules = refl; last_rule = refl; past = refl; firings = refl; settings = refl }
 
 -- ---- up to settling
 
@@ -185,6 +190,20 @@ module _ (old mid : PartsKept) (work : Work) (change : WaveChange) (sound : IsSo
     are_earlier =
         makers_joined (recorded new.past) (firings_of change.recorded) (subst (λ past. MakersAreEarlier (recorded past)) (sym past_is) sound.makers_earlier)
         (makers_of_new old.firings change.recorded rising makers)
+
+    -- the tags that were found before all settled join the tables of the goals that are left
+    pub depends_left : (depends tags : List (List ℕ)) (firings : List Firing) → IsSound new → new.goals ≡ take (length new.goals) mid.goals
+        → recorded firings ≡ recorded new.past ++ firings_of change.recorded
+        → tags ≡ tags_found_from (recorded mid.past ++ firings_of change.recorded) (map (past_by (reach_over mid.goals mid.memory.elements) change.added) change.recorded) 2 (drop 1 mid.goals)
+        → depends ≡ each_with new.depends tags
+        → depends ≡ each_with new.depends (tags_found_from (recorded firings) (map (past_by (reach_over old.goals old.memory.elements) change.added) change.recorded) 2 (drop 1 new.goals))
+    depends_left depends tags firings s first firings_join tags_are is =
+        let goals_are : mid.goals ≡ old.goals = ap (λ (a : PartsKept). a.goals) (mid_is old x.worked mid x.from is_mid) in
+        let all : recorded mid.past ++ firings_of change.recorded ≡ recorded firings = ap (λ past. recorded past ++ firings_of change.recorded) (sym remains.past) ∙ sym firings_join in
+        is
+        ∙ ap (each_with new.depends) tags_are
+        ∙ tags_of_left (recorded mid.past ++ firings_of change.recorded) (map (past_by (reach_over mid.goals mid.memory.elements) change.added) change.recorded) 2 mid.goals new.goals new.depends first s.depends_fit
+        ∙ (λ k. each_with new.depends (tags_found_from (all k) (map (past_by (reach_over (goals_are k) (memory_is k).elements) change.added) change.recorded) 2 (drop 1 new.goals)))
 
     pub end_is_sound : (depends : List (List ℕ)) (firings : List Firing) (tags : List (List ℕ)) → IsSound new
         → recorded firings ≡ recorded new.past ++ firings_of change.recorded → depends ≡ each_with new.depends tags → IsSound (with_wave new depends firings change.halted)

@@ -207,8 +207,10 @@ wave_sound new last recorded_now depends firings halted tags s rising makers up_
   live_known = s.live_known;
   live_given = s.live_given;
   kept_up = s.kept_up;
+  kept_ids = s.kept_ids;
   past_named = subst (AreNamed new.table) (sym firings_is) (λ f is. elim (in_either f (recorded new.past) (firings_of recorded_now) is) [ inl old ↦ s.past_named f old | inr here ↦ named f here ]);
   chains_known = s.chains_known;
+  chains_kept = s.chains_kept;
 }
 
 -- ---- what is lawful

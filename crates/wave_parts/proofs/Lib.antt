@@ -4,6 +4,7 @@ pub mod CarryLemmas
 pub mod CarryingLemmas
 pub mod ChangedLemmas
 pub mod DoneLemmas
+pub mod ExplainedLemmas
 pub mod FiredKnownLemmas
 pub mod FiredWaveLemmas
 pub mod FiringLemmas
@@ -14,11 +15,13 @@ pub mod KeptUpLemmas
 pub mod KnownLemmas
 pub mod LeavingLemmas
 pub mod LimitLemmas
+pub mod LivingLemmas
 pub mod NamedLemmas
 pub mod RememberedLemmas
 pub mod RemovedLemmas
 pub mod ResettlingLemmas
 pub mod RetaughtLemmas
+pub mod SoundLemmas
 pub mod SpentLemmas
 pub mod StandsLemmas
 pub mod TeachingLemmas

@@ -5,6 +5,7 @@ use Rattle.soar_wm.specs.WorkingMemory.{WorkingMemory}
 use Rattle.soar_wm.specs.declared.element.Element.{Element}
 use Rattle.defs_soar.specs.declared.goal.Goal.{Goal}
 use Rattle.defs_soar.specs.Events.{goes, comes}
+use Rattle.defs_soar.specs.Goals.{goal_ids}
 use Rattle.defs_soar.specs.History.{RecordedFiring}
 use Rattle.defs_soar.specs.Laws.{IsIn}
 use Rattle.defs_soar.specs.Limits.{elements_to, tags_to, first_passed}
@@ -31,7 +32,7 @@ use Rattle.kept_triples.specs.Kept.{KeptOf}
 use Rattle.wave_parts.specs.KeptUp.{IsKeptUp}
 use Rattle.wave_parts.specs.Remembers.{Remembers}
 use Rattle.wave_parts.specs.Resettles.{resettled_now, IsResettled, Resettles}
-use Rattle.wave_parts.specs.Seen.{agent_of, AreGoalsKnown, IsSound}
+use Rattle.wave_parts.specs.Seen.{agent_of, AreGoalsKnown, IsSound, IsToSettle}
 use Rattle.wave_parts.specs.declared.parts.Parts.{Parts as PartsKept}
 use Rattle.wave_parts.proofs.KnownLemmas.{KnowsSupports, kept_known, after_known, rows_left, triples_left, range_left}
 use Rattle.wave_parts.proofs.NamedLemmas.{live_left}
@@ -182,25 +183,25 @@ goal_left (suc n) (goal ∷ goals) g (inr is) = inr (goal_left n goals g is)
 within_left : (a : PartsKept) (l : Left) (kept : List Triple) → HasTrimmed a l kept → (g : Goal) → IsIn g l.goals → IsIn g a.goals
 within_left a l kept h g is = goal_left (length l.goals) a.goals g (subst (λ gs. IsIn g gs) h.keeps.goals_are is)
 
-goals_left : (a : PartsKept) (l : Left) (kept : List Triple) → HasTrimmed a l kept → IsSound a → AreGoalsKnown a.table a.letters l.goals
+goals_left : (a : PartsKept) (l : Left) (kept : List Triple) → HasTrimmed a l kept → IsToSettle a → AreGoalsKnown a.table a.letters l.goals
 goals_left a l kept h sound g is = sound.goals_known g (within_left a l kept h g is)
 
-supports_left : (a : PartsKept) (l : Left) (kept : List Triple) → HasTrimmed a l kept → IsSound a
+supports_left : (a : PartsKept) (l : Left) (kept : List Triple) → HasTrimmed a l kept → IsToSettle a
     → KnowsSupports a.table (supports_held (held_by l.goals l.depends l.prefs l.inputs l.live))
 supports_left a l kept h sound = record {
   rows_known = rows_left a.table a.prefs.rows l.prefs.rows h.keeps.rows_are sound.rows_known;
   inputs_known = triples_left a.table a.inputs l.inputs h.keeps.inputs_are sound.inputs_known;
 }
 
-pub kept_sound : (a : PartsKept) (l : Left) (kept : List Triple) → HasTrimmed a l kept → IsSound a → AreTriplesKnown a.table kept
+pub kept_sound : (a : PartsKept) (l : Left) (kept : List Triple) → HasTrimmed a l kept → IsToSettle a → AreTriplesKnown a.table kept
 kept_sound a l kept h sound =
     subst (AreTriplesKnown a.table) (sym h.kept_is)
     (kept_known a.table a.letters l.goals (supports_held (held_by l.goals l.depends l.prefs l.inputs l.live)) sound.first_words (goals_left a l kept h sound) (supports_left a l kept h sound))
 
-pub left_sound : (a : PartsKept) (l : Left) (kept : List Triple) (memory : WorkingMemory) → HasTrimmed a l kept → IsSound a
+pub left_sound : (a : PartsKept) (l : Left) (kept : List Triple) (memory : WorkingMemory) → HasTrimmed a l kept → IsToSettle a
     → memory ≡ record a.memory { elements = elements_left a l kept; last = last_of (elements_left a l kept) a.memory } → IsKeptUp l.prefs l.inputs l.changed l.kept memory.elements
-    → IsSound (with_left a l memory)
-left_sound a l kept memory h sound memory_is kept_up =
+    → l.kept.ids ≡ goal_ids l.goals → IsSound (with_left a l memory)
+left_sound a l kept memory h sound memory_is kept_up kept_ids =
     let elements = ap (λ (m : WorkingMemory). m.elements) memory_is in
     record {
       goals_some = h.keeps.some;
@@ -229,12 +230,14 @@ left_sound a l kept memory h sound memory_is kept_up =
       live_known = live_left a.table (map live_seen a.live) (map live_seen l.live) h.keeps.live_are sound.live_known;
       live_given = λ x is. sound.live_given x (h.keeps.live_are x is);
       kept_up = kept_up;
+      kept_ids = kept_ids;
       past_named = sound.past_named;
       chains_known = sound.chains_known;
+      chains_kept = sound.chains_kept;
     }
 
 -- what is told is known
-pub tells_known : (a : PartsKept) (l : Left) (kept : List Triple) (removed : List Removed) (memory : WorkingMemory) (changes : Changes) → HasTrimmed a l kept → HasRemoved a l removed → IsSound a
+pub tells_known : (a : PartsKept) (l : Left) (kept : List Triple) (removed : List Removed) (memory : WorkingMemory) (changes : Changes) → HasTrimmed a l kept → HasRemoved a l removed → IsToSettle a
     → Retags a.table l.goals kept a.memory memory (Ok changes) → AreEventsKnown a.table (settled_events (record { removed = removed; changes = changes }))
 tells_known a l kept removed memory changes h gone sound tagged =
     settled_known a.table a.letters (length l.goals) a.goals a.memory.elements (elements_left a l kept) (record { removed = removed; changes = changes }) sound.goals_known sound.elements_known

@@ -22,9 +22,9 @@ use Rattle.wave_parts.specs.Teaching.{is_numbered_among, without_numbers}
 eq_flip : (m n : ℕ) → (m == n) ≡ (n == m)
 eq_flip m n = grind arith
 
-keeps_all : (rules : List RuleOf) → without_numbers [] rules ≡ rules
-keeps_all [] = refl
-keeps_all (rule ∷ rules) = ap (λ (l : List RuleOf). rule ∷ l) (keeps_all rules)
+pub none_gone : (rules : List RuleOf) → without_numbers [] rules ≡ rules
+none_gone [] = refl
+none_gone (rule ∷ rules) = ap (λ (l : List RuleOf). rule ∷ l) (none_gone rules)
 
 first_gone : (number : ℕ) (numbers : List ℕ) (rules : List RuleOf) → without_numbers (number ∷ numbers) rules ≡ without_numbers numbers (without_rule rules number)
 first_gone number numbers [] = refl
@@ -43,7 +43,7 @@ first_gone number numbers (rule ∷ rules) = ap (λ b. cond (not (b || is_number
     by false is = kept (not (is_numbered_among numbers rule)) is
 
 pub each_gone : (numbers : List ℕ) (rules : List RuleOf) → without_each rules numbers ≡ without_numbers numbers rules
-each_gone [] rules = sym (keeps_all rules)
+each_gone [] rules = sym (none_gone rules)
 each_gone (number ∷ numbers) rules = each_gone numbers (without_rule rules number) ∙ sym (first_gone number numbers rules)
 
 -- ---- numbers among rules in order

@@ -13,10 +13,11 @@ use Rattle.program_laws.specs.Knowing.{AreChainsKnown}
 use Rattle.settling_laws.proofs.MemberLemmas.{filter_within}
 use Rattle.soar_settle.specs.Known.{AreRulesKnown}
 use Rattle.wave_learning.specs.Hands.{learned_rule_seen}
-use Rattle.wave_parts.specs.Programs.{chains_of, is_explained_in, is_justified, numbers_where, program_of}
+use Rattle.wave_parts.specs.Programs.{AreExplained, chains_of, is_explained_in, is_justified, numbers_where, program_of}
 use Rattle.wave_parts.specs.Seen.{AreUpTo, IsSound}
 use Rattle.wave_parts.specs.Teaching.{is_numbered_among, numbers_among, without_numbers}
 use Rattle.wave_parts.specs.declared.parts.Parts.{Parts as PartsKept}
+use Rattle.wave_parts.proofs.ExplainedLemmas.{left_explained}
 
 -- ---- rules that pass
 
@@ -189,8 +190,10 @@ sound_left old new numbers s left =
       live_known = s.live_known;
       live_given = s.live_given;
       kept_up = s.kept_up;
+      kept_ids = s.kept_ids;
       past_named = s.past_named;
       chains_known =
           subst (AreChainsKnown old.table) (sym left.chains_are)
           (λ l is. s.chains_known l (filter_within (is_explained_in (map rule_seen new.rules)) (map learned_rule_seen old.chains) l is));
+      chains_kept = subst (AreExplained (map rule_seen new.rules)) (sym left.chains_are) (left_explained (map rule_seen new.rules) (map learned_rule_seen old.chains));
     })

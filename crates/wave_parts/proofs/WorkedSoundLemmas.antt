@@ -39,10 +39,12 @@ use Rattle.wave_entries.specs.Entries.{entry_seen}
 use Rattle.wave_entries.specs.declared.entry.Entry.{Entry as EntryKept}
 use Rattle.wave_firings.specs.Listed.{events_in, rows_in}
 use Rattle.wave_firings.proofs.FiringKnown.{are_known_grown, are_rows_grown, known_grown}
+use Rattle.wave_parts.specs.Programs.{AreExplained}
 use Rattle.wave_parts.specs.Seen.{AreLiveGiven, AreLiveKnown, AreUpTo, IsSound, agent_of}
 use Rattle.wave_parts.specs.WaveParts.{ended_in, fired_in}
 use Rattle.wave_parts.specs.Working.{AreFit, HaveJoined, HoldsWave, IsWorkedFrom, IsWorkedOut}
 use Rattle.wave_parts.specs.declared.parts.Parts.{Parts as PartsKept}
+use Rattle.wave_parts.proofs.ExplainedLemmas.{join_explained}
 use Rattle.wave_parts.proofs.FiredWaveLemmas.{program_stays}
 use Rattle.wave_parts.proofs.FitLemmas.{live_named, live_rules_given, rows_in_range, rows_known, rows_of_firings}
 use Rattle.wave_parts.proofs.GivenLemmas.{IsGivenWave, learning_given, number_up_to}
@@ -257,10 +259,15 @@ module _ (laws : WaveLaws) (old new : PartsKept) (history : List RecordedFiring)
         live_known = live_grown old.table new.table (map live_seen old.live) grown sound.live_known;
         live_given = λ l is. omega (arith, more, sound.live_given l is);
         kept_up = sound.kept_up;
+        kept_ids = sound.kept_ids;
         past_named = named_grown old.table new.table (recorded old.past) grown sound.past_named;
         chains_known =
             subst (AreChainsKnown new.table) (sym (ap (λ (p : Program). p.chains) h.holds.program_is))
             (subst (λ ws. AreChainsKnown ws v.program.chains) (sym h.holds.words_are) known_end.chains);
+        chains_kept =
+            subst (λ (p : Program). AreExplained p.rules p.chains) (sym h.holds.program_is)
+            (join_explained (fired_in (agent_of old history) w).program v.program.rules v.program.chains taught.rules taught.chains taught.rules_are taught.chains_are taught.of_rules
+            (subst (λ (p : Program). AreExplained p.rules p.chains) (sym (program_stays (before_wave (agent_of old history)) (first_wave (agent_of old history)) w.fired)) sound.chains_kept));
       })
 
   pub worked_out : IsWorkedOut old new (map entry_seen entries)

@@ -2,11 +2,13 @@
 use Rattle.std.specs.Prelude.{◌≡◌, ℕ, suc, ◌≤◌, Bool, List, [], ◌∷◌, map, length, Option, Some, None}
 use Rattle.soar_sym.specs.Letters.{last_of}
 use Rattle.soar_sym.specs.Words.{Texts, IsKnown}
+use Rattle.soar_sym.specs.declared.symbol.Sym.{Sym}
 use Rattle.defs_match.specs.Rules.{RuleOf, rule_seen}
 use Rattle.defs_soar.specs.declared.goal.Goal.{Goal}
 use Rattle.defs_soar.specs.declared.goal.Item.{Item}
 use Rattle.defs_soar.specs.declared.goal.Selection.{Selection}
 use Rattle.defs_soar.specs.Agents.{Agent, LiveFiring}
+use Rattle.defs_soar.specs.Goals.{goal_ids}
 use Rattle.defs_soar.specs.History.{RecordedFiring}
 use Rattle.defs_soar.specs.Laws.{IsIn}
 use Rattle.defs_soar.specs.Limits.{first_passed}
@@ -25,6 +27,7 @@ use Rattle.pending_work.specs.Firables.{AreNumbered}
 use Rattle.wave_firings.specs.Numbered.{AreOfFirings, AreMakersOfFirings, AreRecordedUpTo}
 use Rattle.wave_learning.specs.Hands.{learned_rule_seen}
 use Rattle.wave_parts.specs.KeptUp.{IsKeptUp}
+use Rattle.wave_parts.specs.Programs.{AreExplained}
 use Rattle.wave_parts.specs.Settings.{settings_seen}
 use Rattle.wave_parts.specs.Stands.{Stands, counts_of, queues_of}
 use Rattle.wave_parts.specs.declared.parts.Parts.{Parts as PartsKept}
@@ -80,8 +83,8 @@ AreLiveGiven last live = (l : LiveFiring) → IsIn l live → l.instance.rule �
 
 -- goals that the letters gave, the limits, rules in order of number, rows as decisions ask them, firings numbered up to the last, each of which used what earlier ones
 -- made, live firings of rules that were given, words that the table has, those of the architecture, of firings and of explanations among them, and what is kept of
--- the state that was settled last
-pub record IsSound (a : PartsKept) : Type 0 where
+-- the state that was settled last, which had the goals of these identifiers
+pub record IsSoundFor (ids : List Sym) (a : PartsKept) : Type 0 where
   pub goals_some : 1 ≤ length a.goals
   pub goals_few : length a.goals ≤ 100
   pub goals_known : AreGoalsKnown a.table a.letters a.goals
@@ -108,7 +111,17 @@ pub record IsSound (a : PartsKept) : Type 0 where
   pub live_given : AreLiveGiven a.last_rule (map live_seen a.live)
   pub past_named : AreNamed a.table (recorded a.past)
   pub chains_known : AreChainsKnown a.table (map learned_rule_seen a.chains)
+  pub chains_kept : AreExplained (map rule_seen a.rules) (map learned_rule_seen a.chains)
   pub kept_up : IsKeptUp a.prefs a.inputs a.changed a.kept a.memory.elements
+  pub kept_ids : a.kept.ids ≡ ids
+
+-- where it had the goals that there are
+abbrev pub IsSound : PartsKept → Type 0
+IsSound a = IsSoundFor (goal_ids a.goals) a
+
+-- where goals may have come and gone since
+abbrev pub IsToSettle : PartsKept → Type 0
+IsToSettle a = IsSoundFor a.kept.ids a
 
 -- ---- a step
 

@@ -1,7 +1,10 @@
 // Carrying out the work of a wave.
-ghost use Rattle.std.specs.Prelude.{◌≡◌, ◌||◌, map, IfOk};
+ghost use Rattle.std.specs.Prelude.{◌≡◌, ◌++◌, ◌||◌, drop, map, IfOk};
+ghost use Rattle.agent_laws.specs.Dependence.{MakersAreEarlier};
 ghost use Rattle.defs_match.specs.Rules.{rule_seen};
+ghost use Rattle.goal_dependence.specs.Remembered.{firings_of, past_by, reach_over, tags_found_from, CanJoin};
 ghost use Rattle.matching_laws.specs.Telling.{IsTold};
+ghost use Rattle.soar_record.specs.Recorded.{recorded as kept_in};
 ghost use Rattle.soar_settle.specs.Known.{AreInstancesKnown};
 ghost use Rattle.wave_parts.specs.Carrying.{CarriesOut, IsPendingIn};
 ghost use Rattle.wave_parts.specs.Lawful.{IsOfLawful};
@@ -15,12 +18,14 @@ ghost use Rattle.wave_parts.specs.Seen.{AreLiveKnown, IsSound};
 use crate::changing::WaveChange;
 use crate::parts::Parts;
 use agent_laws::dependencies_grow;
-use goal_dependence::remember;
+use defs_soar::Preference;
+use firing_records::Recorded;
+use goal_dependence::{remember, tags_found};
 use learning_laws::agents_stay_lawful;
 use pending_work::Work;
 use session_laws::sessions_keep;
 use soar_settle::Stop;
-use soar_sym::List;
+use soar_sym::{List, NoMemory};
 use std::alloc::Global;
 use step_report::Report;
 
@@ -61,18 +66,10 @@ impl Parts {
             added,
             spent,
             halted,
-            levels,
         } = change;
+        let tags = self.tags_found(alloc, &recorded, &added)?;
         let settled = self.resettle(alloc)?;
-        remember(
-            alloc,
-            &levels,
-            self.goals.list().as_slice(),
-            &mut self.depends,
-            &mut self.past,
-            recorded,
-            added.as_slice(),
-        )?;
+        remember(alloc, &mut self.depends, &mut self.past, recorded, &tags)?;
         self.halted = either(self.halted, halted);
         let Work {
             retracted,
@@ -88,6 +85,29 @@ impl Parts {
             spent,
             halted,
         })
+    }
+
+    /// The tags that these firings and rows of a wave add to what each goal below the top depends on. The levels are those
+    /// that are kept, so it is asked before all settles.
+    fn tags_found(
+        &self,
+        alloc: Global,
+        recorded: &List<Recorded>,
+        added: &List<Preference>,
+    ) -> Result<List<List<u32>>, NoMemory>
+        requires sound { IsSound self.now }
+        requires new { CanJoin (kept_in self.now.past) (firings_of recorded.now) }
+        requires earlier { MakersAreEarlier (kept_in self.now.past ++ firings_of recorded.now) }
+        ensures { IfOk result (λ tags. tags ≡ tags_found_from (kept_in self.now.past ++ firings_of recorded.now) (map (past_by (reach_over self.now.goals self.now.memory.elements) added.now) recorded.now) 2 (drop 1 self.now.goals)) }
+    {
+        tags_found(
+            alloc,
+            &self.kept,
+            self.goals.list().as_slice(),
+            &self.past,
+            recorded.as_slice(),
+            added.as_slice(),
+        )
     }
 }
 

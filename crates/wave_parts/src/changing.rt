@@ -1,9 +1,7 @@
 // A wave before all is settled.
-ghost use Rattle.std.specs.Prelude.{◌≡◌, map, IfOk};
-ghost use Rattle.soar_wm.specs.WorkingMemory.{triple_of};
+ghost use Rattle.std.specs.Prelude.{◌≡◌, map};
 ghost use Rattle.defs_match.specs.Rules.{rule_seen};
 ghost use Rattle.pending_work.specs.Firables.{AreBound};
-ghost use Rattle.soar_levels.specs.Told.{TellsLevels};
 ghost use Rattle.soar_settle.specs.Known.{AreInstancesKnown};
 ghost use Rattle.wave_parts.specs.Carrying.{IsPendingIn};
 ghost use Rattle.wave_parts.specs.Changing.{Changes};
@@ -17,14 +15,13 @@ use crate::working::WaveWorked;
 use defs_soar::Preference;
 use firing_records::Recorded;
 use pending_work::Work;
-use soar_levels::Levels;
 use soar_settle::Stop;
 use soar_sym::List;
 use std::alloc::Global;
 use wave_entries::{Told, WaveMade, made_of};
 
 /// What a wave did: its firings as they are recorded and told, the rows that it added, the numbers of the justifications
-/// that went, whether a firing halts, and the levels before it.
+/// that went, and whether a firing halts.
 #[derive(Drop)]
 pub struct WaveChange {
     pub recorded: List<Recorded>,
@@ -32,7 +29,6 @@ pub struct WaveChange {
     pub added: List<Preference>,
     pub spent: List<u64>,
     pub halted: bool,
-    pub levels: Levels,
 }
 
 impl Parts {
@@ -44,17 +40,12 @@ impl Parts {
         requires bound { AreBound (map rule_seen self.old.rules) work.now.fired }
         requires known { AreInstancesKnown self.old.table work.now.fired }
         ensures answer { Changes self.old self.new work.now result }
-        ensures levels { IfOk result (λ change. TellsLevels change.levels self.old.goals (map triple_of self.old.memory.elements)) }
         ensures settings { self.new.settings ≡ self.old.settings }
     {
         let waves = count_more(self.waves, 1)?;
         let retractions = count_more(self.retractions, work.retracted.len() as u64)?;
         let worked = self.work_out(alloc, work)?;
-        let WaveWorked {
-            entries,
-            halted,
-            levels,
-        } = worked;
+        let WaveWorked { entries, halted } = worked;
         let made = made_of(alloc, entries)?;
         let WaveMade {
             rows,
@@ -72,7 +63,6 @@ impl Parts {
             added,
             spent,
             halted,
-            levels,
         })
     }
 }

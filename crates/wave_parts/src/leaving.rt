@@ -40,7 +40,7 @@ impl Parts {
         let gone = numbers.as_slice();
         let spent = self.drop_spent(alloc, retracted)?;
         let added = renew(alloc, &mut self.prefs, gone, rows)?;
-        renew_live(&mut self.live, gone, live)?;
+        renew_live(alloc, &mut self.live, gone, live)?;
         Ok(WaveLeft { added, spent })
     }
 }

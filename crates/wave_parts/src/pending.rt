@@ -4,27 +4,23 @@ ghost use Rattle.defs_match.specs.Conflict.{conflict};
 ghost use Rattle.defs_soar.specs.Pending.{is_none};
 ghost use Rattle.live_firings.specs.Living.{live_seen};
 ghost use Rattle.pending_work.specs.Firables.{AreBound, IsPending};
+ghost use Rattle.pending_work.specs.Open.{IsOpen};
 ghost use Rattle.pending_work.specs.Working.{is_nothing};
 ghost use Rattle.soar_settle.specs.Known.{AreInstancesKnown};
 ghost use Rattle.wave_parts.specs.Seen.{AreLiveKnown, IsSound, pending_of};
 
 use crate::parts::Parts;
-use defs_match::Instance;
+use outstanding::Open;
 use pending_work::{Work, pending};
-use soar_sym::{List, NoMemory};
+use soar_sym::NoMemory;
 use std::alloc::Global;
 
 impl Parts {
-    /// The work of the active level, which is the least that has any, where these are the instances of the conflict
+    /// The work of the active level, which is the least that has any, where this is what is outstanding in the conflict
     /// set (Soar manual, chapter 2, elaboration cycle). `proposing` leaves out the instances of operator kind.
-    pub fn pending(
-        &self,
-        alloc: Global,
-        proposing: bool,
-        instances: List<Instance>,
-    ) -> Result<Work, NoMemory>
+    pub fn pending(&self, alloc: Global, proposing: bool, left: Open) -> Result<Work, NoMemory>
         requires sound { IsSound self.now }
-        requires conflict { instances ≡ conflict (map rule_seen self.now.rules) self.now.memory.elements }
+        requires left { IsOpen (conflict (map rule_seen self.now.rules) self.now.memory.elements) self.now.live left }
         ensures work { IfOk result (λ work. IsPending (map rule_seen self.now.rules) self.now.memory.elements work (pending_of proposing self.now)) }
         ensures none { IfOk result (λ work. is_nothing work ≡ is_none (pending_of proposing self.now)) }
         // What carrying it out asks.
@@ -38,8 +34,7 @@ impl Parts {
             &self.rules,
             &self.memory,
             self.goals.list(),
-            &self.live,
-            instances,
+            left,
         )
     }
 }

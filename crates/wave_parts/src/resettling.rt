@@ -1,11 +1,11 @@
-ghost use Rattle.std.specs.Prelude.{◌≡◌, suc, drop, length, map, IfOk};
+ghost use Rattle.std.specs.Prelude.{◌≡◌, suc, drop, take, length, map, IfOk, OnOk};
 ghost use Rattle.defs_soar.specs.Agents.{Agent as AgentOf};
 ghost use Rattle.defs_soar.specs.Trimming.{at_depths};
 ghost use Rattle.matching_laws.specs.Telling.{IsTold};
 ghost use Rattle.step_report.specs.Reports.{removed_seen, settled_events};
 ghost use Rattle.trace_laws.specs.Events.{AreEventsKnown};
 ghost use Rattle.wave_parts.specs.Resettles.{IsLeft, Resettles};
-ghost use Rattle.wave_parts.specs.Seen.{IsSound};
+ghost use Rattle.wave_parts.specs.Seen.{IsSound, IsToSettle};
 ghost use Rattle.wave_parts.specs.Stands.{Stands};
 
 use crate::parts::Parts;
@@ -25,8 +25,9 @@ impl Parts {
     /// it. Gives the goals that went, and what went from there and what came (Soar manual, chapter 2, support, goal
     /// dependency sets). Looks only at what changed since all was settled.
     pub fn resettle(&mut self, alloc: Global) -> Result<Settled, Stop>
-        requires sound { IsSound self.old }
+        requires sound { IsToSettle self.old }
         ensures resettled { (s : AgentOf) → Stands self.old s → Resettles self.new s result }
+        ensures first { OnOk result (self.new.goals ≡ take (length self.new.goals) self.old.goals) }
         ensures removed { IfOk result (λ settled. map removed_seen settled.removed ≡ at_depths (suc (length self.new.goals)) (drop (length self.new.goals) self.old.goals)) }
         ensures told { IfOk result (λ settled. IsTold self.old.memory.elements self.new.memory.elements settled.changes) }
         ensures known { IfOk result (λ settled. AreEventsKnown self.new.table (settled_events settled)) }

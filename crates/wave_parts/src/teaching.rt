@@ -6,7 +6,7 @@ ghost use Rattle.defs_soar.specs.Start.{without_justifications};
 ghost use Rattle.defs_soar.specs.Waves.{is_spent, without_spent};
 ghost use Rattle.live_firings.specs.Living.{live_seen};
 ghost use Rattle.wave_learning.specs.Hands.{learned_rule_seen};
-ghost use Rattle.wave_parts.specs.Programs.{chains_of, is_explained_in, is_justified, numbers_where, program_of};
+ghost use Rattle.wave_parts.specs.Programs.{AreExplained, chains_of, is_explained_in, is_justified, numbers_where, program_of};
 ghost use Rattle.wave_parts.specs.Seen.{IsSound};
 ghost use Rattle.wave_parts.specs.Spent.{is_justified_at, with_each_justified, with_justified};
 ghost use Rattle.wave_parts.specs.Teaching.{numbers_among, without_numbers};
@@ -50,12 +50,18 @@ impl Parts {
         Ok(numbers)
     }
 
-    /// Takes the rules of these numbers away, and the explanations that have no rule then.
+    /// Takes the rules of these numbers away, and the explanations that have no rule then. Without numbers it looks at
+    /// none.
+    #[tactic(auto, using(crate::proofs::ExplainedLemmas::all_explained))]
     fn drop_numbered(&mut self, numbers: &[u64])
+        requires { AreExplained (map rule_seen self.old.rules) (map learned_rule_seen self.old.chains) }
         ensures rules { map rule_seen self.new.rules ≡ without_numbers numbers.now (map rule_seen self.old.rules) }
         ensures chains { map learned_rule_seen self.new.chains ≡ chains_of (map rule_seen self.new.rules) (map learned_rule_seen self.old.chains) }
         ensures same { self.new ≡ record self.old { rules = self.new.rules; chains = self.new.chains } }
     {
+        if numbers.is_empty() {
+            return;
+        }
         drop_rules(&mut self.rules, numbers);
         drop_chains(&mut self.chains, &self.rules);
     }

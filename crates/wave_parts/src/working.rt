@@ -1,9 +1,7 @@
 // The firings of a wave, and what it learns from them, against what is there before it.
 ghost use Rattle.std.specs.Prelude.{◌≡◌, map, IfOk};
-ghost use Rattle.soar_wm.specs.WorkingMemory.{triple_of};
 ghost use Rattle.defs_match.specs.Rules.{rule_seen};
 ghost use Rattle.pending_work.specs.Firables.{AreBound};
-ghost use Rattle.soar_levels.specs.Told.{TellsLevels};
 ghost use Rattle.soar_settle.specs.Known.{AreInstancesKnown};
 ghost use Rattle.wave_entries.specs.Entries.{entry_seen};
 ghost use Rattle.wave_parts.specs.Carrying.{IsPendingIn};
@@ -19,7 +17,6 @@ use learning_laws::agents_stay_lawful;
 use pending_work::Work;
 use program_laws::{learned_rules_match, learning_is_known, rules_join};
 use rule_shelf::Rules;
-use soar_levels::Levels;
 use soar_settle::Stop;
 use soar_sym::List;
 use std::alloc::Global;
@@ -28,12 +25,11 @@ use wave_entries::Entry;
 use wave_firings::{Fired, fire_all};
 use wave_learning::{AtHand, LearnedRule, Program, learn};
 
-/// What a wave came to: its entries, whether a firing halts, and the levels before it.
+/// What a wave came to: its entries, and whether a firing halts.
 #[derive(Drop)]
 pub struct WaveWorked {
     pub entries: List<Entry>,
     pub halted: bool,
-    pub levels: Levels,
 }
 
 impl Parts {
@@ -47,7 +43,6 @@ impl Parts {
         requires known { AreInstancesKnown self.old.table work.now.fired }
         ensures answer { WorksOut self.old self.new work.now result }
         ensures from { IsWorkedFrom self.old self.new }
-        ensures levels { IfOk result (λ worked. TellsLevels worked.levels self.old.goals (map triple_of self.old.memory.elements)) }
         ensures worked { IfOk result (λ worked. IsWorkedOut self.old self.new (map entry_seen worked.entries)) }
     {
         agents_stay_lawful();
@@ -64,7 +59,13 @@ impl Parts {
             self.chunks,
             self.justifications,
         );
-        let before = Before::new(alloc, self.goals.list(), &self.prefs, &self.memory)?;
+        let before = Before::new(
+            alloc,
+            self.goals.list(),
+            &self.prefs,
+            &self.memory,
+            &self.kept,
+        )?;
         let fired = fire_all(
             alloc,
             &mut self.table,
@@ -89,7 +90,6 @@ impl Parts {
                 entries,
             },
         )?;
-        let levels = before.into_levels();
         let AtHand {
             program,
             last,
@@ -110,11 +110,7 @@ impl Parts {
         self.justifications = justifications;
         self.firings = last;
         self.learned = learned;
-        Ok(WaveWorked {
-            entries,
-            halted,
-            levels,
-        })
+        Ok(WaveWorked { entries, halted })
     }
 }
 

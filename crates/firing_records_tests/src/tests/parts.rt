@@ -9,9 +9,7 @@ use defs_match::{Instance, Rule};
 use defs_soar::{Goal, Impasse, Item, PrefKind, Preference, Selection, Wish};
 use soar_prefs::Prefs;
 use soar_rule::{Action, Atom, Kind, Pref, Production, Support, Value};
-use soar_sym::architecture::{ITEM, OPERATOR, SUPERSTATE};
 use soar_sym::{List, NoMemory, Sym, Triple};
-use soar_wm::Memory;
 use std::alloc::Global;
 
 pub const COLOR: Sym = Sym::Word(24);
@@ -79,30 +77,21 @@ fn below(alloc: Global) -> Result<Goal, NoMemory>
     })
 }
 
-/// What stands in working memory, with tags from 1.
-const TRIPLES: [(Sym, Sym, Sym); 5] = [
-    (S1, COLOR, Sym::Int(1)),
-    (S2, SUPERSTATE, S1),
-    (S2, ITEM, O1),
-    (S2, OPERATOR, O2),
-    (S2, COLOR, Sym::Int(1)),
+/// What stands in working memory behind the elements of the goals themselves, which have the tags 1 to 16.
+pub const OTHERS: [Triple; 2] = [
+    Triple {
+        id: S1,
+        attr: COLOR,
+        value: Sym::Int(1),
+        accept: false,
+    },
+    Triple {
+        id: S2,
+        attr: COLOR,
+        value: Sym::Int(1),
+        accept: false,
+    },
 ];
-
-pub fn memory(alloc: Global) -> Result<Memory, NoMemory> {
-    let mut memory = Memory::new(alloc, 100, 0)?;
-    for (id, attr, value) in &TRIPLES {
-        let triple = Triple {
-            id: *id,
-            attr: *attr,
-            value: *value,
-            accept: false,
-        };
-        if memory.add(triple, false).is_err() {
-            return Err(NoMemory);
-        }
-    }
-    Ok(memory)
-}
 
 /// The firings of rows for colours of S2. Those of 1 and 2 make another colour, or make none.
 const ROWS: [(u64, i64, PrefKind); 4] = [

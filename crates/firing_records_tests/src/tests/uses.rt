@@ -1,6 +1,7 @@
 ghost use Rattle.std.specs.Prelude.{◌≤◌, length};
 
-use super::parts::{COLOR, O1, O2, S1, S2, S3, goals, instance, memory, prefs, rule};
+use super::parts::{COLOR, O1, O2, OTHERS, S1, S2, S3, goals, instance, prefs, rule};
+use super::world::make_world;
 use defs_soar::{How, Used};
 use firing_records::{Before, Recorded, goals_of, recorded};
 use soar_sym::architecture::{ITEM, OPERATOR, SUPERSTATE};
@@ -52,53 +53,53 @@ fn record_of(before: &Before<'_>, tags: &[u32]) -> Result<Recorded, NoMemory>
 fn uses(alloc: Global, tags: &[u32], expected: &[Used]) -> Result<bool, NoMemory> {
     let goals = goals(alloc)?;
     let prefs = prefs(alloc)?;
-    let memory = memory(alloc)?;
-    let before = Before::new(alloc, &goals, &prefs, &memory)?;
+    let world = make_world(alloc, &goals, &OTHERS)?;
+    let before = Before::new(alloc, &goals, &prefs, &world.memory, &world.kept)?;
     let record = record_of(&before, tags)?;
     Ok(record.firing.used.as_slice() == expected)
 }
 
 #[test]
 fn of_a_firing_of_the_top_goal_all_is_upper(rt: HostRuntime) -> Result<(), Fail> {
-    let upper = [used(1, S1, COLOR, Sym::Int(1), How::Upper)];
-    assert!(rt; uses(rt.alloc(), &[1], &upper)?);
+    let upper = [used(17, S1, COLOR, Sym::Int(1), How::Upper)];
+    assert!(rt; uses(rt.alloc(), &[17], &upper)?);
     Ok(())
 }
 
 #[test]
 fn below_it_the_older_firing_is_the_maker(rt: HostRuntime) -> Result<(), Fail> {
     let both = [
-        used(1, S1, COLOR, Sym::Int(1), How::Upper),
-        used(5, S2, COLOR, Sym::Int(1), How::Made(4)),
+        used(17, S1, COLOR, Sym::Int(1), How::Upper),
+        used(18, S2, COLOR, Sym::Int(1), How::Made(4)),
     ];
-    assert!(rt; uses(rt.alloc(), &[1, 5], &both)?);
+    assert!(rt; uses(rt.alloc(), &[17, 18], &both)?);
     Ok(())
 }
 
 #[test]
 fn the_superstate_is_of_the_architecture(rt: HostRuntime) -> Result<(), Fail> {
-    let own = [used(2, S2, SUPERSTATE, S1, How::Architecture)];
-    assert!(rt; uses(rt.alloc(), &[2], &own)?);
+    let own = [used(7, S2, SUPERSTATE, S1, How::Architecture)];
+    assert!(rt; uses(rt.alloc(), &[7], &own)?);
     Ok(())
 }
 
 #[test]
 fn an_item_names_the_marked_element_of_the_superstate(rt: HostRuntime) -> Result<(), Fail> {
     let item = [
-        used(3, S2, ITEM, O1, How::Item(9)),
+        used(12, S2, ITEM, O1, How::Item(9)),
         marked(9, S1, O1, How::Upper),
     ];
-    assert!(rt; uses(rt.alloc(), &[3], &item)?);
+    assert!(rt; uses(rt.alloc(), &[12], &item)?);
     Ok(())
 }
 
 #[test]
 fn a_selected_operator_is_made_by_the_maker_of_its_selection(rt: HostRuntime) -> Result<(), Fail> {
     let selected = [
-        used(4, S2, OPERATOR, O2, How::Selected(8)),
+        used(16, S2, OPERATOR, O2, How::Selected(8)),
         marked(8, S2, O2, How::Made(6)),
     ];
-    assert!(rt; uses(rt.alloc(), &[4], &selected)?);
+    assert!(rt; uses(rt.alloc(), &[16], &selected)?);
     Ok(())
 }
 

@@ -8,7 +8,9 @@ ghost use Rattle.goal_dependence.specs.Remembered.{firings_of, CanJoin};
 use defs_match::{Instance, Rule};
 use defs_soar::{Firing, Goal, How, Impasse, PrefKind, Preference, Used, Wish};
 use firing_records::Recorded;
-use soar_levels::Levels;
+use input_memory::Inputs;
+use kept_triples::{Kept, Own};
+use soar_prefs::Prefs;
 use soar_rule::{Kind, Production, Support};
 use soar_sym::{List, NoMemory, Sym, Triple};
 use soar_wm::Element;
@@ -72,12 +74,34 @@ const fn colored(id: Sym, value: Sym) -> Triple {
     }
 }
 
-/// The levels where S1 has H1 and S2 has L1.
-pub fn levels(alloc: Global, goals: &List<Goal>) -> Result<Levels, NoMemory> {
-    let triples = List::from_slice(alloc, &[colored(S1, H1), colored(S2, L1)])?;
-    let mut levels = Levels::new(alloc)?;
-    levels.refresh(&triples, goals)?;
-    Ok(levels)
+/// What is kept where S1 has H1 and S2 has L1.
+pub fn kept(alloc: Global, goals: &List<Goal>) -> Result<Kept, NoMemory> {
+    let objects = [colored(S1, H1), colored(S2, L1)];
+    let prefs = Prefs::new(alloc, 0)?;
+    let inputs = inputs_of(alloc, &objects)?;
+    let mut kept = Kept::new(alloc)?;
+    let own = Own::new(alloc, goals.as_slice())?;
+    let mut changed = List::from_slice(alloc, own.triples())?;
+    changed.extend_from_slice(&objects)?;
+    kept.set_own(own);
+    let mut touched = List::new(alloc);
+    kept.reconsider(
+        alloc,
+        goals.as_slice(),
+        &prefs,
+        &inputs,
+        changed.as_slice(),
+        &mut touched,
+    )?;
+    Ok(kept)
+}
+
+fn inputs_of(alloc: Global, triples: &[Triple]) -> Result<Inputs, NoMemory> {
+    let mut inputs = Inputs::new(alloc);
+    for triple in triples {
+        inputs.add(*triple)?;
+    }
+    Ok(inputs)
 }
 
 /// How an element of a tag was used.

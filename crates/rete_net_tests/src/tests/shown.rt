@@ -1,7 +1,9 @@
 // Instances as text.
 use defs_match::Instance;
+use match_changes::MatchKey;
 use soar_sym::{List, NoMemory, Sym};
 use std::alloc::Global;
+use std::collections::BTreeMap;
 
 /// Each instance by its rule, its tags and what its variables stand for, as `1 6 7:S12;`, and a bar behind all of them.
 pub fn add_instances(
@@ -13,6 +15,22 @@ pub fn add_instances(
         add_instance(alloc, instance, out)?;
     }
     Ok(out.push('|')?)
+}
+
+/// Whether these are the instances of a map.
+pub fn same_instances(
+    alloc: Global,
+    set: &BTreeMap<MatchKey, Instance>,
+    instances: &List<Instance>,
+) -> Result<bool, NoMemory> {
+    let mut wanted = String::new(alloc);
+    add_instances(alloc, instances, &mut wanted)?;
+    let mut held = String::new(alloc);
+    for instance in set.values() {
+        add_instance(alloc, instance, &mut held)?;
+    }
+    held.push('|')?;
+    Ok(held.as_str() == wanted.as_str())
 }
 
 fn add_instance(alloc: Global, instance: &Instance, out: &mut String) -> Result<(), NoMemory> {

@@ -3,19 +3,20 @@ ghost use Rattle.soar_cycle.specs.Agents.{IsSoundAgent};
 
 use super::parts::{NAME, input};
 use match_direct::Direct;
+use outstanding::Compared;
 use soar_cycle::{Agent, Phase, Stop};
 use soar_sym::Text;
 use std::alloc::Global;
 
 /// Whether a rule goes, all but the settings is as at the start then, and level 4 tells of an input and of a phase.
-pub fn starts_anew(alloc: Global, agent: &mut Agent<Direct>) -> Result<bool, Stop>
+pub fn starts_anew(alloc: Global, agent: &mut Agent<Compared<Direct>>) -> Result<bool, Stop>
     requires { IsSoundAgent agent.old }
 {
     watch(agent, 4);
     Ok(excises(agent)? && forgets(agent)? && tells(alloc, agent)?)
 }
 
-fn watch(agent: &mut Agent<Direct>, level: u8)
+fn watch(agent: &mut Agent<Compared<Direct>>, level: u8)
     requires { IsSoundAgent agent.old }
     ensures { IsSoundAgent agent.new }
 {
@@ -25,7 +26,7 @@ fn watch(agent: &mut Agent<Direct>, level: u8)
 }
 
 /// Whether the rule that fired is no longer there, and its firing still counts.
-fn excises(agent: &mut Agent<Direct>) -> Result<bool, Stop>
+fn excises(agent: &mut Agent<Compared<Direct>>) -> Result<bool, Stop>
     requires { IsSoundAgent agent.old }
     ensures { IsSoundAgent agent.new }
 {
@@ -37,7 +38,7 @@ fn excises(agent: &mut Agent<Direct>) -> Result<bool, Stop>
 }
 
 /// Whether five elements are left, and no firing.
-fn forgets(agent: &mut Agent<Direct>) -> Result<bool, Stop>
+fn forgets(agent: &mut Agent<Compared<Direct>>) -> Result<bool, Stop>
     requires { IsSoundAgent agent.old }
     ensures { IsSoundAgent agent.new }
 {
@@ -48,7 +49,7 @@ fn forgets(agent: &mut Agent<Direct>) -> Result<bool, Stop>
 }
 
 /// Whether the element that comes is told, and the line that begins a phase.
-fn tells(alloc: Global, agent: &mut Agent<Direct>) -> Result<bool, Stop>
+fn tells(alloc: Global, agent: &mut Agent<Compared<Direct>>) -> Result<bool, Stop>
     requires { IsSoundAgent agent.old }
 {
     let mut out = Text::new(alloc);

@@ -5,26 +5,41 @@ use super::anew::starts_anew;
 use super::parts::{input, production};
 use super::steps::goes_down;
 use match_direct::Direct;
+use outstanding::Compared;
 use soar_cycle::{Agent, Phase, Stop, Waved};
 use soar_sym::{Sym, Text, is_symbol};
 use std::alloc::Global;
 
 /// Whether the calls of a session give what they should, a rule fires, and decisions make substates.
-pub fn takes_calls(alloc: Global, agent: &mut Agent<Direct>) -> Result<bool, Stop>
+pub fn takes_calls(alloc: Global, agent: &mut Agent<Compared<Direct>>) -> Result<bool, Stop>
     requires { IsSoundAgent agent.old }
 {
-    Ok(
-        takes_inputs(alloc, agent)?
-            && loads(alloc, agent)?
-            && fires_once(alloc, agent)?
-            && goes_down(alloc, agent)?
-            && starts_anew(alloc, agent)?,
-    )
+    if !takes_a_rule(alloc, agent)? {
+        return Ok(false);
+    }
+    if !goes_down(alloc, agent)? {
+        return Ok(false);
+    }
+    starts_anew(alloc, agent)
+}
+
+/// Whether inputs and a rule are taken, and the rule fires once.
+fn takes_a_rule(alloc: Global, agent: &mut Agent<Compared<Direct>>) -> Result<bool, Stop>
+    requires { IsSoundAgent agent.old }
+    ensures { IsSoundAgent agent.new }
+{
+    if !takes_inputs(alloc, agent)? {
+        return Ok(false);
+    }
+    if !loads(alloc, agent)? {
+        return Ok(false);
+    }
+    fires_once(alloc, agent)
 }
 
 /// Whether the first identifier of a letter is given, one input is there at once, of which level 1 tells nothing, and
 /// another that is queued is not.
-fn takes_inputs(alloc: Global, agent: &mut Agent<Direct>) -> Result<bool, Stop>
+fn takes_inputs(alloc: Global, agent: &mut Agent<Compared<Direct>>) -> Result<bool, Stop>
     requires { IsSoundAgent agent.old }
     ensures { IsSoundAgent agent.new }
 {
@@ -46,7 +61,7 @@ fn takes_inputs(alloc: Global, agent: &mut Agent<Direct>) -> Result<bool, Stop>
 }
 
 /// Whether a rule that matches the top state has one instance, and no explanation.
-fn loads(alloc: Global, agent: &mut Agent<Direct>) -> Result<bool, Stop>
+fn loads(alloc: Global, agent: &mut Agent<Compared<Direct>>) -> Result<bool, Stop>
     requires { IsSoundAgent agent.old }
     ensures { IsSoundAgent agent.new }
 {
@@ -56,7 +71,7 @@ fn loads(alloc: Global, agent: &mut Agent<Direct>) -> Result<bool, Stop>
 }
 
 /// Whether there is a wave to do, and then none.
-fn fires_once(alloc: Global, agent: &mut Agent<Direct>) -> Result<bool, Stop>
+fn fires_once(alloc: Global, agent: &mut Agent<Compared<Direct>>) -> Result<bool, Stop>
     requires { IsSoundAgent agent.old }
     ensures { IsSoundAgent agent.new }
 {

@@ -8,16 +8,17 @@ ghost use Rattle.wave_parts.specs.Lawful.{IsOfLawful};
 ghost use Rattle.wave_parts.specs.declared.parts.Parts.{Parts as PartsKept};
 
 use match_direct::Direct;
+use outstanding::Compared;
 use soar_cycle::Agent;
 use soar_rule::{Atom, Cond, Field, Kind, Pattern, Production, Support, Test};
 use soar_sym::architecture::{NIL, SUPERSTATE};
 use soar_sym::{List, NoMemory, Sym, Triple};
 use std::alloc::Global;
 
-pub fn new_agent(alloc: Global) -> Result<Agent<Direct>, NoMemory>
+pub fn new_agent(alloc: Global) -> Result<Agent<Compared<Direct>>, NoMemory>
     ensures { IfOk result (λ agent. IsSoundAgent agent) }
 {
-    let matcher = Direct::new(alloc)?;
+    let matcher = Compared::new(Direct::new(alloc)?);
     Agent::new(alloc, matcher, 1)
 }
 

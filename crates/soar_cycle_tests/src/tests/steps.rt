@@ -2,12 +2,13 @@
 ghost use Rattle.soar_cycle.specs.Agents.{IsSoundAgent};
 
 use match_direct::Direct;
+use outstanding::Compared;
 use soar_cycle::{Agent, Ended, Phase, Stop};
 use soar_sym::Text;
 use std::alloc::Global;
 
 /// Whether a decision makes a substate of the top goal, and the cycle after it one of that.
-pub fn goes_down(alloc: Global, agent: &mut Agent<Direct>) -> Result<bool, Stop>
+pub fn goes_down(alloc: Global, agent: &mut Agent<Compared<Direct>>) -> Result<bool, Stop>
     requires { IsSoundAgent agent.old }
     ensures { IsSoundAgent agent.new }
 {
@@ -23,7 +24,7 @@ pub fn goes_down(alloc: Global, agent: &mut Agent<Direct>) -> Result<bool, Stop>
 const SAID: &str = "0:   ==>S: S2 (state no-change)\n1:     ==>S: S3 (state no-change)\n";
 
 /// Whether neither a decision nor a cycle halts the agent.
-fn goes_on(agent: &mut Agent<Direct>, out: &mut Text) -> Result<bool, Stop>
+fn goes_on(agent: &mut Agent<Compared<Direct>>, out: &mut Text) -> Result<bool, Stop>
     requires { IsSoundAgent agent.old }
     ensures { IsSoundAgent agent.new }
 {
@@ -33,7 +34,7 @@ fn goes_on(agent: &mut Agent<Direct>, out: &mut Text) -> Result<bool, Stop>
 }
 
 /// Whether nothing is pending in both phases.
-fn rests(agent: &mut Agent<Direct>, out: &mut Text) -> Result<bool, Stop>
+fn rests(agent: &mut Agent<Compared<Direct>>, out: &mut Text) -> Result<bool, Stop>
     requires { IsSoundAgent agent.old }
     ensures { IsSoundAgent agent.new }
 {

@@ -14,7 +14,6 @@ use defs_soar::{Goal, Impasse};
 use soar_rule::{Action, Atom, Kind, Pref, Production, Support, Value};
 use soar_sym::architecture::{NAME, OPERATOR};
 use soar_sym::{List, NoMemory, Sym, Triple};
-use soar_wm::Memory;
 use std::alloc::Global;
 
 pub const S1: Sym = Sym::Ident {
@@ -48,22 +47,21 @@ fn goal(alloc: Global, id: Sym, impasse: Impasse) -> Goal
     }
 }
 
-/// `(S1 ^name 7)` and `(S2 ^name 7)`, with the tags 1 and 2.
-pub fn memory(alloc: Global) -> Result<Memory, NoMemory> {
-    let mut memory = Memory::new(alloc, 9, 0)?;
-    for id in [S1, S2] {
-        let triple = Triple {
-            id,
-            attr: NAME,
-            value: Sym::Int(7),
-            accept: false,
-        };
-        if memory.add(triple, true).is_err() {
-            return Err(NoMemory);
-        }
-    }
-    Ok(memory)
-}
+/// `(S1 ^name 7)` and `(S2 ^name 7)`, with the tags 12 and 13 behind the elements of the goals themselves.
+pub const OTHERS: [Triple; 2] = [
+    Triple {
+        id: S1,
+        attr: NAME,
+        value: Sym::Int(7),
+        accept: false,
+    },
+    Triple {
+        id: S2,
+        attr: NAME,
+        value: Sym::Int(7),
+        accept: false,
+    },
+];
 
 /// The rule of number 1, which makes `(S1 ^name O1)`, `(S2 ^name O1)` and `(S2 ^operator O1)`, and writes 3.
 pub fn rule(alloc: Global) -> Result<Rule, NoMemory>

@@ -15,7 +15,7 @@ returns c =
     let s = standing c.args.before.now in
     let past = kept_in c.args.past.now in
     let f = firing_seen c.args.firing.now in
-    let told = tells_reach c.args.before.now.levels s c.requires.few c.args.before.now.tells in
+    let told = tells_reach c.args.before.now.levels.now s c.requires.few c.args.before.now.tells in
     let rows : c.in_ok-rows.rows ≡ s.rows = c.in_ok-rows.ensures in
     let found : c.in_ok-found.found ≡ results_of words (reach_of s) s.rows f =
     c.in_ok-found.ensures (reach_of s) refl told ∙ ap (λ (rs : List Preference). results_of words (reach_of s) rs f) rows in

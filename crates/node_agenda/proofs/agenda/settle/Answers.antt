@@ -1,10 +1,10 @@
-use Rattle.std.proofs.Common.{◌≡◌, ◌+◌, ◌<◌, ◌≤◌, ◌-◌, inl, refl, subst, List, [], ◌∷◌, true, false, arith}
+use Rattle.std.proofs.Common.{◌≡◌, ◌+◌, ◌<◌, ◌≤◌, ◌-◌, inl, refl, sym, subst, List, [], ◌∷◌, true, false, arith}
 use Rattle.std.specs.declared.cmp.Ordering.TheVariants.{Less}
 use Rattle.slab.specs.Slab.{get}
 use Rattle.node_agenda.specs.declared.turns.Turn.{Turn}
 use Rattle.node_agenda.specs.Turns.{turn_cmp}
-use Rattle.node_agenda.specs.Agenda.{IsLoop}
-use Rattle.node_agenda.proofs.LoopLemmas.{turn_keyed, turn_early, all_in, loop_on, stands_on, settles_on, settles_first, all_hold, empty_of}
+use Rattle.node_agenda.specs.Agenda.{IsLoop, AreServed}
+use Rattle.node_agenda.proofs.LoopLemmas.{turn_keyed, turn_early, all_in, loop_on, stands_on, settles_on, settles_first, served_on, none_served, all_tell, all_hold, empty_of}
 use Rattle.node_agenda.proofs.agenda.settle.Goals as goal
 
 pub serve-requires : goal.serve-requires
@@ -42,11 +42,20 @@ turns-preserved c =
       loops = loop_on old new rest t c.args.below.now c.args.stamp c.turns.floor c.args.end c.args.index.now c.args.come c.args.goes l above c.in_ok-serve.ensures after c.in_ok-go_on.ensures;
       settles = settles_on old new rest t c.args.below.now c.args.stamp c.turns.floor c.args.end c.args.index.now c.args.come c.args.goes l above c.in_ok-serve.ensures after c.in_ok-go_on.ensures
           (get c.args.nodes.now) c.turns.invariant.settles;
+      served = subst (AreServed new c.args.stamp) (sym c.in_ok-push.ensures.ok)
+          (served_on old new rest t c.args.below.now c.args.stamp c.turns.floor c.args.end c.args.index.now c.args.come c.args.goes l above c.in_ok-serve.ensures after c.in_ok-go_on.ensures c.turns.served c.turns.invariant.served);
       within = omega (arith, past);
       stands = λ w0 w1 first ec same differ.
           stands_on old new rest t c.args.below.now c.args.stamp c.turns.floor c.args.end c.args.index.now c.args.come c.args.goes l above c.in_ok-serve.ensures after c.in_ok-go_on.ensures w0 w1
           (c.turns.invariant.stands w0 w1 first ec same differ) ec same differ;
     }
+
+pub returns-clause-tell : goal.returns-clause-tell
+returns-clause-tell c w0 w1 first ec same differ =
+    let none : c.turns.agenda.keys ≡ [] = empty_of c.turns.agenda.keys (λ lt. (let bad : false ≡ true = c.in_default.ensures.variant.1 lt in cc)) in
+    all_tell (get c.turns.nodes) c.args.below.now c.args.stamp c.turns.floor c.args.end c.args.come c.args.goes
+    (subst (λ (ts : List Turn). IsLoop (get c.turns.nodes) ts c.args.below.now c.args.stamp c.turns.floor c.args.end c.args.come c.args.goes) none c.turns.invariant.loops) w0 w1
+    (c.turns.invariant.stands w0 w1 first ec same differ) ec
 
 pub returns-clause-hold : goal.returns-clause-hold
 returns-clause-hold c w0 w1 first ec same differ =
@@ -56,4 +65,11 @@ returns-clause-hold c w0 w1 first ec same differ =
     (c.turns.invariant.stands w0 w1 first ec same differ) ec
 
 pub turns-init : goal.turns-init
-turns-init c = record { loops = c.requires; settles = settles_first (get c.args.nodes.now) c.args.stamp; within = omega arith; stands = λ w0 w1 first ec same differ. first }
+turns-init c = record {
+  loops = c.requires;
+  settles = settles_first (get c.args.nodes.now) c.args.stamp;
+  served = subst (AreServed (get c.args.nodes.now) c.args.stamp) (sym c.new-served.ensures)
+      (none_served (get c.args.nodes.now) c.args.agenda.now.keys c.args.below.now c.args.stamp c.args.end c.args.come c.args.goes c.requires);
+  within = omega arith;
+  stands = λ w0 w1 first ec same differ. first;
+}

@@ -6,5 +6,5 @@ use Rattle.node_memory.proofs.index.run_of.Given as goal
 
 abbrev pub invariant-run : goal.invariant-run
 invariant-run l =
-    l.out.items ++ values_of (front_while (λ e. key_meets l.id l.attr e.0) l.key-iterator)
-    ≡ values_of (front_while (λ e. key_meets l.id l.attr e.0) (entries_from (least_key l.id l.attr) l.by_key.entries))
+    l.out.items ++ values_of (front_while (λ e. key_meets l.id l.attr l.value e.0) l.key-iterator)
+    ≡ values_of (front_while (λ e. key_meets l.id l.attr l.value e.0) (entries_from (least_key l.id l.attr l.value) l.by_key.entries))

@@ -5,4 +5,4 @@ use Rattle.node_memory.specs.Memories.{key_for}
 use Rattle.node_memory.proofs.indexing.add_rows_keys.Given as goal
 
 abbrev pub invariant-rows : goal.invariant-rows
-invariant-rows l = (k : SymbolKeyOf) → (IsIn k (map (key_for l.variable) (drop l.row-index l.rows)) ⊎ IsIn k l.index) ↔ (IsIn k (map (key_for l.variable) l.rows) ⊎ IsIn k l.initial.index)
+invariant-rows l = (k : SymbolKeyOf) → (IsIn k (map (key_for l.joined) (drop l.row-index l.rows)) ⊎ IsIn k l.index) ↔ (IsIn k (map (key_for l.joined) l.rows) ⊎ IsIn k l.initial.index)

@@ -4,5 +4,5 @@ use Rattle.node_memory.specs.Symbols.{SymbolKeyOf}
 use Rattle.node_memory.specs.Memories.{keys_for}
 use Rattle.node_memory.proofs.memory.add_keys.Given as goal
 
-abbrev pub invariant-joined : goal.invariant-joined
-invariant-joined l = (k : SymbolKeyOf) → (IsIn k (keys_for (drop l.variable-index l.joined) l.row) ⊎ IsIn k l.index) ↔ (IsIn k (keys_for l.joined l.row) ⊎ IsIn k l.initial.index)
+abbrev pub invariant-all : goal.invariant-all
+invariant-all l = (k : SymbolKeyOf) → (IsIn k (keys_for (drop l.joined-index l.all) l.row) ⊎ IsIn k l.index) ↔ (IsIn k (keys_for l.all l.row) ⊎ IsIn k l.initial.index)

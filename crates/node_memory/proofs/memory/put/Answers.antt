@@ -4,6 +4,7 @@ use Rattle.std.specs.Cmp.Lexicographic.{slice_cmp}
 use Rattle.std.specs.BTreeMap.{get}
 use Rattle.defs_match.specs.Laws.{IsIn}
 use Rattle.defs_match.specs.Rows.{Row}
+use Rattle.node_memory.specs.declared.symbols.Joined.{Joined}
 use Rattle.node_memory.specs.Memories.{keys_for}
 use Rattle.node_memory.proofs.MemoryLemmas.{put_has, put_indexed, put_fresh, put_again, alone_fresh}
 use Rattle.node_memory.proofs.memory.put.Goals as goal
@@ -30,4 +31,4 @@ returns-clause-indexed c =
     (ap (λ (t : List ℕ). is_some (get (slice_cmp nat_cmp) c.args.memory.now.rows t)) (sym (c.in_ok-tags.ensures ∙ c.tags.ensures)) ∙ sym c.if-contains_key.ensures))
     (subst (λ (r : Row). (q : List ℕ) → get (slice_cmp nat_cmp) c.insert.new.self q ≡ cond (is_eq (slice_cmp nat_cmp r.tags q)) (Some r.bindings) (get (slice_cmp nat_cmp) c.args.memory.now.rows q)) same c.in_ok-insert.ensures.updates.0)
     (subst (λ (r : Row). get (slice_cmp nat_cmp) c.insert.new.self r.tags ≡ Some r.bindings) same c.in_ok-insert.ensures.updates.1))
-    (λ k. subst (λ (vs : List ℕ). IsIn k c.add_keys.new.index ↔ (IsIn k (keys_for vs c.args.row.now) ⊎ IsIn k c.args.memory.now.index)) c.as_slice.ensures.value (c.in_ok-add_keys.ensures k))
+    (λ k. subst (λ (js : List Joined). IsIn k c.add_keys.new.index ↔ (IsIn k (keys_for js c.args.row.now) ⊎ IsIn k c.args.memory.now.index)) c.as_slice.ensures.value (c.in_ok-add_keys.ensures k))

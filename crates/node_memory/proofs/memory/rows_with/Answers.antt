@@ -5,8 +5,7 @@ use Rattle.std.specs.BTreeMap.{get}
 use Rattle.std.proofs.lemmas.Result.{IfOk-weaker}
 use Rattle.defs_match.specs.Laws.{IsIn}
 use Rattle.defs_match.specs.Rows.{Row}
-use Rattle.defs_match.specs.Testing.{symbol_of}
-use Rattle.node_memory.specs.Memories.{has, row_found}
+use Rattle.node_memory.specs.Memories.{has, symbols_in, row_found}
 use Rattle.node_memory.proofs.MemoryLemmas.{rows_with}
 use Rattle.node_memory.proofs.memory.rows_with.Goals as goal
 
@@ -15,6 +14,6 @@ returns c =
     IfOk-weaker c.rows_at.result _ _
     (λ v same x.
     let found = get (slice_cmp nat_cmp) c.args.memory.now.rows in
-    subst (λ (rs : List Row). IsIn x rs ↔ (has found x × (symbol_of c.args.variable x.bindings ≡ c.args.symbol)))
+    subst (λ (rs : List Row). IsIn x rs ↔ (has found x × (symbols_in c.args.joined x.bindings ≡ c.args.symbols)))
     (sym (same ∙ ap (flat_map (λ t. row_found t (found t))) (c.as_slice.ensures.value ∙ c.in_ok-all.ensures)))
-    (rows_with c.args.memory.now.joined.items found c.args.memory.now.index c.args.variable c.args.symbol c.requires.indexed c.requires.joined x)) c.rows_at.ensures
+    (rows_with c.args.memory.now.joined.items found c.args.memory.now.index c.args.joined c.args.symbols c.requires.indexed c.requires.joined x)) c.rows_at.ensures

@@ -1,6 +1,8 @@
-use Rattle.std.proofs.Common.{◌==◌, ◌∙◌, ◌∷◌, [], ap, inl, refl, sym, subst, List, ℕ}
+use Rattle.std.proofs.Common.{◌∙◌, ◌∷◌, [], ap, inl, refl, sym, subst, List}
 use Rattle.std.specs.List.{list_any}
 use Rattle.defs_match.specs.Laws.{IsIn}
+use Rattle.node_memory.specs.declared.symbols.Joined.{Joined}
+use Rattle.node_memory.specs.Symbols.{joined_eq}
 use Rattle.node_memory.proofs.ChangeLemmas.{in_left, in_right}
 use Rattle.node_table.proofs.MakingLemmas.{any_in, only_first}
 use Rattle.node_table.proofs.readying.index_once.Goals as goal
@@ -10,8 +12,8 @@ returns-then-is_among c = record {
   same = refl;
   rows = refl;
   kept = λ v i. i;
-  joined = only_first c.args.step.now c.args.variable c.args.node.now.memory.joined.items c.requires.first
-      (any_in c.args.variable c.args.node.now.memory.joined.items (ap (λ (vs : List ℕ). list_any (λ v. v == c.args.variable) vs) (sym c.as_slice.ensures.value) ∙ sym c.if-is_among.ensures));
+  joined = only_first c.args.step.now c.args.joined c.args.node.now.memory.joined.items c.requires.first
+      (any_in c.args.joined c.args.node.now.memory.joined.items (ap (λ (js : List Joined). list_any (λ j. joined_eq j c.args.joined) js) (sym c.as_slice.ensures.value) ∙ sym c.if-is_among.ensures));
   indexed = c.requires.indexed;
 }
 
@@ -22,7 +24,7 @@ returns c =
     record {
       same = refl;
       rows = c.in_ok-index_by.ensures.rows;
-      kept = λ v i. subst (λ (vs : List ℕ). IsIn v vs) (sym more) (in_left v old (c.args.variable ∷ []) i);
-      joined = only_first c.args.step.now c.args.variable c.index_by.new.memory.joined.items c.requires.first (subst (λ (vs : List ℕ). IsIn c.args.variable vs) (sym more) (in_right c.args.variable old (c.args.variable ∷ []) (inl refl)));
+      kept = λ v i. subst (λ (js : List Joined). IsIn v js) (sym more) (in_left v old (c.args.joined ∷ []) i);
+      joined = only_first c.args.step.now c.args.joined c.index_by.new.memory.joined.items c.requires.first (subst (λ (js : List Joined). IsIn c.args.joined js) (sym more) (in_right c.args.joined old (c.args.joined ∷ []) (inl refl)));
       indexed = c.in_ok-index_by.ensures.indexed;
     }

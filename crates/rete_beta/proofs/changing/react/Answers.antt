@@ -26,13 +26,13 @@ returns-clause-network c =
     let n = c.requires.behind.network in
     let old = get net.nodes in
     let new = get c.settle.new.nodes in
-    let s = c.in_ok-settle.ensures.settles in
+    let s = c.in_ok-served.ensures.settles in
     let next : c.in-Some.next ≡ c.args.net.now.stamp + 1 = omega arith in
     record {
       works = n.works;
       whole = record {
         numbered = numbered_same (numbers_of.get key_cmp net.numbers) (key_at old) (key_at new) n.whole.numbered (keys_settled old new net.stamp s);
-        table = c.in_ok-settle.ensures.table;
+        table = c.in_ok-served.ensures.table;
         asked = alike_asked net.nodes.slots c.settle.new.nodes.slots net.alpha n.whole.asked (askers_settled old new net.stamp s);
       };
       links = spread_same links_of (seen_at old) (seen_at new) net.below (links_settled old new net.stamp s) n.links;
@@ -40,10 +40,17 @@ returns-clause-network c =
       stamps = stamps_settled old new net.stamp c.in-Some.next s (sym next) n.stamps;
       elements = n.elements;
       rising = n.rising;
-      holds = c.in_ok-settle.ensures.hold c.requires.behind.before net.alpha.elements (stands_first old net.stamp c.requires.behind.before net.alpha.elements n.holds (unserved old net.stamp n.stamps)) c.requires.behind.change n.elements
+      holds = c.in_ok-served.ensures.hold c.requires.behind.before net.alpha.elements (stands_first old net.stamp c.requires.behind.before net.alpha.elements n.holds (unserved old net.stamp n.stamps)) c.requires.behind.change n.elements
           (rising_differ net.alpha.elements n.rising);
       root = root_settled old new net.stamp s n.root;
     }
 
 pub returns-clause-nodes : goal.returns-clause-nodes
-returns-clause-nodes c = asked_settled (get c.args.net.now.nodes) (get c.settle.new.nodes) c.args.net.now.stamp c.in_ok-settle.ensures.settles
+returns-clause-nodes c = asked_settled (get c.args.net.now.nodes) (get c.settle.new.nodes) c.args.net.now.stamp c.in_ok-served.ensures.settles
+
+pub returns-clause-tell : goal.returns-clause-tell
+returns-clause-tell c w hold change =
+    let net = c.args.net.now in
+    let n = c.requires.behind.network in
+    c.in_ok-served.ensures.tell w net.alpha.elements (stands_first (get net.nodes) net.stamp w net.alpha.elements hold (unserved (get net.nodes) net.stamp n.stamps)) change n.elements
+    (rising_differ net.alpha.elements n.rising)

@@ -10,5 +10,6 @@ returns-clause-loaded c =
       works = works.works;
       numbered = c.requires.loaded.numbered;
       whole = whole_same (values_of c.args.loaded.now.chains.entries) (node_at c.args.loaded.now.joins) (node_at c.remove.new.self) same c.requires.loaded.whole;
+      ends = c.requires.loaded.ends;
     })
     c.remove.ensures.works c.remove.ensures.nodes

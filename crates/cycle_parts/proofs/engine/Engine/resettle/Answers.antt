@@ -1,7 +1,11 @@
 use Rattle.std.proofs.Common.{Err, Ok}
 use Rattle.std.proofs.lemmas.Result.{err_from_is_err_and}
+use Rattle.wave_parts.proofs.SoundLemmas.{to_settle}
 use Rattle.cycle_parts.proofs.SteppingLemmas.{settles_now}
 use Rattle.cycle_parts.proofs.engine.Engine.resettle.Goals as goal
+
+pub resettle-requires : goal.resettle-requires
+resettle-requires g c = record { sound = to_settle c.args.self.now.parts c.requires.sound }
 
 pub returns-in_err-settled-clause-settled : goal.returns-in_err-settled-clause-settled
 returns-in_err-settled-clause-settled g c s stands =

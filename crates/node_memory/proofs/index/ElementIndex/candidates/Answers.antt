@@ -1,15 +1,17 @@
 use Rattle.std.proofs.Common.{◌∙◌, ap, filter, Result, Ok, Err, IfOk}
 use Rattle.std.specs.Map.{values_of}
-use Rattle.node_memory.specs.Keys.{meets}
+use Rattle.node_memory.specs.Keys.{value_beside, meets, key_meets, entries_from, least_key}
+use Rattle.node_memory.specs.Runs.{front_while}
 use Rattle.node_memory.proofs.KeyLemmas.{run_of_id}
 use Rattle.node_memory.proofs.IndexLemmas.{found_meets}
 use Rattle.node_memory.proofs.index.ElementIndex.candidates.Goals as goal
 
 pub returns : goal.returns
 returns c =
+    let es = c.self.inside.by_key.entries in
     both (λ v run ordered.
-    run ∙ ap values_of (run_of_id c.args.id c.args.attr c.self.inside.by_key.entries ordered) ∙ found_meets c.args.id c.args.attr c.self.inside.by_key.entries c.self.invariant
-    ∙ ap (filter (meets c.args.id c.args.attr)) c.self.view_is) c.run_of.result c.run_of.ensures.run c.run_of.ensures.ordered
+    run ∙ ap (λ w. values_of (front_while (λ e. key_meets c.args.id c.args.attr w e.0) (entries_from (least_key c.args.id c.args.attr w) es))) c.value_beside-value.ensures ∙ ap values_of (run_of_id c.args.id c.args.attr c.args.value es ordered) ∙ found_meets c.args.id c.args.attr (value_beside c.args.attr c.args.value) es c.self.invariant
+    ∙ ap (filter (meets c.args.id c.args.attr (value_beside c.args.attr c.args.value))) c.self.view_is) c.run_of.result c.run_of.ensures.run c.run_of.ensures.ordered
   where
     both : {T E : Type 0} {P Q R : T → Type 0} → ((x : T) → P x → Q x → R x) → (r : Result T E) → IfOk r P → IfOk r Q → IfOk r R
     both f (Ok x) p q = f x p q

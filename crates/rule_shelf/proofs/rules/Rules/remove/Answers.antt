@@ -1,11 +1,14 @@
-use Rattle.std.proofs.Common.{◌∙◌, ap, map, option_map}
+use Rattle.std.proofs.Common.{◌∙◌, ap, map, option_map, subst}
 use Rattle.defs_match.specs.Contents.{rule_numbered, without_rule}
 use Rattle.defs_match.specs.Rules.{rule_seen}
+use Rattle.rule_shelf.specs.Marks.{Forgets}
 use Rattle.rule_shelf.proofs.EntryLemmas.{found, rules_gone, shelf_gone}
 use Rattle.rule_shelf.proofs.rules.Rules.remove.Goals as goal
 
 pub invariant_of-self : goal.invariant_of-self
-invariant_of-self c = shelf_gone _ _ _ _ c.args.number c.in-Some.rule c.self.invariant c.in-Some.ensures.value c.in-Some.ensures.entries c.forget.ensures
+invariant_of-self c =
+    shelf_gone _ _ _ _ c.args.number c.in-Some.rule c.self.invariant c.in-Some.ensures.value c.in-Some.ensures.entries
+    (subst (λ n. Forgets c.in-Some.rule.production.name c.args.number n c.self.inside.index c.forget.new.self) c.fingerprint-mark.ensures c.forget.ensures)
 
 pub returns-in-Some-clause-removed : goal.returns-in-Some-clause-removed
 returns-in-Some-clause-removed c =

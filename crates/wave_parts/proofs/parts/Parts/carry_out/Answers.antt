@@ -1,4 +1,4 @@
-use Rattle.std.proofs.Common.{◌∙◌, Ok, Err, map, drop, length, sym, ap, subst, arith}
+use Rattle.std.proofs.Common.{◌∙◌, Ok, Err, map, drop, sym, ap, subst}
 use Rattle.std.proofs.lemmas.Result.{err_from_is_err_and}
 use Rattle.defs_soar.specs.Learning.{with_learning}
 use Rattle.defs_soar.specs.Waves.{wave_of}
@@ -11,8 +11,9 @@ use Rattle.wave_parts.specs.Lawful.{IsOfLawful}
 use Rattle.wave_parts.specs.Seen.{IsSound, agent_of, pending_of}
 use Rattle.wave_parts.specs.Teaching.{AreRetaught}
 use Rattle.wave_parts.proofs.CarriedLemmas.{carries_not, of_each_wave}
-use Rattle.wave_parts.proofs.ChangedLemmas.{are_earlier, can_join, end_is_sound, is_carried, is_known, is_retaught, memory_is, past_is, settling_stops}
+use Rattle.wave_parts.proofs.ChangedLemmas.{are_earlier, can_join, depends_left, end_is_sound, is_carried, is_known, is_retaught, left_itself, memory_is, past_is, settling_stops}
 use Rattle.wave_parts.proofs.DoneLemmas.{lawful_end}
+use Rattle.wave_parts.proofs.SoundLemmas.{to_settle}
 use Rattle.wave_parts.proofs.parts.Parts.carry_out.Goals as goal
 
 pub returns-in_err-change-clause-wave : goal.returns-in_err-change-clause-wave
@@ -22,8 +23,21 @@ returns-in_err-change-clause-wave c =
     let p = err_from_is_err_and c.from_residual.result c.from_residual.ensures.1 in
     carries_not _ (wave_of with_learning (agent_of c.args.self.now history) w) c.from_residual.result c.in_err-change.field-0.0 (p.1 ∙ ap Err p.2) (c.in_err-change.ensures.answer history remembers w pend))
 
+pub tags_found-requires-clause-new : goal.tags_found-requires-clause-new
+tags_found-requires-clause-new c =
+    let mid = c.change.new.self in
+    can_join c.args.self.now mid c.args.work c.in_ok-change.change c.requires.sound c.in_ok-change.ensures.answer mid (left_itself mid)
+
+pub tags_found-requires-clause-earlier : goal.tags_found-requires-clause-earlier
+tags_found-requires-clause-earlier c =
+    let mid = c.change.new.self in
+    are_earlier c.args.self.now mid c.args.work c.in_ok-change.change c.requires.sound c.in_ok-change.ensures.answer mid (left_itself mid)
+
+pub tags_found-requires-clause-sound : goal.tags_found-requires-clause-sound
+tags_found-requires-clause-sound c = c.in_ok-change.ensures.answer.sound
+
 pub resettle-requires : goal.resettle-requires
-resettle-requires c = record { sound = c.in_ok-change.ensures.answer.sound }
+resettle-requires c = record { sound = to_settle c.change.new.self c.in_ok-change.ensures.answer.sound }
 
 pub returns-in_err-settled-clause-wave : goal.returns-in_err-settled-clause-wave
 returns-in_err-settled-clause-wave c =
@@ -34,16 +48,9 @@ returns-in_err-settled-clause-wave c =
     carries_not _ (wave_of with_learning (agent_of old history) w) c.from_residual-in_err-settled.result c.in_err-settled.field-0.0 (p.1 ∙ ap Err p.2)
     (settling_stops old c.change.new.self c.args.work c.in_ok-change.change c.requires.sound c.in_ok-change.ensures.answer history remembers w pend c.resettle.new.self c.in_err-settled.field-0.0 c.in_err-settled.ensures.resettled))
 
-pub remember-requires-clause-few : goal.remember-requires-clause-few
-remember-requires-clause-few c = omega (arith, ap length (c.as_slice.ensures ∙ c.list.ensures.goals), c.in_ok-settled.ensures.sound.goals_few)
-
-pub remember-requires-clause-new : goal.remember-requires-clause-new
-remember-requires-clause-new c =
-    can_join c.args.self.now c.change.new.self c.args.work c.in_ok-change.change c.requires.sound c.in_ok-change.ensures.answer c.resettle.new.self c.resettle.ensures.left
-
-pub remember-requires-clause-earlier : goal.remember-requires-clause-earlier
-remember-requires-clause-earlier c =
-    are_earlier c.args.self.now c.change.new.self c.args.work c.in_ok-change.change c.requires.sound c.in_ok-change.ensures.answer c.resettle.new.self c.resettle.ensures.left
+pub remember-requires : goal.remember-requires
+remember-requires c =
+    record { new = can_join c.args.self.now c.change.new.self c.args.work c.in_ok-change.change c.requires.sound c.in_ok-change.ensures.answer c.resettle.new.self c.resettle.ensures.left }
 
 pub returns-clause-wave : goal.returns-clause-wave
 returns-clause-wave c =
@@ -65,7 +72,8 @@ returns-clause-wave c =
     subst (λ halted. Carried (record new { depends = depends; past = firings; halted = halted }) (record { retracted = work.retracted; fired = change.told; settled = c.in_ok-settled.settled }) change.halted (wave_of with_learning (agent_of old history) w)) (sym c.either-self.ensures)
     (is_carried old mid work change c.requires.sound x history remembers w pend c.dependencies_grow.ensures.goals new c.in_ok-settled.settled depends firings c.in_ok-settled.ensures.resettled
     (ap recorded (past_is old mid work change c.requires.sound x new c.resettle.ensures.left)) c.in_ok-remember.ensures.kept
-    (rw (c.as_slice.ensures, c.as_slice-2.ensures, c.list.ensures.goals) at (c.in_ok-remember.ensures.depends old.goals old.memory.elements c.in_ok-change.ensures.levels))))
+    (depends_left old c.change.new.self c.args.work c.in_ok-change.change c.requires.sound c.in_ok-change.ensures.answer new c.resettle.ensures.left depends c.in_ok-tags.tags firings c.in_ok-settled.ensures.sound
+    c.in_ok-settled.ensures.first c.in_ok-remember.ensures.kept c.in_ok-tags.ensures c.in_ok-remember.ensures.depends)))
 
 pub returns-clause-rules : goal.returns-clause-rules
 returns-clause-rules c =
@@ -89,7 +97,8 @@ returns-clause-sound c =
     (end_is_sound old c.change.new.self c.args.work change c.requires.sound c.in_ok-change.ensures.answer new c.resettle.ensures.left depends firings
     (tags_found_from (recorded firings) (map (past_by (reach_over old.goals old.memory.elements) change.added) change.recorded) 2 (drop 1 new.goals))
     c.in_ok-settled.ensures.sound c.in_ok-remember.ensures.kept
-    (rw (c.as_slice.ensures, c.as_slice-2.ensures, c.list.ensures.goals) at (c.in_ok-remember.ensures.depends old.goals old.memory.elements c.in_ok-change.ensures.levels)))
+    (depends_left old c.change.new.self c.args.work c.in_ok-change.change c.requires.sound c.in_ok-change.ensures.answer new c.resettle.ensures.left depends c.in_ok-tags.tags firings c.in_ok-settled.ensures.sound
+    c.in_ok-settled.ensures.first c.in_ok-remember.ensures.kept c.in_ok-tags.ensures c.in_ok-remember.ensures.depends))
 
 pub returns-clause-known : goal.returns-clause-known
 returns-clause-known c =
@@ -112,7 +121,8 @@ returns-clause-lawful c =
     (record { retracted = work.retracted; fired = change.told; settled = c.in_ok-settled.settled }) change.halted lawful c.requires.pending
     (is_carried old mid work change c.requires.sound x lawful.agent.history lawful.stands.remembers (pending_of c.requires.pending.0 old) c.requires.pending.1 c.dependencies_grow.ensures.goals new c.in_ok-settled.settled
     depends firings c.in_ok-settled.ensures.resettled (ap recorded (past_is old mid work change c.requires.sound x new c.resettle.ensures.left)) c.in_ok-remember.ensures.kept
-    (rw (c.as_slice.ensures, c.as_slice-2.ensures, c.list.ensures.goals) at (c.in_ok-remember.ensures.depends old.goals old.memory.elements c.in_ok-change.ensures.levels))))
+    (depends_left old c.change.new.self c.args.work c.in_ok-change.change c.requires.sound c.in_ok-change.ensures.answer new c.resettle.ensures.left depends c.in_ok-tags.tags firings c.in_ok-settled.ensures.sound
+    c.in_ok-settled.ensures.first c.in_ok-remember.ensures.kept c.in_ok-tags.ensures c.in_ok-remember.ensures.depends)))
 
 pub returns-clause-told : goal.returns-clause-told
 returns-clause-told c =

@@ -4,6 +4,9 @@ use Rattle.wave_parts.specs.Programs.{is_justified}
 use Rattle.wave_parts.proofs.TeachingLemmas.{justifications_left, numbers_left, sound_left}
 use Rattle.wave_parts.proofs.parts.Parts.drop_justifications.Goals as goal
 
+pub drop_numbered-requires : goal.drop_numbered-requires
+drop_numbered-requires c = c.requires.chains_kept
+
 pub returns-clause-program : goal.returns-clause-program
 returns-clause-program c =
     justifications_left c.args.self.now c.drop_numbered.new.self c.as_slice.result.now c.requires.numbered

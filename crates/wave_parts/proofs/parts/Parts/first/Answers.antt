@@ -1,4 +1,5 @@
-use Rattle.std.proofs.Common.{rules}
+use Rattle.std.proofs.Common.{rules, ◌∙◌, ap}
+use Rattle.defs_soar.specs.Goals.{goal_ids}
 use Rattle.wave_parts.proofs.KeptUpLemmas.{first_goals_known, first_kept_up}
 use Rattle.wave_parts.proofs.parts.Parts.first.Goals as goal
 
@@ -30,5 +31,7 @@ returns-clause-sound c = record {
   live_given = search rules;
   past_named = search rules;
   chains_known = search rules;
+  chains_kept = search rules;
   kept_up = first_kept_up c.rest_is_kept.ensures c.in_ok-goals.goals c.list.result.now c.in_ok-prefs.prefs c.new-8.result c.new-9.result c.in_ok-kept.kept c.in_ok-memory.memory c.in_ok-goals.ensures c.list.ensures.goals c.in_ok-prefs.ensures c.new-8.ensures c.in_ok-kept.ensures c.in_ok-memory.ensures;
+  kept_ids = c.in_ok-kept.ensures.own.ids ∙ ap goal_ids c.list.ensures.goals;
 }

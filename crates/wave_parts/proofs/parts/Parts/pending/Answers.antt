@@ -15,7 +15,7 @@ returns c =
     let rules = map rule_seen a.rules in
     let work : IfOk c.pending.result (λ work. IsPending rules a.memory.elements work (pending_of c.args.proposing a)) =
     subst (λ gs. IfOk c.pending.result (λ work. IsPending rules a.memory.elements work (pending_in c.args.proposing rules a.memory.elements gs (map live_seen a.live))))
-    c.list.ensures.goals c.pending.ensures.work in
+    c.list.ensures.goals (c.pending.ensures.work a.live c.requires.left) in
     record {
       work = work;
       none = same_answer rules a.memory.elements (pending_of c.args.proposing a) c.pending.result work c.pending.ensures.bound;

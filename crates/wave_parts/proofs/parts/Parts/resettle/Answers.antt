@@ -123,3 +123,7 @@ returns-clause-sound c =
       known = kept_sound a left all has c.requires.sound;
       small = tags_small a.memory.last a.memory.elements tagged.lawful.given;
     }))
+    c.in_ok-trim.ensures.rest.own.ids
+
+pub returns-clause-first : goal.returns-clause-first
+returns-clause-first c = c.in_ok-trim.ensures.keeps.goals_are

@@ -1,4 +1,5 @@
 use Rattle.std.proofs.Common.{rules, ◌∙◌, [], map, drop, refl, sym, ap}
+use Rattle.defs_soar.specs.Goals.{goal_ids}
 use Rattle.defs_soar.specs.Start.{without_justifications}
 use Rattle.defs_soar.specs.Standing.{dependencies_from}
 use Rattle.live_firings.specs.Living.{live_seen}
@@ -70,5 +71,7 @@ returns-clause-sound c = record {
   live_given = search rules;
   past_named = search rules;
   chains_known = search rules;
+  chains_kept = c.drop_justifications.ensures.sound.chains_kept;
   kept_up = first_kept_up c.rest_is_kept.ensures c.in_ok-goals.goals c.list.result.now c.in_ok-prefs.prefs c.new-5.result c.new-6.result c.in_ok-kept.kept c.in_ok-memory.memory c.in_ok-goals.ensures c.list.ensures.goals c.in_ok-prefs.ensures c.new-5.ensures c.in_ok-kept.ensures c.in_ok-memory.ensures;
+  kept_ids = c.in_ok-kept.ensures.own.ids ∙ ap goal_ids c.list.ensures.goals;
 }

@@ -1,12 +1,13 @@
-use Rattle.std.proofs.Common.{◌≡◌, ◌∙◌, ◌+◌, Ok, Err, map, refl, sym, ap, subst}
+use Rattle.std.proofs.Common.{◌≡◌, ◌∙◌, ◌+◌, List, Ok, Err, map, refl, sym, ap, subst}
 use Rattle.std.proofs.lemmas.Result.{err_from_is_err_and}
 use Rattle.defs_match.specs.Rules.{rule_seen}
+use Rattle.defs_soar.specs.declared.goal.Goal.{Goal}
 use Rattle.defs_soar.specs.Goals.{goal_ids}
 use Rattle.firing_records.specs.Recorded.{standing}
 use Rattle.soar_fire.proofs.GrowthLemmas.{grown_twice}
-use Rattle.soar_levels.specs.Told.{TellsLevels}
+use Rattle.firing_records.specs.Levels.{TellsLevels}
 use Rattle.soar_rule.specs.Symbols.{AreKnown}
-use Rattle.soar_wm.specs.WorkingMemory.{WorkingMemory, triple_of}
+use Rattle.soar_wm.specs.WorkingMemory.{triple_of}
 use Rattle.wave_entries.specs.Entries.{entry_seen}
 use Rattle.wave_firings.specs.Listed.{recorded_in}
 use Rattle.wave_firings.specs.Numbered.{AreGoalsOf}
@@ -15,9 +16,15 @@ use Rattle.wave_parts.specs.Seen.{pending_of}
 use Rattle.wave_parts.specs.Working.{standing_now}
 use Rattle.wave_parts.proofs.FiredKnownLemmas.{is_wave}
 use Rattle.wave_parts.proofs.FiringLemmas.{ids_known}
+use Rattle.wave_parts.proofs.SoundLemmas.{levels_told}
 use Rattle.wave_parts.proofs.WorkedLemmas.{fires_so, has_fired, holds_wave, learns_here, stops_in_counting, stops_in_firing, stops_in_learning, to_learn}
 use Rattle.wave_parts.proofs.WorkedSoundLemmas.{WaveLaws, worked_out}
 use Rattle.wave_parts.proofs.parts.Parts.work_out.Goals as goal
+
+pub new-requires : goal.new-requires
+new-requires c =
+    let old = c.args.self.now in
+    subst (λ (goals : List Goal). TellsLevels old.kept goals (map triple_of old.memory.elements)) (sym c.list.ensures.goals) (levels_told old c.requires.sound)
 
 pub fire_all-requires-clause-goals_known : goal.fire_all-requires-clause-goals_known
 fire_all-requires-clause-goals_known c =
@@ -128,10 +135,3 @@ returns-clause-worked c =
       letters = c.fire_all.ensures.letters;
       same = refl;
     }))
-
-pub returns-clause-levels : goal.returns-clause-levels
-returns-clause-levels c =
-    let old = c.args.self.now in
-    let before = c.in_ok-before.before in
-    subst (λ goals. TellsLevels c.into_levels-levels.result goals (map triple_of old.memory.elements)) (c.in_ok-before.ensures.goals ∙ c.list.ensures.goals)
-    (subst (λ (m : WorkingMemory). TellsLevels c.into_levels-levels.result before.goals.now (map triple_of m.elements)) c.in_ok-before.ensures.memory c.into_levels-levels.ensures)

@@ -1,0 +1,4 @@
+pub mod ContentOrder
+pub mod InstanceOrder
+pub mod ListOrder
+pub mod RowOrder

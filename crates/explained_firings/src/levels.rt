@@ -1,0 +1,19 @@
+ghost use Rattle.kept_triples.specs.Kept.{level_in_kept};
+
+use defs_soar::Leveled;
+use kept_triples::Kept;
+use soar_sym::Sym;
+
+/// The levels of what is kept.
+#[derive(Drop)]
+pub(crate) struct KeptLevels<'a> {
+    pub(crate) kept: &'a Kept,
+}
+
+impl<'a> Leveled for KeptLevels<'a> {
+    ghost told = { λ levels. level_in_kept levels.kept.now };
+
+    fn level_of(&self, id: Sym) -> Option<u32> {
+        self.kept.level_of(id)
+    }
+}

@@ -1,0 +1,8 @@
+use soar_sym::List;
+
+/// The number of a rule, and the tags of one of its instances.
+#[derive(Drop, PartialEq, Eq, PartialOrd, Ord)]
+pub struct MatchKey {
+    pub rule: u64,
+    pub tags: List<u32>,
+}

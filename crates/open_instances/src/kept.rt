@@ -1,0 +1,45 @@
+ghost use Rattle.std.specs.Prelude.{◌≡◌, true, []};
+
+use defs_match::Instance;
+use match_changes::MatchKey;
+use soar_sym::List;
+use std::alloc::Global;
+use std::collections::{BTreeMap, BTreeSet};
+
+/// What is open and what is gone, by key, as it was when it was last asked for, and what may have changed since.
+#[derive(Drop)]
+pub struct Kept {
+    /// The instances that no live firing has.
+    pub free: BTreeMap<MatchKey, Instance>,
+    /// The keys of live firings whose instances are not in the conflict set.
+    pub gone: BTreeSet<MatchKey>,
+    /// The keys of the live firings, as they were listed.
+    pub seen: List<MatchKey>,
+    /// How often each key is among them.
+    pub counts: BTreeMap<MatchKey, u64>,
+    /// The keys that are to be looked at again.
+    pub touched: BTreeSet<MatchKey>,
+    /// Whether all is to be compared anew.
+    pub stale: bool,
+}
+
+impl Kept {
+    /// Nothing, to be compared anew. It takes no memory.
+    pub fn new(alloc: Global) -> Kept
+        ensures free { result.free.entries ≡ [] }
+        ensures gone { result.gone.keys ≡ [] }
+        ensures seen { result.seen ≡ [] }
+        ensures counts { result.counts.entries ≡ [] }
+        ensures touched { result.touched.keys ≡ [] }
+        ensures stale { result.stale ≡ true }
+    {
+        Kept {
+            free: BTreeMap::new(alloc),
+            gone: BTreeSet::new(alloc),
+            seen: List::new(alloc),
+            counts: BTreeMap::new(alloc),
+            touched: BTreeSet::new(alloc),
+            stale: true,
+        }
+    }
+}

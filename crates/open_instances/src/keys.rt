@@ -1,0 +1,50 @@
+// Keys, and sets of them.
+ghost use Rattle.std.specs.Prelude.{◌≡◌, ◌||◌, IfOk, OnOk};
+ghost use Rattle.std.specs.BTreeSet as set;
+ghost use Rattle.std.specs.List.{list_any};
+ghost use Rattle.match_changes.specs.Told.{key_of};
+ghost use Rattle.open_instances.specs.Keys.{KeyOf, alike, key_cmp};
+
+use defs_match::Instance;
+use match_changes::MatchKey;
+use soar_sym::{List, NoMemory};
+use std::alloc::Global;
+use std::collections::BTreeSet;
+
+/// A copy of a key.
+pub fn copy_of(alloc: Global, key: &MatchKey) -> Result<MatchKey, NoMemory>
+    ensures { IfOk result (λ copy. copy ≡ key.now) }
+{
+    Ok(MatchKey {
+        rule: key.rule,
+        tags: List::from_slice(alloc, key.tags.as_slice())?,
+    })
+}
+
+/// The key of an instance.
+pub fn key_of(alloc: Global, instance: &Instance) -> Result<MatchKey, NoMemory>
+    ensures { IfOk result (λ key. key ≡ key_of instance.now) }
+{
+    Ok(MatchKey {
+        rule: instance.rule,
+        tags: List::from_slice(alloc, instance.tags.as_slice())?,
+    })
+}
+
+/// One key more.
+pub fn add_key(keys: &mut BTreeSet<MatchKey>, key: MatchKey) -> Result<(), NoMemory>
+    ensures { OnOk result ((q : KeyOf) → set.contains key_cmp keys.new q ≡ (alike key q || set.contains key_cmp keys.old q)) }
+{
+    keys.insert(key)?;
+    Ok(())
+}
+
+/// These keys more.
+pub fn add_keys(keys: &mut BTreeSet<MatchKey>, more: List<MatchKey>) -> Result<(), NoMemory>
+    ensures { OnOk result ((q : KeyOf) → set.contains key_cmp keys.new q ≡ (list_any (λ k. alike k q) more || set.contains key_cmp keys.old q)) }
+{
+    'more: for key in more.into_vec() {
+        add_key(keys, key)?;
+    }
+    Ok(())
+}

@@ -1,0 +1,51 @@
+// A rule that goes.
+ghost use Rattle.std.specs.Prelude.{◌≡◌, ◌&&◌, ◌||◌, ◌==◌, not, List as ListOf};
+ghost use Rattle.std.specs.BTreeMap as map;
+ghost use Rattle.std.specs.BTreeSet as set;
+ghost use Rattle.std.specs.List.{list_any};
+ghost use Rattle.defs_match.specs.declared.instance.Instance.{Instance as InstanceOf};
+ghost use Rattle.open_instances.specs.Keeping.{Fits, LosesRule, live_test, open_test};
+ghost use Rattle.open_instances.specs.Keys.{key_cmp};
+
+use crate::kept::Kept;
+use defs_match::Instance;
+use match_changes::MatchKey;
+use std::collections::{BTreeMap, BTreeSet};
+
+/// The rule of a number goes. Where one of its instances is open, or is that of a live firing, and is not to be looked at
+/// again, all is compared anew. It takes no memory.
+pub fn leave_rule(kept: &mut Kept, number: u64)
+    ensures { (before after : ListOf InstanceOf) → LosesRule before after number → Fits before kept.old → Fits after kept.new }
+{
+    if has_any(kept, number) {
+        kept.stale = true;
+    }
+}
+
+/// Whether something of the rule is kept that is not to be looked at again.
+fn has_any(kept: &Kept, number: u64) -> bool
+    ensures { result ≡ (list_any (open_test kept.now number) (map.keys kept.now.free) || list_any (live_test kept.now number) kept.now.seen) }
+{
+    has_open(&kept.free, &kept.touched, number)
+        || has_live(kept.seen.as_slice(), &kept.gone, &kept.touched, number)
+}
+
+/// Whether an instance of the rule is open and is not to be looked at again.
+fn has_open(free: &BTreeMap<MatchKey, Instance>, touched: &BTreeSet<MatchKey>, number: u64) -> bool
+    ensures { result ≡ list_any (λ k. (k.rule == number) && not (set.contains key_cmp touched.now k)) (map.keys free.now) }
+{
+    free.keys()
+        .any(|key| key.rule == number && !touched.contains(key))
+}
+
+/// Whether a live firing has an instance of the rule that is in the conflict set and is not to be looked at again.
+fn has_live(
+    seen: &[MatchKey],
+    gone: &BTreeSet<MatchKey>,
+    touched: &BTreeSet<MatchKey>,
+    number: u64,
+) -> bool
+    ensures { result ≡ list_any (λ k. (k.rule == number) && (not (set.contains key_cmp gone.now k) && not (set.contains key_cmp touched.now k))) seen.now }
+{
+    seen.iter().any(|key| key.rule == number && !gone.contains(key) && !touched.contains(key))
+}

@@ -1,0 +1,4 @@
+pub mod FollowLemmas
+pub mod HoldLemmas
+pub mod KeyLemmas
+pub mod ReadLemmas

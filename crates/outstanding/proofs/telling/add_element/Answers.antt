@@ -1,0 +1,11 @@
+use Rattle.std.proofs.lemmas.Result.{on_ok_weaker}
+use Rattle.outstanding.proofs.HoldLemmas.{element_added}
+use Rattle.outstanding.proofs.telling.add_element.Goals as goal
+
+pub returns-clause-holds : goal.returns-clause-holds
+returns-clause-holds g c =
+    let told = c.in_ok-keys.ensures in
+    on_ok_weaker c.told.result
+    (λ noted. element_added (g.M.Matcher.rules c.args.matcher.now) (g.M.Matcher.elements c.args.matcher.now) c.args.kept.now c.told.new.kept c.requires.holds
+    c.in_ok-keys.keys noted c.args.element c.requires.new (g.M.Matcher.rules c.add_element_told.new.self) told.rules (g.M.Matcher.elements c.add_element_told.new.self) told.elements told.told)
+    c.told.ensures

@@ -1,0 +1,5 @@
+pub mod Following
+pub mod Holding
+pub mod Keys
+pub mod Outstanding
+pub mod Wrapping

@@ -1,0 +1,17 @@
+//! What is outstanding in a conflict set: instances that no live firing has, and live firings whose instances are gone.
+#![tactic(auto)]
+
+mod answer;
+mod asking;
+mod compared;
+mod comparing;
+mod followed;
+mod following;
+mod instances;
+mod live;
+mod telling;
+
+pub use answer::{Open, Outstanding};
+pub use compared::Compared;
+pub use comparing::compare;
+pub use followed::Followed;

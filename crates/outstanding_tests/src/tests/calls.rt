@@ -1,0 +1,189 @@
+// Lists of calls of a matcher, and what the live firings make of what is outstanding.
+ghost use Rattle.std.specs.Prelude.{◌≡◌, false, [], OnOk};
+ghost use Rattle.defs_match.specs.Contents.{Works};
+ghost use Rattle.outstanding_tests.specs.Worlds.{AreTold};
+
+use super::live::{fire, forget, retract};
+use super::rules::{Ready, attribute};
+use super::shown::add_outstanding;
+use super::world::{World, add, excise, load, nothing, remove};
+use defs_match::Matcher;
+use live_firings::Live;
+use outstanding::{Open, Outstanding};
+use soar_sym::{List, NoMemory, Sym, Triple};
+use std::alloc::Global;
+use std::test::Fail;
+
+/// A call, which does nothing where it is not lawful.
+#[derive(Clone, Copy)]
+pub enum Call {
+    Add(Triple),
+    Remove(Triple),
+    Load(u64),
+    Excise(u64),
+    Ask,
+    /// What is unfired fires.
+    Fire,
+    /// What is unmatched is retracted.
+    Retract,
+    /// The first live firing is forgotten.
+    Forget,
+}
+
+/// The calls of a text: `+Sa1` adds (S1 ^a 1), `-SaX` removes (S1 ^a X1), `l1` loads rule 1, `x1`
+/// excises it, `a` asks what is outstanding, and so do `f`, which fires what is unfired, `r`, which retracts what is
+/// unmatched, and `g`, which forgets the first live firing.
+pub fn calls_of(alloc: Global, text: &str) -> Result<Vec<Call>, NoMemory> {
+    let mut calls = Vec::new(alloc);
+    for word in text.split_whitespace() {
+        calls.push(call_of(word))?;
+    }
+    Ok(calls)
+}
+
+fn call_of(word: &str) -> Call {
+    match word.as_bytes() {
+        [b'+', id, attr, value] => Call::Add(triple_of(*id, *attr, *value)),
+        [b'-', id, attr, value] => Call::Remove(triple_of(*id, *attr, *value)),
+        [b'a'] => Call::Ask,
+        [b'f'] => Call::Fire,
+        [b'r'] => Call::Retract,
+        [b'g'] => Call::Forget,
+        [b'x', number] => Call::Excise(u64::from(number.saturating_sub(b'0'))),
+        [_, number] => Call::Load(u64::from(number.saturating_sub(b'0'))),
+        _ => Call::Excise(0),
+    }
+}
+
+/// The triple of an identifier, an attribute, and an identifier or a digit.
+pub fn triple_of(id: u8, attr: u8, value: u8) -> Triple {
+    Triple {
+        id: symbol_of(id),
+        attr: attribute(attr),
+        value: symbol_of(value),
+        accept: false,
+    }
+}
+
+fn symbol_of(byte: u8) -> Sym {
+    if byte.is_ascii_digit() {
+        Sym::Int(i64::from(byte.saturating_sub(b'0')))
+    } else {
+        Sym::Ident {
+            letter: byte,
+            number: 1,
+        }
+    }
+}
+
+/// What is outstanding at each of these calls that asks.
+pub fn answers_of<M: Outstanding>(
+    alloc: Global,
+    matcher: &mut M,
+    rules: &[Ready],
+    calls: &[Call],
+) -> Result<String, Fail>
+    requires working { M.failed matcher.old ≡ false }
+    requires rules { M.rules matcher.old ≡ [] }
+    requires elements { M.elements matcher.old ≡ [] }
+{
+    let mut world = nothing(alloc)?;
+    let mut live = List::new(alloc);
+    let mut text = String::new(alloc);
+    'calls: for call in calls {
+        if asks(*call) {
+            live = answer(alloc, matcher, live, *call, &mut text)?;
+        } else {
+            carry_out(&mut world, matcher, rules, *call)?;
+        }
+    }
+    Ok(text)
+}
+
+fn asks(call: Call) -> bool {
+    matches!(call, Call::Ask | Call::Fire | Call::Retract | Call::Forget)
+}
+
+/// The live firings after a call that asks.
+fn answer<M: Outstanding>(
+    alloc: Global,
+    matcher: &mut M,
+    live: List<Live>,
+    call: Call,
+    out: &mut String,
+) -> Result<List<Live>, NoMemory>
+    ensures works { OnOk result (Works (M.failed matcher.old) (M.failed matcher.new)) }
+    ensures rules { OnOk result (M.rules matcher.new ≡ M.rules matcher.old) }
+    ensures elements { OnOk result (M.elements matcher.new ≡ M.elements matcher.old) }
+{
+    let answer = ask(alloc, matcher, &live, out)?;
+    live_after(alloc, answer, live, call)
+}
+
+/// What is outstanding, and behind a text too.
+fn ask<M: Outstanding>(
+    alloc: Global,
+    matcher: &mut M,
+    live: &List<Live>,
+    out: &mut String,
+) -> Result<Open, NoMemory>
+    ensures works { OnOk result (Works (M.failed matcher.old) (M.failed matcher.new)) }
+    ensures rules { OnOk result (M.rules matcher.new ≡ M.rules matcher.old) }
+    ensures elements { OnOk result (M.elements matcher.new ≡ M.elements matcher.old) }
+{
+    let answer = matcher.outstanding(alloc, live)?;
+    add_outstanding(alloc, &answer, out)?;
+    Ok(answer)
+}
+
+/// The live firings after a call.
+fn live_after(
+    alloc: Global,
+    answer: Open,
+    live: List<Live>,
+    call: Call,
+) -> Result<List<Live>, NoMemory> {
+    match call {
+        Call::Fire => fire(answer.unfired, live),
+        Call::Retract => retract(alloc, &answer.unmatched, live),
+        Call::Forget => forget(alloc, live),
+        _ => Ok(live),
+    }
+}
+
+/// Carries a call out, if it is lawful. A rule is the one at its place.
+pub fn carry_out<M: Matcher>(
+    world: &mut World,
+    matcher: &mut M,
+    rules: &[Ready],
+    call: Call,
+) -> Result<(), Fail>
+    requires { AreTold (M.failed matcher.old) (M.rules matcher.old) (M.elements matcher.old) world.old.memory world.old.numbers.items }
+    ensures { OnOk result (AreTold (M.failed matcher.new) (M.rules matcher.new) (M.elements matcher.new) world.new.memory world.new.numbers.items) }
+{
+    match call {
+        Call::Add(triple) => add(world, matcher, triple),
+        Call::Remove(triple) => remove(world, matcher, triple),
+        Call::Load(number) => load_numbered(world, matcher, rules, number),
+        Call::Excise(number) => {
+            excise(world, matcher, number);
+            Ok(())
+        }
+        _ => Ok(()),
+    }
+}
+
+fn load_numbered<M: Matcher>(
+    world: &mut World,
+    matcher: &mut M,
+    rules: &[Ready],
+    number: u64,
+) -> Result<(), Fail>
+    requires { AreTold (M.failed matcher.old) (M.rules matcher.old) (M.elements matcher.old) world.old.memory world.old.numbers.items }
+    ensures { OnOk result (AreTold (M.failed matcher.new) (M.rules matcher.new) (M.elements matcher.new) world.new.memory world.new.numbers.items) }
+{
+    match rules.get(number.saturating_sub(1) as usize) {
+        Some(ready) => load(world, matcher, ready),
+        None => Ok(()),
+    }
+}
