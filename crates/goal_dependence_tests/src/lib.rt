@@ -1,5 +1,0 @@
-//! Tests of what goals depend on.
-#![tactic(auto)]
-
-#[cfg(test)]
-mod tests;
