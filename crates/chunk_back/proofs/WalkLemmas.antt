@@ -8,9 +8,9 @@ use Rattle.defs_soar.specs.History.{FiringOf}
 use Rattle.defs_soar.specs.Laws.{IsIn}
 use Rattle.defs_soar.specs.Standing.{AreFrom}
 use Rattle.chunk_back.specs.Makers.{MakersAreEarlier}
-use Rattle.chunk_back.specs.Walk.{above_all, AllAbove, IsWalk, makers_behind, numbers_of_makers}
+use Rattle.chunk_back.specs.Walk.{above_all, AllAbove, IsWalk, makers_behind, numbers_of_makers, Rising}
 use Rattle.chunk_back.proofs.Lists.{filter_within, in_append, in_flat_map, in_flat_mapped, in_left, in_right, same_number}
-use Rattle.chunk_back.proofs.NumberLemmas.{from_all, with_left, with_right}
+use Rattle.chunk_back.proofs.NumberLemmas.{from_all, rising_all, with_left, with_right}
 use Rattle.chunk_back.proofs.ReachLemmas.{explaining_has_makers, explaining_has_roots, explaining_rises, explaining_within, same_members}
 
 all_above : (n : ℕ) (ms : List ℕ) → ((m : ℕ) → IsIn m ms → n < m) → AllAbove n ms
@@ -25,6 +25,10 @@ one_below : (n : ℕ) (ms : List ℕ) → IsIn n ms → n < above_all ms
 one_below n [] i = absurd i
 one_below n (m ∷ ms) (inl e) = omega arith
 one_below n (m ∷ ms) (inr i) = let a = one_below n ms i in omega arith
+
+-- numbers in order are their own set
+in_order : (ns : List ℕ) → Rising ns → with_numbers ns [] ≡ ns
+in_order ns r = same_members (with_numbers ns []) ns (rising_all ns [] tt) r (λ n i. elim (from_all ns [] n i) [ inl j ↦ j | inr j ↦ absurd j ]) (λ n i. with_left ns [] n i)
 
 module _ (firings : List FiringOf) (roots : List ℕ) where
   -- at the start the roots wait
@@ -50,6 +54,10 @@ module _ (firings : List FiringOf) (roots : List ℕ) where
 
       makers : (n : ℕ) (f : FiringOf) (m : ℕ) → IsIn f (firing_of firings n) → IsIn m (numbers_of_makers f) → IsIn m (makers_behind firings n)
       makers n f m i j = in_flat_mapped numbers_of_makers f m (firing_of firings n) i j
+
+  -- which is a set as it stands
+  pub as_a_set : with_numbers (explaining firings roots) [] ≡ explaining firings roots
+  as_a_set = in_order (explaining firings roots) (explaining_rises firings roots)
 
   module _ (earlier : MakersAreEarlier firings) where
     makers_less : (n m : ℕ) → IsIn m (makers_behind firings n) → m < n

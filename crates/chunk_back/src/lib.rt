@@ -12,3 +12,4 @@ mod waiting;
 mod walk;
 
 pub use chain::{backtrace, grounds};
+pub use walk::numbers_behind;

@@ -40,6 +40,13 @@ impl Waiting {
         Ok(())
     }
 
+    /// The numbers as a plain set.
+    pub(crate) fn into_set(self) -> BTreeSet<u64>
+        ensures { result.keys ≡ self }
+    {
+        self.numbers
+    }
+
     /// Takes the greatest number out.
     pub(crate) fn take_greatest(&mut self) -> Option<u64>
         ensures none { IfNone result (self.old ≡ []) }

@@ -9,6 +9,23 @@ use crate::waiting::Waiting;
 use defs_soar::{How, Keeps, Used};
 use soar_sym::NoMemory;
 use std::alloc::Global;
+use std::collections::BTreeSet;
+
+/// The numbers of the roots and of all that they rest on, as a set (Soar manual, chapter 4, backtracing).
+pub fn numbers_behind<K: Keeps>(
+    alloc: Global,
+    kept: &K,
+    roots: &[u64],
+) -> Result<BTreeSet<u64>, NoMemory>
+    requires once { AreFrom (K.kept kept.now) (K.kept kept.now) }
+    requires earlier { MakersAreEarlier (K.kept kept.now) }
+    ensures { IfOk result (λ numbers. numbers.keys ≡ explaining (K.kept kept.now) roots.now) }
+{
+    let found = explaining(alloc, kept, roots)?;
+    let mut numbers = Waiting::new(alloc);
+    add_numbers(&mut numbers, found.as_slice())?;
+    Ok(numbers.into_set())
+}
 
 /// The numbers of the roots and of all that they rest on, from the least. Makers are earlier than what
 /// they made, so the walk goes down from the greatest number, and comes to each once.

@@ -1,11 +1,12 @@
 -- Firings whose makers are earlier, with one more.
 use Rattle.std.proofs.Common.{◌≡◌, refl, sym, ap, subst, ℕ, ◌<◌, nat_lt, Bool, true, false, ◌&&◌, ◌⊎◌, inl, inr, arith, List, [], ◌∷◌, ◌++◌, flat_map, None}
 use Rattle.std.specs.List.{list_all, slice_get}
-use Rattle.defs_soar.specs.Explanation.{maker_named}
+use Rattle.defs_soar.specs.Explanation.{explaining, maker_named}
 use Rattle.defs_soar.specs.History.{FiringOf}
 use Rattle.defs_soar.specs.Laws.{IsIn}
 use Rattle.chunk_back.specs.Makers.{MakersAreEarlier}
-use Rattle.chunk_back.proofs.Lists.{in_append}
+use Rattle.chunk_back.proofs.Lists.{filter_within, in_append}
+use Rattle.soar_record.specs.Recorded.{is_of, reached_by}
 
 each_less : (number : ℕ) (ns : List ℕ) → list_all (λ n. nat_lt n number) ns ≡ true → (n : ℕ) → IsIn n ns → n < number
 each_less number [] h n i = absurd i
@@ -27,3 +28,6 @@ earlier_more firings f h less g i n j = go (in_append g firings (f ∷ []) i)
 pub none_there : (fs : List FiringOf) → None ≡ slice_get fs 0 → fs ≡ []
 none_there [] e = refl
 none_there (f ∷ fs) e = absurd (cc)
+
+pub earlier_left : (firings : List FiringOf) (roots : List ℕ) → MakersAreEarlier firings → MakersAreEarlier (reached_by roots firings)
+earlier_left firings roots h f i = h f (filter_within (is_of (explaining firings roots)) firings f i).0

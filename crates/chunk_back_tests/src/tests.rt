@@ -1,6 +1,6 @@
 mod kept;
 
-use crate::tests::kept::kept_firings;
+use crate::tests::kept::{kept_behind, kept_firings};
 use chunk_back::{backtrace, grounds};
 use defs_soar::{Keeps, Step};
 use soar_record::Record;
@@ -90,5 +90,31 @@ fn each_firing_is_told_once_with_its_selection_before_it(rt: HostRuntime) -> Res
     assert!(rt;
         are_shown(chain.steps.as_slice(), &rows) && has_tags(chain.grounds.as_slice(), &[5, 7])
     );
+    Ok(())
+}
+
+#[test]
+fn a_row_keeps_the_chain_behind_a_maker_that_went_long_ago(rt: HostRuntime) -> Result<(), Fail> {
+    let record = kept_behind(rt.alloc(), &[4])?;
+    let chain = backtrace(rt.alloc(), &record, &[4])?;
+    let rows = [
+        (b'a', 2, 0),
+        (b'i', 3, 7),
+        (b'f', 1, 2),
+        (b'f', 2, 2),
+        (b'f', 3, 2),
+        (b's', 6, 5),
+        (b'f', 4, 2),
+    ];
+    assert!(rt;
+        are_shown(chain.steps.as_slice(), &rows) && has_tags(chain.grounds.as_slice(), &[5, 7])
+    );
+    Ok(())
+}
+
+#[test]
+fn a_firing_that_nothing_reaches_goes(rt: HostRuntime) -> Result<(), Fail> {
+    let record = kept_behind(rt.alloc(), &[4, 9])?;
+    assert!(rt; record.firing(5).is_none() && record.firing(6).is_none());
     Ok(())
 }

@@ -25,7 +25,7 @@ excises a new name dropped s stands =
     subst (λ (kept : PartsKept). Stands kept (excised_agent name s)) (sym dropped.same)
     (of_each_state (λ (t : Agent). Stands (with_rules a new.rules new.chains) (excised_agent name t)) a (λ history remembers.
     stands_for (with_rules a new.rules new.chains) history (excised_agent name (agent_of a history))
-    (remembers_same a (with_rules a new.rules new.chains) history refl refl refl refl remembers) (excised_is a new name history dropped)) s stands)
+    (remembers_same a (with_rules a new.rules new.chains) history refl refl refl refl refl refl refl remembers) (excised_is a new name history dropped)) s stands)
 
 -- working memory stays
 pub elements_stay : (a new : PartsKept) (name : Sym) → AreDropped a new name → a.memory.elements ≡ new.memory.elements

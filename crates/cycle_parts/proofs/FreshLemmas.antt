@@ -41,7 +41,10 @@ with_letters a letters = record a { letters = letters }
 
 letters_remember : (a : PartsKept) (history : List RecordedFiring) (letters : List ℕ) → LettersKeep a.letters letters → Remembers a history → Remembers (with_letters a letters) history
 letters_remember a history letters keep r = record {
-  firings_are = r.firings_are;
+  is_record = r.is_record;
+  makers_kept = r.makers_kept;
+  numbers_given = r.numbers_given;
+  makers_earlier = r.makers_earlier;
   depends_are = r.depends_are;
   goals_numbered = λ p s is of_goal. numbered_later a.letters letters s keep (r.goals_numbered p s is of_goal);
 }
@@ -59,6 +62,7 @@ fresh_sound a letters letter is sound =
         selection_known = known.selection_known;
       };
       depends_fit = sound.depends_fit;
+      doubted = sound.doubted;
       element_limit = sound.element_limit;
       row_limit = sound.row_limit;
       few_rows = sound.few_rows;

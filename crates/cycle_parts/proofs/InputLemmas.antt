@@ -67,7 +67,7 @@ takes_input a new inputs moved cycles result changed counted settled =
     of_each_state (λ (s : Agent). Settles (begins input_phase ∷ []) (after_input s) new result) a
     (λ history remembers. subst (λ (s : AgentStep). Settles (begins input_phase ∷ []) s new result) (sym (input_is a history inputs moved cycles changed counted.0))
     (in_cycle_steps cycles (resettled_now (agent_of (with_inputs a inputs moved cycles) history)) new result (omega (arith, counted.0, counted.1))
-    (settled (agent_of (with_inputs a inputs moved cycles) history) (stands_at (with_inputs a inputs moved cycles) history (remembers_same a (with_inputs a inputs moved cycles) history refl refl refl refl remembers)))))
+    (settled (agent_of (with_inputs a inputs moved cycles) history) (stands_at (with_inputs a inputs moved cycles) history (remembers_same a (with_inputs a inputs moved cycles) history refl refl refl refl refl refl refl remembers)))))
 
 stops_at : (a : PartsKept) (history : List RecordedFiring) → 18446744073709551615 < suc a.cycles → first_passed (after_input (agent_of a history)).totals ≡ Some which.Counts
 unfolding after_input resettled

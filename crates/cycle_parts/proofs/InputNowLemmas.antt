@@ -25,4 +25,4 @@ pub settled_inputs : (a new : PartsKept) (inputs moved : List Triple) (adds : Bo
 settled_inputs a new inputs moved adds t result are settled =
     of_each_state (λ (s : Agent). Settles [] (input_step adds t s) new result) a
     (λ history remembers. subst (λ (s : AgentStep). Settles [] s new result) (ap (λ (changed : List Triple). resettled_now (agent_of (with_inputs a changed moved) history)) are ∙ same_step a history moved adds t)
-    (settled (agent_of (with_inputs a inputs moved) history) (stands_at (with_inputs a inputs moved) history (remembers_same a (with_inputs a inputs moved) history refl refl refl refl remembers))))
+    (settled (agent_of (with_inputs a inputs moved) history) (stands_at (with_inputs a inputs moved) history (remembers_same a (with_inputs a inputs moved) history refl refl refl refl refl refl refl remembers))))

@@ -153,7 +153,7 @@ set_stands a settings s h = record {
   settings = refl;
   output = h.output;
   halted = h.halted;
-  remembers = remembers_same a (record a { settings = settings }) s.history refl refl refl refl h.remembers;
+  remembers = remembers_same a (record a { settings = settings }) s.history refl refl refl refl refl refl refl h.remembers;
 }
 
 pub lawful_set : (a : PartsKept) (settings : Settings) → IsOfLawful a → IsOfLawful (record a { settings = settings })

@@ -82,5 +82,5 @@ loads a rules number chains production counted are chains_are =
     of_each_state (λ (s : Agent). Stepped (loaded_parts a rules number chains) (load_step production s)) a (λ history remembers.
     stepped_at (loaded_parts a rules number chains) (load_step production (agent_of a history)) refl
     (stands_for (loaded_parts a rules number chains) history (load_step production (agent_of a history)).agent
-    (remembers_same a (loaded_parts a rules number chains) history refl refl refl refl remembers) (loaded_is a rules number chains production history next are chains_are))
+    (remembers_same a (loaded_parts a rules number chains) history refl refl refl refl refl refl refl remembers) (loaded_is a rules number chains production history next are chains_are))
     (passed_later (counts_to (suc a.last_rule)) [] (passes_not (suc a.last_rule) which.Counts (omega (arith, counted.1)))))

@@ -68,7 +68,7 @@ with_output a now = record a { output = now }
 
 output_stepped : (a : PartsKept) (history : List RecordedFiring) (now : List Triple) → Remembers a history → Stepped (with_output a now) (output_step a history now)
 output_stepped a history now remembers =
-    stepped_at (with_output a now) (output_step a history now) refl (stands_at (with_output a now) history (remembers_same a (with_output a now) history refl refl refl refl remembers)) refl
+    stepped_at (with_output a now) (output_step a history now) refl (stands_at (with_output a now) history (remembers_same a (with_output a now) history refl refl refl refl refl refl refl remembers)) refl
 
 pub gives_output : (watch : ℕ) (a : PartsKept) (now gone new : List Triple) (mid new_mid : Bool) (before after : List ℕ)
     → ((s : Agent) → s.holding.goals ≡ a.goals → s.holding.elements ≡ a.memory.elements → now ≡ output_of s)

@@ -25,7 +25,7 @@ pub queues : (a : PartsKept) (queue : List Queued) (q : Queued) → queue ≡ a.
 queues a queue q are =
     of_each_state (λ (s : Agent). Stepped (with_queue a queue) (queue_step q.adds q.triple s)) a (λ history remembers.
     stepped_at (with_queue a queue) (queue_step q.adds q.triple (agent_of a history)) refl
-    (stands_for (with_queue a queue) history (queue_step q.adds q.triple (agent_of a history)).agent (remembers_same a (with_queue a queue) history refl refl refl refl remembers)
+    (stands_for (with_queue a queue) history (queue_step q.adds q.triple (agent_of a history)).agent (remembers_same a (with_queue a queue) history refl refl refl refl refl refl refl remembers)
     (queued_is a queue q history are)) refl)
 
 abbrev with_random : PartsKept → List ℕ → PartsKept
@@ -35,5 +35,5 @@ pub more_random : (a : PartsKept) (random words : List ℕ) → random ≡ a.ran
 more_random a random words are =
     of_each_state (λ (s : Agent). Stepped (with_random a random) (random_step words s)) a (λ history remembers.
     stepped_at (with_random a random) (random_step words (agent_of a history)) refl
-    (stands_for (with_random a random) history (random_step words (agent_of a history)).agent (remembers_same a (with_random a random) history refl refl refl refl remembers)
+    (stands_for (with_random a random) history (random_step words (agent_of a history)).agent (remembers_same a (with_random a random) history refl refl refl refl refl refl refl remembers)
     (ap (λ (all : List ℕ). record (agent_of a history) { queues = record (agent_of a history).queues { random = all } }) are)) refl)

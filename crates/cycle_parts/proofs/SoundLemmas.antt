@@ -57,6 +57,7 @@ still_sound a rules last_rule chains inputs moved queue cycles learned output so
   goals_few = sound.goals_few;
   goals_known = sound.goals_known;
   depends_fit = sound.depends_fit;
+  doubted = sound.doubted;
   element_limit = sound.element_limit;
   row_limit = sound.row_limit;
   few_rows = sound.few_rows;

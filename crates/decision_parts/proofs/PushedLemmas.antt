@@ -1,5 +1,6 @@
 -- A substate below the last goal, on which nothing depends yet.
-use Rattle.std.proofs.Common.{◌≡◌, ◌∙◌, ℕ, ◌+◌, ◌<◌, ◌≤◌, ◌==◌, ◌&&◌, Bool, true, false, List, [], ◌∷◌, ◌++◌, drop, length, length-append, Option, Some, None, ◌⊎◌, inl, inr, refl, sym, ap, subst, arith}
+use Rattle.std.proofs.Common.{◌≡◌, ◌∙◌, ℕ, ◌+◌, ◌<◌, ◌≤◌, ◌==◌, ◌&&◌, Bool, true, false, List, [], ◌∷◌, ◌++◌, drop, length, length-append, map, Option, Some, None, ◌⊎◌, inl, inr, refl, sym, ap, subst, arith}
+use Rattle.std.proofs.lemmas.List.{map-append}
 use Rattle.soar_sym.specs.Equality.{symbol_eq}
 use Rattle.soar_sym.specs.Letters.{last_of, with_last}
 use Rattle.soar_sym.specs.Words.{IsKnown}
@@ -15,11 +16,18 @@ use Rattle.defs_soar.specs.History.{RecordedFiring}
 use Rattle.defs_soar.specs.Laws.{IsIn}
 use Rattle.defs_soar.specs.Limits.{first_passed, identifiers_to}
 use Rattle.defs_soar.specs.Standing.{dependencies_from}
-use Rattle.agent_laws.specs.Dependence.{NewGoalsDependOnNothing}
+use Rattle.agent_laws.specs.Dependence.{NewGoalsDependOnNothing, firings_in}
+use Rattle.agent_laws.proofs.PartLaws.{fewer_roots_need_less}
+use Rattle.agent_laws.proofs.RootLaws.{each_root, maker_selected, root_of_goal, root_of_live, root_of_row}
+use Rattle.dependency_tables.specs.Tables.{table_of, tables_of}
+use Rattle.live_firings.specs.Living.{live_seen}
 use Rattle.learning_laws.specs.LawfulAgents.{IsNumbered}
 use Rattle.soar_fire.specs.Growth.{LettersKeep}
+use Rattle.goal_trimming.specs.Doubted.{AreDoubted}
+use Rattle.goal_trimming.proofs.LostLemmas.{doubted_pushed}
 use Rattle.soar_goals.specs.Known.{AreItemsKnown}
-use Rattle.wave_parts.specs.Remembers.{PastGoalsAreNumbered, Remembers}
+use Rattle.soar_record.specs.Recorded.{recorded}
+use Rattle.wave_parts.specs.Remembers.{PastGoalsAreNumbered, Remembers, roots_in}
 use Rattle.wave_parts.specs.Seen.{IsGoalKnown, IsToSettle, agent_of}
 use Rattle.wave_parts.specs.Stands.{Stands}
 use Rattle.wave_parts.specs.declared.parts.Parts.{Parts as PartsKept}
@@ -60,26 +68,41 @@ abbrev pub with_pushed : PartsKept → Goal → List ℕ → List (List ℕ) →
 with_pushed a goal letters depends = record a { goals = a.goals ++ goal ∷ []; letters = letters; depends = depends }
 
 depends_pushed : NewGoalsDependOnNothing → (history : List RecordedFiring) (goals : List Goal) (goal : Goal) → 1 ≤ length goals → ((p : RecordedFiring) → IsIn p history → is_goal_of p.goal goal.id ≡ false)
-    → dependencies_from history 2 (drop 1 goals) ++ [] ∷ [] ≡ dependencies_from history 2 (drop 1 (goals ++ goal ∷ []))
+    → tables_of (dependencies_from history 2 (drop 1 goals)) ++ [] ∷ [] ≡ tables_of (dependencies_from history 2 (drop 1 (goals ++ goal ∷ [])))
 depends_pushed law history [] goal some none = absurd (omega (arith, some))
-depends_pushed law history (top ∷ below) goal some none = sym (law history 2 below goal none)
-
-pub pushed_remembers : NewGoalsDependOnNothing → (a : PartsKept) (history : List RecordedFiring) (goal : Goal) (letters : List ℕ) (depends : List (List ℕ)) → IsToSettle a → LettersKeep a.letters letters
-    → goal.id ≡ Ident 83 (last_of a.letters 83 + 1) → depends ≡ a.depends ++ [] ∷ [] → Remembers a history → Remembers (with_pushed a goal letters depends) history
-pushed_remembers law a history goal letters depends sound keep id_is depends_is r =
-    let none : (p : RecordedFiring) → IsIn p history → is_goal_of p.goal goal.id ≡ false =
-    λ p is. ap (is_goal_of p.goal) id_is ∙ none_of_it a.letters history (last_of a.letters 83 + 1) r.goals_numbered (omega arith) p is in
-    record {
-      firings_are = r.firings_are;
-      depends_are = depends_is ∙ ap (λ tags. tags ++ [] ∷ []) r.depends_are ∙ depends_pushed law history a.goals goal sound.goals_some none;
-      goals_numbered = λ p s is of_goal. numbered_later a.letters letters s keep (r.goals_numbered p s is of_goal);
-    }
+depends_pushed law history (top ∷ below) goal some none = sym (map-append table_of (dependencies_from history 2 below) ([] ∷ [])) ∙ ap tables_of (sym (law history 2 below goal none))
 
 in_pushed : (g goal : Goal) (goals : List Goal) → IsIn g (goals ++ goal ∷ []) → IsIn g goals ⊎ (goal ≡ g)
 in_pushed g goal [] (inl e) = inr e
 in_pushed g goal [] (inr none) = absurd none
 in_pushed g goal (first ∷ goals) (inl e) = inl (inl e)
 in_pushed g goal (first ∷ goals) (inr is) = elim (in_pushed g goal goals is) [ inl here ↦ inl (inr here) | inr e ↦ inr e ]
+
+-- nothing is selected in it yet
+pushed_roots : (a : PartsKept) (goal : Goal) (letters : List ℕ) (depends : List (List ℕ)) → goal.selected ≡ None → (n : ℕ) → IsIn n (roots_in (with_pushed a goal letters depends)) → IsIn n (roots_in a)
+pushed_roots a goal letters depends none =
+    let live = map live_seen a.live in
+    each_root (λ n. IsIn n (roots_in a)) live a.prefs.rows (a.goals ++ goal ∷ []) (λ l is. root_of_live live a.prefs.rows a.goals l is) (λ row is. root_of_row live a.prefs.rows a.goals row is)
+    (λ g is n named. elim (in_pushed g goal a.goals is) [
+      | inl old ↦ root_of_goal live a.prefs.rows a.goals g old n named
+      | inr e ↦ let made = maker_selected g n named in
+          absurd (let clash : None ≡ Some made.0 = sym none ∙ ap (λ (x : Goal). x.selected) e ∙ made.1 in cc)
+    ])
+
+pub pushed_remembers : NewGoalsDependOnNothing → (a : PartsKept) (history : List RecordedFiring) (goal : Goal) (letters : List ℕ) (depends : List (List ℕ)) → IsToSettle a → LettersKeep a.letters letters
+    → goal.selected ≡ None → goal.id ≡ Ident 83 (last_of a.letters 83 + 1) → depends ≡ a.depends ++ [] ∷ [] → Remembers a history → Remembers (with_pushed a goal letters depends) history
+pushed_remembers law a history goal letters depends sound keep none_selected id_is depends_is r =
+    let none : (p : RecordedFiring) → IsIn p history → is_goal_of p.goal goal.id ≡ false =
+    λ p is. ap (is_goal_of p.goal) id_is ∙ none_of_it a.letters history (last_of a.letters 83 + 1) r.goals_numbered (omega arith) p is in
+    record {
+      is_record =
+          fewer_roots_need_less (recorded a.past) (firings_in history) (roots_in a) (roots_in (with_pushed a goal letters depends)) (pushed_roots a goal letters depends none_selected) r.is_record;
+      makers_kept = r.makers_kept;
+      numbers_given = r.numbers_given;
+      makers_earlier = r.makers_earlier;
+      depends_are = depends_is ∙ ap (λ tags. tags ++ [] ∷ []) r.depends_are ∙ depends_pushed law history a.goals goal sound.goals_some none;
+      goals_numbered = λ p s is of_goal. numbered_later a.letters letters s keep (r.goals_numbered p s is of_goal);
+    }
 
 pub pushed_sound : (a : PartsKept) (goal : Goal) (letters : List ℕ) (depends : List (List ℕ)) → IsToSettle a → length a.goals < 100 → LettersKeep a.letters letters → IsGoalKnown a.table letters goal → goal.selected ≡ None
     → depends ≡ a.depends ++ [] ∷ [] → IsToSettle (with_pushed a goal letters depends)
@@ -94,6 +117,8 @@ pushed_sound a goal letters depends sound room keep known none depends_is =
         | inr e ↦ subst (IsGoalKnown a.table letters) e known
       ];
       depends_fit = omega (arith, ap length depends_is, length-append a.depends ([] ∷ []), count, sound.depends_fit);
+      doubted = subst (λ (tables : List (List ℕ)). AreDoubted tables a.memory.elements a.kept.triples a.doubted) (sym depends_is)
+          (doubted_pushed a.depends a.memory.elements a.kept.triples a.doubted sound.doubted);
       element_limit = sound.element_limit;
       row_limit = sound.row_limit;
       few_rows = sound.few_rows;
@@ -167,7 +192,7 @@ has_pushed law a why items id goals letters depends sound within p =
     (of_each_state (λ (s : Agent). HasPushed s why items (with_pushed a goal letters depends) id) a (λ history remembers. record {
       goal_is = p.id_is;
       stands = stands_for (with_pushed a goal letters depends) history (with_substate (agent_of a history) why items)
-          (pushed_remembers law a history goal letters depends sound (numbers_keep a.letters letters 83 p.letters_are) p.id_is p.depends_are remembers)
+          (pushed_remembers law a history goal letters depends sound (numbers_keep a.letters letters 83 p.letters_are) refl p.id_is p.depends_are remembers)
           (pushed_at a history why items id letters depends p.id_is p.letters_are);
       within = within;
     }))

@@ -35,7 +35,7 @@ drawn_is a random history false is = ap (λ r. agent_of (with_random a r) histor
 drawn_stands : (a : PartsKept) (random : List ℕ) (history : List RecordedFiring) (takes : Bool) → random ≡ words_left takes a.random → Remembers a history
     → Stands (with_random a random) (after_draw (agent_of a history) takes)
 drawn_stands a random history takes is remembers =
-    stands_for (with_random a random) history (after_draw (agent_of a history) takes) (remembers_same a (with_random a random) history refl refl refl refl remembers)
+    stands_for (with_random a random) history (after_draw (agent_of a history) takes) (remembers_same a (with_random a random) history refl refl refl refl refl refl refl remembers)
     (drawn_is a random history takes is)
 
 -- ---- the line

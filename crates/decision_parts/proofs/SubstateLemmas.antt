@@ -96,7 +96,7 @@ stands_halted a s h = record {
   settings = h.settings;
   output = h.output;
   halted = refl;
-  remembers = remembers_same a (halted_parts a) s.history refl refl refl refl h.remembers;
+  remembers = remembers_same a (halted_parts a) s.history refl refl refl refl refl refl refl h.remembers;
 }
 
 halted_stands : (a : PartsKept) (x : AgentStep) → Stands a (halting x) → Stands (halted_parts a) (halting (record x { halted = true }))

@@ -1,7 +1,7 @@
 -- The parts of an agent after the walk of a decision.
 use Rattle.std.proofs.Common.{◌≡◌, ◌∙◌, ℕ, zero, suc, ◌+◌, ◌-◌, ◌<◌, ◌≤◌, ◌&&◌, nat_le, nat_lt, Bool, true, false, List, [], ◌∷◌, map, length, Option, Some, None, inl, inr, refl, sym, ap, subst, arith}
 use Rattle.std.specs.Prelude.{IsTrue, take, drop, not}
-use Rattle.std.proofs.lemmas.List.{length-take}
+use Rattle.std.proofs.lemmas.List.{length-take, take-map}
 use Rattle.soar_sym.specs.Words.{Texts, IsKnown}
 use Rattle.soar_sym.specs.declared.symbol.Sym.{Sym}
 use Rattle.defs_soar.specs.declared.choice.Mode.{Mode}
@@ -17,19 +17,26 @@ use Rattle.defs_soar.specs.Goals.{goal_ids}
 use Rattle.defs_soar.specs.History.{RecordedFiring}
 use Rattle.defs_soar.specs.Laws.{IsIn}
 use Rattle.defs_soar.specs.Preferences.{is_of_gone, without_firings}
-use Rattle.defs_soar.specs.Standing.{dependencies_from}
+use Rattle.defs_soar.specs.Standing.{dependencies_from, makers_of_goal}
 use Rattle.defs_soar.specs.Trimming.{numbers_of}
 use Rattle.defs_soar.specs.Walk.{View}
+use Rattle.agent_laws.specs.Dependence.{firings_in}
+use Rattle.agent_laws.proofs.PartLaws.{fewer_roots_need_less}
+use Rattle.agent_laws.proofs.RootLaws.{each_root, root_of_live, root_of_row}
 use Rattle.decision_walk.specs.First.{AreFirst}
 use Rattle.decision_walk.specs.Known.{AreSelectionsKnown, IsSelectionKnown}
 use Rattle.decision_walk.specs.Makers.{AreFiringsUpTo, AreMakersUpTo, IsMakerUpTo}
+use Rattle.dependency_tables.specs.Tables.{table_of, tables_of}
 use Rattle.live_firings.specs.declared.live.Live.{Live}
 use Rattle.live_firings.specs.Living.{live_above, live_from, live_seen}
+use Rattle.goal_trimming.specs.Doubted.{AreDoubted}
+use Rattle.goal_trimming.proofs.LostLemmas.{doubted_first}
 use Rattle.goal_trimming.proofs.TagLemmas.{left_depend}
 use Rattle.learning_laws.specs.LawfulAgents.{IsNumbered}
 use Rattle.row_laws.specs.Kept.{RetractedKeepRange}
 use Rattle.soar_goals.specs.Known.{AreGoalsKnown as AreListKnown, AreItemsKnown}
 use Rattle.soar_prefs.specs.Memory.{PreferenceMemory}
+use Rattle.soar_record.specs.Recorded.{recorded}
 use Rattle.soar_choose.specs.Rows.{AreInRange, IsFraction}
 use Rattle.soar_settle.specs.Known.{AreRowsKnown}
 use Rattle.soar_settle.proofs.FilterLemmas.{filter_shorter}
@@ -37,7 +44,7 @@ use Rattle.settling_laws.proofs.MemberLemmas.{filter_within}
 use Rattle.wave_firings.specs.Numbered.{AreMakersOfFirings, AreOfFirings}
 use Rattle.wave_parts.proofs.KeptUpLemmas.{kept_renewed}
 use Rattle.wave_parts.specs.Modes.{is_fraction}
-use Rattle.wave_parts.specs.Remembers.{Remembers}
+use Rattle.wave_parts.specs.Remembers.{Remembers, roots_in}
 use Rattle.wave_parts.specs.Seen.{AreGoalsKnown, AreLiveKnown, IsGoalKnown, IsSound, IsToSettle, agent_of, IsSelectionKnown as IsSelectedKnown}
 use Rattle.wave_parts.specs.Stands.{Stands}
 use Rattle.wave_parts.specs.declared.parts.Parts.{Parts as PartsKept}
@@ -140,6 +147,10 @@ walked_depends history old new first =
     ∙ ap (λ m. dependencies_from history 2 (drop 1 (take m old))) one
     ∙ sym (depends_by_ids history 2 (drop 1 new) (drop 1 (take n old)) ids)
 
+-- and so do their tables
+walked_tables : (history : List RecordedFiring) (old new : List Goal) → AreFirst old new → take (length new - 1) (tables_of (dependencies_from history 2 (drop 1 old))) ≡ tables_of (dependencies_from history 2 (drop 1 new))
+walked_tables history old new first = take-map table_of (length new - 1) (dependencies_from history 2 (drop 1 old)) ∙ ap tables_of (walked_depends history old new first)
+
 in_take : (n : ℕ) (s : Sym) (ids : List Sym) → IsIn s (take n ids) → IsIn s ids
 in_take zero s ids is = absurd is
 in_take (suc n) s [] is = absurd is
@@ -195,21 +206,39 @@ has_left a goals left depends prefs live is depends_is prefs_is live_is =
       live_are = live_is ∙ ap (λ n. live_above n (map live_seen a.live)) next;
     }
 
+-- the makers of the selections are roots
+abbrev pub AreRooted : PartsKept → List Goal → Type 0
+AreRooted a goals = (g : Goal) → IsIn g goals → (n : ℕ) → IsIn n (makers_of_goal g) → IsIn n (roots_in a)
+
+-- no explanation begins elsewhere
+walked_roots : (a : PartsKept) (goals : List Goal) (depends : List (List ℕ)) (prefs : PreferenceMemory) (live : List Live) → HasLeft a goals depends prefs live → AreRooted a goals
+    → (n : ℕ) → IsIn n (roots_in (with_walked a goals depends prefs live)) → IsIn n (roots_in a)
+walked_roots a goals depends prefs live left =
+    let gone = numbers_of (live_from (suc (length goals)) (map live_seen a.live)) in
+    let rows = ap (λ (p : PreferenceMemory). p.rows) left.prefs_are in
+    each_root (λ n. IsIn n (roots_in a)) (map live_seen live) prefs.rows goals
+    (λ l is. root_of_live (map live_seen a.live) a.prefs.rows a.goals l (filter_within (λ (x : LiveFiring). nat_lt x.depth (suc (length goals))) (map live_seen a.live) l (subst (IsIn l) left.live_are is)))
+    (λ row is. root_of_row (map live_seen a.live) a.prefs.rows a.goals row (filter_within (λ r. not (is_of_gone gone r)) a.prefs.rows row (subst (IsIn row) rows is)))
+
 walked_remembers : (a : PartsKept) (history : List RecordedFiring) (goals : List Goal) (depends : List (List ℕ)) (prefs : PreferenceMemory) (live : List Live) → AreFirst a.goals goals → HasLeft a goals depends prefs live
-    → Remembers a history → Remembers (with_walked a goals depends prefs live) history
-walked_remembers a history goals depends prefs live first left r = record {
-  firings_are = r.firings_are;
-  depends_are = left.depends_are ∙ ap (take (length goals - 1)) r.depends_are ∙ walked_depends history a.goals goals first;
+    → AreRooted a goals → Remembers a history → Remembers (with_walked a goals depends prefs live) history
+walked_remembers a history goals depends prefs live first left rooted r = record {
+  is_record =
+      fewer_roots_need_less (recorded a.past) (firings_in history) (roots_in a) (roots_in (with_walked a goals depends prefs live)) (walked_roots a goals depends prefs live left rooted) r.is_record;
+  makers_kept = r.makers_kept;
+  numbers_given = r.numbers_given;
+  makers_earlier = r.makers_earlier;
+  depends_are = left.depends_are ∙ ap (take (length goals - 1)) r.depends_are ∙ walked_tables history a.goals goals first;
   goals_numbered = r.goals_numbered;
 }
 
 pub walked_stands : (a : PartsKept) (goals : List Goal) (depends : List (List ℕ)) (prefs : PreferenceMemory) (live : List Live) → AreFirst a.goals goals → HasLeft a goals depends prefs live
-    → ((history : List RecordedFiring) → goals ≡ (walk_of (agent_of a history)).goals)
+    → AreRooted a goals → ((history : List RecordedFiring) → goals ≡ (walk_of (agent_of a history)).goals)
     → (s : Agent) → Stands a s → Stands (with_walked a goals depends prefs live) (walked_state s (walk_of s))
-walked_stands a goals depends prefs live first left walked_to =
+walked_stands a goals depends prefs live first left rooted walked_to =
     of_each_state (λ (s : Agent). Stands (with_walked a goals depends prefs live) (walked_state s (walk_of s))) a
     (λ history remembers. stands_for (with_walked a goals depends prefs live) history (walked_state (agent_of a history) (walk_of (agent_of a history)))
-    (walked_remembers a history goals depends prefs live first left remembers)
+    (walked_remembers a history goals depends prefs live first left rooted remembers)
     ((λ k. record (agent_of a history) { holding = record (agent_of a history).holding { goals = goals; rows = (left.prefs_are k).rows; live = left.live_are k } })
     ∙ ap (λ (gs : List Goal). walked_state (agent_of a history) (record (walk_of (agent_of a history)) { goals = gs })) (walked_to history)))
 
@@ -224,6 +253,8 @@ walked_sound a goals depends prefs live range sound first left known selections 
       goals_few = omega (arith, first.few, sound.goals_few);
       goals_known = each_known a.table a.letters goals known selections (numbered_left a.table a.letters a.goals goals first sound.goals_known);
       depends_fit = omega (arith, ap length left.depends_are, length-take (length goals - 1) a.depends, first.some, first.few, sound.depends_fit);
+      doubted = subst (λ (tables : List (List ℕ)). AreDoubted tables a.memory.elements a.kept.triples a.doubted) (sym left.depends_are)
+          (doubted_first (length goals - 1) a.depends a.memory.elements a.kept.triples a.doubted sound.doubted);
       element_limit = sound.element_limit;
       row_limit = limit ∙ sound.row_limit;
       few_rows = omega (arith, ap length rows, filter_shorter (λ r. not (is_of_gone gone r)) a.prefs.rows, limit, sound.few_rows);

@@ -11,6 +11,7 @@ ghost use Rattle.matching_laws.specs.Telling.{IsTold};
 ghost use Rattle.soar_goals.specs.Known.{AreItemsKnown};
 ghost use Rattle.step_report.specs.Reports.{removed_seen};
 ghost use Rattle.trace_laws.specs.Events.{AreEventsKnown};
+ghost use Rattle.wave_parts.specs.Lawful.{IsOfLawful};
 ghost use Rattle.wave_parts.specs.Seen.{IsSound, IsToSettle};
 ghost use Rattle.wave_parts.specs.Stands.{Stands};
 
@@ -37,6 +38,7 @@ pub fn decide(
     mid_line: &mut bool,
 ) -> Result<Decision, Stop>
     requires sound { IsSound parts.old }
+    requires lawful { IsOfLawful parts.old }
     ensures step { (s : AgentOf) → Stands parts.old s → GoesStep parts.old.settings.watch mid_line.old (decided_by s) parts.new mid_line.new out.old out.new result }
     ensures limit { (s : AgentOf) → Stands parts.old s → IfOk result (λ decision. decision.halted ≡ (decided_by s).halted) }
     ensures told { IfOk result (λ decision. IsTold parts.old.memory.elements parts.new.memory.elements decision.changes) }

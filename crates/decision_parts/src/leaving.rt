@@ -7,6 +7,7 @@ ghost use Rattle.defs_soar.specs.Resettling.{removal_events};
 ghost use Rattle.decision_parts.specs.Deciding.{removed_in_walk, walk_of, walked_state};
 ghost use Rattle.step_report.specs.Reports.{removed_seen};
 ghost use Rattle.trace_laws.specs.Events.{AreEventsKnown};
+ghost use Rattle.wave_parts.specs.Lawful.{IsOfLawful};
 ghost use Rattle.wave_parts.specs.Seen.{IsSound, IsToSettle};
 ghost use Rattle.wave_parts.specs.Stands.{Stands};
 
@@ -27,7 +28,8 @@ pub struct WalkEnd {
 
 /// Goes over the goals from the top down, and leaves those that stay.
 pub fn walk_on(alloc: Global, parts: &mut Parts) -> Result<WalkEnd, NoMemory>
-    requires { IsSound parts.old }
+    requires sound { IsSound parts.old }
+    requires lawful { IsOfLawful parts.old }
     ensures decided { (s : AgentOf) → Stands parts.old s → IfOk result (λ end. decided_seen end.decided ≡ (walk_of s).decided) }
     ensures removed { (s : AgentOf) → Stands parts.old s → IfOk result (λ end. map removed_seen end.removed ≡ removed_in_walk s) }
     ensures stands { (s : AgentOf) → Stands parts.old s → OnOk result (Stands parts.new (walked_state s (walk_of s))) }

@@ -38,6 +38,6 @@ pub fn push_goal(
         Err(GoalFault::NoMemory) => return Err(Stop::NoMemory),
         Err(GoalFault::TooDeep) => unreachable!(),
     }
-    parts.depends.push(List::new(alloc))?;
+    parts.depends.push(alloc)?;
     Ok(goal)
 }

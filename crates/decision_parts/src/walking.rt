@@ -4,11 +4,11 @@ ghost use Rattle.decision_walk.specs.Ends.{decided_seen};
 ghost use Rattle.decision_walk.specs.Known.{IsDecidedKnown};
 ghost use Rattle.defs_soar.specs.Agents.{Agent as AgentOf};
 ghost use Rattle.decision_parts.specs.Deciding.{walk_of, walked_state};
+ghost use Rattle.wave_parts.specs.Lawful.{IsOfLawful};
 ghost use Rattle.wave_parts.specs.Seen.{IsSound, IsToSettle};
 ghost use Rattle.wave_parts.specs.Stands.{Stands};
 
 use decision_walk::{Decided, walk, walks_keep_goals};
-use goal_trimming::cut_depends;
 use live_firings::leave_goals;
 use row_laws::rows_fit_decisions;
 use soar_decide::View;
@@ -19,7 +19,8 @@ use wave_parts::Parts;
 /// Goes over the goals from the top down, and leaves those that stay. With the others go their firings and what these
 /// hold up.
 pub fn walk_goals(alloc: Global, parts: &mut Parts) -> Result<Decided, NoMemory>
-    requires { IsSound parts.old }
+    requires sound { IsSound parts.old }
+    requires lawful { IsOfLawful parts.old }
     ensures decided { (s : AgentOf) → Stands parts.old s → IfOk result (λ decided. decided_seen decided ≡ (walk_of s).decided) }
     ensures stands { (s : AgentOf) → Stands parts.old s → OnOk result (Stands parts.new (walked_state s (walk_of s))) }
     ensures fewer { OnOk result (length parts.new.goals ≤ length parts.old.goals) }
@@ -40,6 +41,6 @@ pub fn walk_goals(alloc: Global, parts: &mut Parts) -> Result<Decided, NoMemory>
     let decided = walk(&view, &mut parts.goals)?;
     let left = parts.goals.list().len();
     leave_goals(left + 1, &mut parts.prefs, &mut parts.live);
-    cut_depends(&mut parts.depends, left - 1);
+    parts.depends.cut(left - 1);
     Ok(decided)
 }

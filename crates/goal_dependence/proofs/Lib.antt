@@ -2,5 +2,4 @@ pub mod ConstantLemmas
 pub mod DependenceSteps
 pub mod JoinLemmas
 pub mod RecordLemmas
-pub mod TagLemmas
 pub mod ToldLemmas

@@ -13,7 +13,7 @@ use Rattle.defs_soar.specs.Levels.{level}
 use Rattle.defs_soar.specs.Waves.{lasting_of}
 use Rattle.level_laws.specs.Labels.{as_told}
 use Rattle.firing_records.specs.declared.outcome.Recorded.{Recorded}
-use Rattle.goal_dependence.specs.Counted.{counts_as_told, higher_as_told, tags_as_told, tags_as_told_from, tags_by}
+use Rattle.goal_dependence.specs.Counted.{counts_as_told, higher_as_told, tags_as_told, tags_as_told_from}
 use Rattle.goal_dependence.specs.Remembered.{past_by, reach_over, tags_found_from}
 use Rattle.goal_dependence.specs.Told.{Told, is_told_local, was_told_at, was_told_below}
 

@@ -1,5 +1,5 @@
 -- The firings that count for goals, and the tags that they add, by what levels tell: how the code goes, cited by no public clause.
-use Rattle.std.specs.Prelude.{ℕ, suc, zero, Bool, ◌&&◌, List, [], ◌∷◌, ◌++◌, map, flat_map, filter, if◌then◌else◌}
+use Rattle.std.specs.Prelude.{ℕ, suc, Bool, ◌&&◌, List, [], ◌∷◌, map, flat_map, filter, if◌then◌else◌}
 use Rattle.std.specs.List.{list_any}
 use Rattle.soar_sym.specs.declared.symbol.Sym.{Sym}
 use Rattle.defs_soar.specs.declared.goal.Goal.{Goal}
@@ -9,7 +9,6 @@ use Rattle.defs_soar.specs.Explanation.{chain_of}
 use Rattle.defs_soar.specs.History.{FiringOf, firing_seen}
 use Rattle.defs_soar.specs.Waves.{lasting_of}
 use Rattle.firing_records.specs.declared.outcome.Recorded.{Recorded}
-use Rattle.agent_laws.specs.Dependence.{each_with}
 use Rattle.goal_dependence.specs.Told.{Told, is_told_local, was_told_below}
 
 -- ---- tags of firings
@@ -34,17 +33,3 @@ abbrev pub tags_as_told_from : Told → List FiringOf → List Preference → Li
 tags_as_told_from told firings added recorded depth [] = []
 tags_as_told_from told firings added recorded depth (goal ∷ goals) =
     tags_as_told told firings added goal.id depth recorded ∷ tags_as_told_from told firings added recorded (suc depth) goals
-
--- ---- tables
-
--- the table at a place with more behind it
-abbrev pub with_more_at : ℕ → List ℕ → List (List ℕ) → List (List ℕ)
-with_more_at place more [] = []
-with_more_at zero more (tags ∷ others) = (tags ++ more) ∷ others
-with_more_at (suc place) more (tags ∷ others) = tags ∷ with_more_at place more others
-
--- each table from a place on with more behind it
-abbrev pub each_from : ℕ → List (List ℕ) → List (List ℕ) → List (List ℕ)
-each_from zero tables more = each_with tables more
-each_from (suc place) [] more = []
-each_from (suc place) (tags ∷ others) more = tags ∷ each_from place others more

@@ -1,7 +1,6 @@
 //! Which elements goals depend on, as waves add to it.
 #![tactic(auto)]
 
-mod adding;
 mod constants;
 mod counting;
 mod finding;

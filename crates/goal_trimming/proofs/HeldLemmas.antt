@@ -6,7 +6,7 @@ use Rattle.soar_rule.specs.Repeat.{Turn, ends, goes_on, turns}
 use Rattle.soar_wm.specs.declared.element.Element.{Element}
 use Rattle.goal_trimming.specs.Broken.{highest_broken_by}
 use Rattle.goal_trimming.specs.Held.{Held, held_after, kept_held, one_trim_held, settled_held, trimmed_held, without_broken_held, without_goals_held}
-use Rattle.goal_trimming.proofs.BrokenLemmas.{lost_within}
+use Rattle.dependency_tables.proofs.FindingLemmas.{found_within}
 
 -- tags are kept for each goal below the top
 abbrev pub Fits : Held → Type 0
@@ -33,7 +33,7 @@ leaves h depth fits low high =
 -- the depth that is found is that of a goal below the top
 pub broken_there : (h : Held) (elements : List Element) (depth : ℕ) → Fits h → highest_broken_by h.depends elements (kept_held h) 2 ≡ Some depth → (2 ≤ depth) × (depth ≤ length h.goals)
 broken_there h elements depth fits is =
-    let k = lost_within _ 2 h.depends depth is in
+    let k = found_within _ 2 h.depends depth is in
     let low = k.0 in
     let high = k.1 in (omega arith, omega arith)
 

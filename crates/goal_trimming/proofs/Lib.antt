@@ -1,5 +1,6 @@
 pub mod BrokenLemmas
 pub mod HeldLemmas
 pub mod KeptLemmas
+pub mod LostLemmas
 pub mod TagLemmas
 pub mod RoundLemmas

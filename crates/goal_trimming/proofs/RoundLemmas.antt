@@ -1,5 +1,5 @@
 -- One round of the code: what was settled, what is broken, and what goes.
-use Rattle.std.proofs.Common.{◌≡◌, refl, sym, ◌∙◌, ap, subst, ℕ, ◌-◌, ◌≤◌, List, length, map, take, Option, None}
+use Rattle.std.proofs.Common.{◌≡◌, refl, sym, ◌∙◌, ap, subst, ℕ, ◌-◌, ◌≤◌, Bool, true, false, List, length, map, take, Option, None}
 use Rattle.soar_sym.specs.declared.symbol.Triple.{Triple}
 use Rattle.soar_wm.specs.declared.element.Element.{Element}
 use Rattle.defs_soar.specs.declared.goal.Goal.{Goal}
@@ -9,9 +9,9 @@ use Rattle.defs_soar.specs.Preferences.{without_firings}
 use Rattle.defs_soar.specs.Settling.{Supports, kept_triples}
 use Rattle.defs_soar.specs.Trimming.{numbers_of}
 use Rattle.defs_soar.specs.Values.{has_triple_among}
-use Rattle.soar_prefs.specs.Memory.{PreferenceMemory}
+use Rattle.soar_prefs.specs.Memory.{PreferenceMemory, has_plain}
 use Rattle.kept_triples.specs.Kept.{KeptOf}
-use Rattle.settle_changes.specs.Rest.{IsAtRest, RestIsKept, settled_from}
+use Rattle.settle_changes.specs.Rest.{GrowsBy, IsAtRest, RestIsKept, settled_from}
 use Rattle.live_firings.specs.declared.live.Live.{Live}
 use Rattle.goal_trimming.specs.Broken.{highest_broken_by}
 use Rattle.goal_trimming.specs.Held.{Held, held_by, kept_held, room_of, settled_held, trimmed_held, with_supports_held, without_goals_held}
@@ -92,3 +92,17 @@ end_trims elements old new kept e history is = trims_by_tags history elements ol
 
 pub end_keeps : (elements : List Element) (old new : Held) (kept : List Triple) → 1 ≤ length old.goals → Fits old → IsEnd elements old new kept → KeepsFirst old new
 end_keeps elements old new kept some fits e = subst (λ (h : Held). KeepsFirst old h) (sym e.left) (trimmed_keeps elements old some fits)
+
+-- ---- what was looked at
+
+-- what is not named now was not named before
+unnamed : (old new : Bool) → (old ≡ true → new ≡ true) → new ≡ false → old ≡ false
+unnamed true new grows h = absurd (let clash : true ≡ false = sym (grows refl) ∙ h in cc)
+unnamed false new grows h = refl
+
+-- what changed in two steps is named behind both
+pub grows_on : (first second third : List Triple) (a b c : KeptOf) → GrowsBy first second a b → GrowsBy second third b c → GrowsBy first third a c
+grows_on first second third a b c h k = (
+  λ t is. k.0 t (h.0 t is),
+  λ t none. k.1 t none ∙ h.1 t (unnamed (has_plain second t) (has_plain third t) (k.0 t) none),
+)

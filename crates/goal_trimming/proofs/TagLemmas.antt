@@ -1,6 +1,7 @@
 -- Trimming by the tags on which each goal depends is trimming by the history.
 use Rattle.std.proofs.Common.{◌≡◌, refl, sym, ◌∙◌, ap, ℕ, zero, suc, ◌-◌, arith, List, [], ◌∷◌, length, Option, Some, None}
 use Rattle.std.specs.Prelude.{take, drop}
+use Rattle.std.proofs.lemmas.List.{take-map}
 use Rattle.soar_sym.specs.declared.symbol.Triple.{Triple}
 use Rattle.soar_rule.specs.Repeat.{Turn, ends, goes_on, turns}
 use Rattle.soar_wm.specs.declared.element.Element.{Element}
@@ -10,6 +11,7 @@ use Rattle.defs_soar.specs.History.{RecordedFiring}
 use Rattle.defs_soar.specs.Settling.{settled, kept_triples}
 use Rattle.defs_soar.specs.Standing.{dependencies_from}
 use Rattle.defs_soar.specs.Trimming.{highest_broken, one_trim, supports_of, RemovedGoal, Remains, trimmed, trimmed_by, with_supports, without_broken}
+use Rattle.dependency_tables.specs.Tables.{table_of, tables_of}
 use Rattle.goal_trimming.specs.Held.{Held, held_after, kept_held, one_trim_held, settled_held, trimmed_held, without_broken_held, without_goals_held}
 use Rattle.goal_trimming.specs.Trims.{AreDependencies, remains_of, Trims}
 use Rattle.goal_trimming.proofs.BrokenLemmas.{broken_by_tags}
@@ -35,6 +37,11 @@ left_depend history (suc (suc n)) goals =
     let two : n ≡ suc (suc n) - 2 = omega arith in
     ap (λ m. dependencies_from history 2 (drop 1 (take m goals))) one ∙ below_top history n goals ∙ ap (λ m. take m (dependencies_from history 2 (drop 1 goals))) two
 
+-- and so do their tables
+pub tables_left : (history : List RecordedFiring) (depth : ℕ) (goals : List Goal)
+    → tables_of (dependencies_from history 2 (drop 1 (take (depth - 1) goals))) ≡ take (depth - 2) (tables_of (dependencies_from history 2 (drop 1 goals)))
+tables_left history depth goals = ap tables_of (left_depend history depth goals) ∙ sym (take-map table_of (depth - 2) (dependencies_from history 2 (drop 1 goals)))
+
 -- ---- turn by turn
 
 module _ (history : List RecordedFiring) (elements : List Element) (limit : ℕ) where
@@ -42,7 +49,7 @@ module _ (history : List RecordedFiring) (elements : List Element) (limit : ℕ)
   abbrev pub with_tags : Remains → Held
   with_tags t = record {
     goals = t.goals;
-    depends = dependencies_from history 2 (drop 1 t.goals);
+    depends = tables_of (dependencies_from history 2 (drop 1 t.goals));
     prefs = record { rows = t.rows; limit = limit };
     inputs = t.inputs;
     live = t.live;
@@ -59,7 +66,7 @@ module _ (history : List RecordedFiring) (elements : List Element) (limit : ℕ)
     where
       go : (o : Option ℕ) → turn_with_tags (without_broken (with_supports t (settled t.goals (supports_of t))) o) ≡ without_broken_held (settled_held (with_tags t)) o
       go None = refl
-      go (Some depth) = ap (λ (depends : List (List ℕ)). goes_on (record (without_goals_held depth (settled_held (with_tags t))) { depends = depends })) (left_depend history depth t.goals)
+      go (Some depth) = ap (λ (depends : List (List ℕ)). goes_on (record (without_goals_held depth (settled_held (with_tags t))) { depends = depends })) (tables_left history depth t.goals)
 
   turned_by_tags : (n : ℕ) (t : Remains) → with_tags (trimmed_by (turns n (one_trim history elements) t)) ≡ held_after (turns n (one_trim_held elements) (with_tags t))
   turned_by_tags zero t = refl
@@ -99,6 +106,6 @@ trims_by_tags history elements old new kept is left keeps =
       prefs_are = ap (λ (h : Held). h.prefs) same;
       inputs_are = ap (λ (h : Held). h.inputs) same;
       live_are = ap (λ (h : Held). h.live) same;
-      depends_are = ap (λ (h : Held). h.depends) same ∙ ap (λ (h : Held). dependencies_from history 2 (drop 1 h.goals)) (sym same);
+      depends_are = ap (λ (h : Held). h.depends) same ∙ ap (λ (h : Held). tables_of (dependencies_from history 2 (drop 1 h.goals))) (sym same);
       kept_are = keeps ∙ ap (λ (h : Held). kept_held h) same;
     }

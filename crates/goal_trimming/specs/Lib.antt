@@ -1,3 +1,5 @@
 pub mod Broken
+pub mod Doubted
 pub mod Held
+pub mod Lost
 pub mod Trims

@@ -9,11 +9,12 @@ use Rattle.defs_soar.specs.Laws.{IsIn}
 use Rattle.defs_soar.specs.Settling.{kept_triples}
 use Rattle.defs_soar.specs.Standing.{dependencies_from}
 use Rattle.defs_soar.specs.Trimming.{Remains, supports_of, trimmed}
+use Rattle.dependency_tables.specs.Tables.{tables_of}
 use Rattle.goal_trimming.specs.Held.{Held}
 
--- the tags are those on which the goals below the top depend
+-- the tables are of the tags on which the goals below the top depend
 abbrev pub AreDependencies : List RecordedFiring → Held → Type 0
-AreDependencies history h = h.depends ≡ dependencies_from history 2 (drop 1 h.goals)
+AreDependencies history h = h.depends ≡ tables_of (dependencies_from history 2 (drop 1 h.goals))
 
 -- what may go, before any goal went
 abbrev pub remains_of : Held → Remains

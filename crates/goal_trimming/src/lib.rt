@@ -4,4 +4,4 @@
 mod broken;
 mod trimming;
 
-pub use trimming::{cut_depends, trim};
+pub use trimming::trim;

@@ -3,11 +3,13 @@ ghost use Rattle.defs_soar.specs.History.{RecordedFiring};
 ghost use Rattle.defs_soar.specs.Preferences.{without_firings};
 ghost use Rattle.defs_soar.specs.Trimming.{numbers_of};
 ghost use Rattle.settle_changes.specs.Rest.{GrowsBy, IsAtRest, IsTracked};
+ghost use Rattle.goal_trimming.specs.Doubted.{AreDoubted};
 ghost use Rattle.goal_trimming.specs.Held.{held_by, kept_held};
 ghost use Rattle.live_firings.specs.Living.{live_above, live_from, live_seen};
 ghost use Rattle.goal_trimming.specs.Trims.{AreDependencies, KeepsFirst, Trims};
 
 use crate::broken::highest_broken;
+use dependency_tables::Dependencies;
 use input_memory::Inputs;
 use kept_triples::Kept;
 use live_firings::{Live, leave_goals};
@@ -20,13 +22,15 @@ use std::alloc::Global;
 
 /// Settles, and as long as a goal below the top has lost an element on which it depends takes the highest such goal
 /// away with all below it, and settles again (Soar manual, chapter 2, goal dependency sets). `depends` has the tags on
-/// which each goal below the top depends, those of depth 2 first; `changed` names the inputs that changed since all was
-/// settled, and `memory` is working memory from then. Looks only at what changed, and notes in `touched` the triples that
-/// it looked at. Where memory is refused nothing is promised.
+/// which each goal below the top depends, and `doubted` those of them that may be of elements that were gone when all
+/// was settled; `changed` names the inputs that changed since, and `memory` is working memory from then. Looks only at
+/// what changed, and at the tags of that, and notes in `touched` the triples that it looked at. Where memory is refused
+/// nothing is promised.
 pub fn trim(
     alloc: Global,
     goals: &mut Goals,
-    depends: &mut List<List<u32>>,
+    depends: &mut Dependencies,
+    doubted: &List<u32>,
     prefs: &mut Prefs,
     inputs: &mut Inputs,
     changed: &mut List<Triple>,
@@ -37,6 +41,7 @@ pub fn trim(
 ) -> Result<(), NoMemory>
     requires fits { suc (length depends.old) ≡ length goals.old }
     requires tracked { IsTracked prefs.old inputs.old changed.old kept.old }
+    requires doubted { AreDoubted depends.old memory.now.elements kept.old.triples doubted.now }
     ensures trims { let old = held_by goals.old depends.old prefs.old inputs.old live.old in
         let new = held_by goals.new depends.new prefs.new inputs.new live.new in
         (history : ListOf RecordedFiring) → AreDependencies history old → OnOk result (Trims history memory.now.elements old new (kept_held new)) }
@@ -45,12 +50,14 @@ pub fn trim(
     ensures taken { OnOk result (prefs.new.settled ≡ prefs.new.rows) }
     ensures changed { OnOk result (changed.new ≡ []) }
     ensures touched { OnOk result (GrowsBy touched.old touched.new kept.old kept.new) }
+    ensures whole { OnOk result (AreDoubted depends.new memory.now.elements kept.new.triples []) }
 {
     rest_is_kept();
     changes_are_tracked();
     'rounds: loop {
         settle_changes(alloc, goals.list(), prefs, inputs, changed, kept, touched)?;
-        match highest_broken(memory, depends.as_slice(), kept) {
+        let broken = highest_broken(alloc, memory, depends, kept, doubted, touched.as_slice())?;
+        match broken {
             None => return Ok(()),
             Some(depth) => remove_from(depth, goals, depends, prefs, live),
         }
@@ -61,7 +68,7 @@ pub fn trim(
 fn remove_from(
     depth: usize,
     goals: &mut Goals,
-    depends: &mut List<List<u32>>,
+    depends: &mut Dependencies,
     prefs: &mut Prefs,
     live: &mut List<Live>,
 )
@@ -73,15 +80,6 @@ fn remove_from(
     ensures live { map live_seen live.new ≡ live_above depth (map live_seen live.old) }
 {
     goals.cut(depth);
-    cut_depends(depends, depth - 2);
+    depends.cut(depth - 2);
     leave_goals(depth, prefs, live);
-}
-
-/// Keeps the first lists of tags, so many.
-pub fn cut_depends(depends: &mut List<List<u32>>, count: usize)
-    ensures { depends.new ≡ take count depends.old }
-{
-    'depends: while count < depends.len() {
-        let _ = depends.pop();
-    }
 }

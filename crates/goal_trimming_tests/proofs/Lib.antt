@@ -1,1 +1,2 @@
+pub mod DoubtLemmas
 pub mod TrackedLemmas

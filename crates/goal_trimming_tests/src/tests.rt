@@ -1,8 +1,11 @@
 // A triple is written as the number of its state and its value. Each has the attribute `name`.
-ghost use Rattle.std.specs.Prelude.{◌≡◌, [], IfOk, OnOk};
+ghost use Rattle.std.specs.Prelude.{◌≡◌, ◌++◌, [], ◌∷◌, IfOk, OnOk};
+ghost use Rattle.dependency_tables.specs.Tables.{all_tags};
+ghost use Rattle.goal_trimming_tests.specs.Doubts.{AreOf};
 
 use defs_match::Instance;
 use defs_soar::{Impasse, PrefKind, Preference, Wish};
+use dependency_tables::Dependencies;
 use goal_trimming::trim;
 use input_memory::Inputs;
 use kept_triples::Kept;
@@ -20,7 +23,8 @@ use std::test::Fail;
 #[derive(Drop)]
 struct Scene {
     goals: Goals,
-    depends: List<List<u32>>,
+    depends: Dependencies,
+    doubted: List<u32>,
     prefs: Prefs,
     inputs: Inputs,
     live: List<Live>,
@@ -131,18 +135,50 @@ fn live_of(alloc: Global, firings: &[(u64, usize)]) -> Result<List<Live>, NoMemo
 }
 
 /// The tags on which the goals of depth 2 to 4 depend, one each.
-fn tags_of(alloc: Global, tags: &[u32]) -> Result<List<List<u32>>, NoMemory> {
-    let mut depends = List::new(alloc);
-    for tag in tags {
-        depends.push(List::from_slice(alloc, &[*tag])?)?;
-    }
+fn tags_of(alloc: Global, tags: &[u32]) -> Result<Dependencies, NoMemory>
+    ensures { IfOk result (λ depends. AreOf depends tags.now) }
+{
+    let found = one_each(alloc, tags)?;
+    let mut depends = three_tables(alloc)?;
+    depends.add(found.as_slice())?;
     Ok(depends)
+}
+
+/// Tables of three goals, without tags.
+fn three_tables(alloc: Global) -> Result<Dependencies, NoMemory>
+    ensures { IfOk result (λ depends. depends ≡ [] ∷ [] ∷ [] ∷ []) }
+{
+    let mut depends = Dependencies::new(alloc);
+    depends.push(alloc)?;
+    depends.push(alloc)?;
+    depends.push(alloc)?;
+    Ok(depends)
+}
+
+/// A list for each tag.
+fn one_each(alloc: Global, tags: &[u32]) -> Result<List<List<u32>>, NoMemory>
+    ensures { IfOk result (λ found. all_tags found ≡ tags.now) }
+{
+    let mut found = List::new(alloc);
+    'tags: for tag in tags {
+        add_alone(alloc, &mut found, *tag)?;
+    }
+    Ok(found)
+}
+
+fn add_alone(alloc: Global, found: &mut List<List<u32>>, tag: u32) -> Result<(), NoMemory>
+    ensures { OnOk result (all_tags found.new ≡ all_tags found.old ++ tag ∷ []) }
+{
+    let alone = List::from_slice(alloc, &[tag])?;
+    found.push(alone)?;
+    Ok(())
 }
 
 /// The four goals, which depend on these tags. S1's name 1 is held by an operator, its name 3 by firing 6 of depth 4;
 /// its names 2 and 4 are in working memory and nothing holds them.
 fn four_deep(alloc: Global, tags: [u32; 3]) -> Result<Scene, NoMemory>
-    ensures { IfOk result (λ scene. scene.prefs.settled ≡ []) }
+    ensures settled { IfOk result (λ scene. scene.prefs.settled ≡ []) }
+    ensures doubted { IfOk result (λ scene. AreOf scene.depends scene.doubted) }
 {
     let rows = [
         (1, 1, 1, true),
@@ -155,6 +191,7 @@ fn four_deep(alloc: Global, tags: [u32; 3]) -> Result<Scene, NoMemory>
     Ok(Scene {
         goals: four_goals(alloc)?,
         depends: tags_of(alloc, &tags)?,
+        doubted: List::from_slice(alloc, &tags)?,
         prefs: rows_of(alloc, &rows)?,
         inputs: inputs_of(alloc, &[triple(1, 5), triple(2, 5)])?,
         live: live_of(alloc, &firings)?,
@@ -162,9 +199,11 @@ fn four_deep(alloc: Global, tags: [u32; 3]) -> Result<Scene, NoMemory>
     })
 }
 
-/// Trims, where each goal below the top has its tags, and tells what is kept. All inputs came since nothing was there.
+/// Trims, where each goal below the top has its tags, and tells what is kept. All inputs came since nothing was there, so
+/// each tag is doubted.
 fn trim_scene(alloc: Global, scene: &mut Scene) -> Result<Kept, NoMemory>
-    requires { scene.old.prefs.settled ≡ [] }
+    requires settled { scene.old.prefs.settled ≡ [] }
+    requires doubted { AreOf scene.old.depends scene.old.doubted }
 {
     changes_are_tracked();
     if scene.goals.list().len() - 1 != scene.depends.len() {
@@ -177,6 +216,7 @@ fn trim_scene(alloc: Global, scene: &mut Scene) -> Result<Kept, NoMemory>
         alloc,
         &mut scene.goals,
         &mut scene.depends,
+        &scene.doubted,
         &mut scene.prefs,
         &mut scene.inputs,
         &mut changed,

@@ -1,4 +1,9 @@
 pub mod AgendaLemmas
 pub mod BeginLemmas
+pub mod EndLemmas
+pub mod LinkLemmas
 pub mod LoopLemmas
+pub mod RelinkLemmas
+pub mod SpreadLemmas
+pub mod StillLemmas
 pub mod TurnLemmas

@@ -1,17 +1,21 @@
 // The nodes that a change reaches, served in the order in which they were made.
-ghost use Rattle.std.specs.Prelude.{◌≡◌, ◌↔◌, ◌⊎◌, ◌+◌, List as ListOf, OnOk, IfOk};
+ghost use Rattle.std.specs.Prelude.{◌≡◌, ◌↔◌, ◌⊎◌, ◌+◌, false, List as ListOf, OnOk, IfOk};
 ghost use Rattle.slab.specs.Slab.{get};
 ghost use Rattle.defs_match.specs.Laws.{IsIn, ElementsDiffer};
 ghost use Rattle.soar_wm.specs.declared.element.Element.{Element as ElementOf};
 ghost use Rattle.node_memory.specs.Changes.{ElementsChange};
 ghost use Rattle.node_memory.specs.Held.{listed, SameElements};
 ghost use Rattle.node_table.specs.Content.{IsTable, Stands, AllHold};
+ghost use Rattle.node_table.specs.Hearing.{AllAsk, AllHear};
 ghost use Rattle.node_agenda.specs.Turns.{TurnOf, under, with_turn, with_turns};
-ghost use Rattle.node_agenda.specs.Agenda.{is_changed, GoesOn, IsLoop, IsLinked, Settles, AreServed, AllTell};
+ghost use Rattle.node_agenda.specs.Agenda.{is_changed, GoesOn, IsLoop, Settles, AreServed, AllTell};
+ghost use Rattle.node_agenda.specs.Links.{AreLinked};
 
+use crate::relinking::{heard, relink};
 use crate::turns::{Turn, TurnIndex};
 use node_memory::ElementIndex;
 use node_table::{Node, serve};
+use rete_alpha::Alpha;
 use slab::Slab;
 use soar_sym::{List, NoMemory};
 use soar_wm::Element;
@@ -77,21 +81,29 @@ fn go_on(
     Ok(())
 }
 
-/// Serves the nodes that a change reaches, and answers which. At the end each node holds its rows over the elements after the change, served or not.
+/// Serves the nodes that a change reaches, and answers which. At the end each node holds its rows over the elements after the change, served or not,
+/// and hears of what may change them from then on.
 pub fn settle(
     alloc: Global,
     nodes: &mut Slab<Node>,
     agenda: &mut BTreeSet<Turn>,
-    below: &TurnIndex,
+    below: &mut TurnIndex,
+    takers: &mut TurnIndex,
+    alpha: &Alpha,
     stamp: u64,
     end: u64,
     index: &ElementIndex,
     come: Option<Element>,
     goes: Option<Element>,
 ) -> Result<List<usize>, NoMemory>
-    requires { IsLoop (get nodes.old) agenda.old.keys below.now stamp 0 end come goes }
+    requires loops { IsLoop (get nodes.old) agenda.old.keys below.old alpha.now.elements stamp 0 end come goes }
+    requires works { alpha.now.failed ≡ false }
+    requires asked { AllAsk (get nodes.old) alpha.now }
+    requires same { SameElements index.now alpha.now.elements }
+    requires linked { AreLinked (get nodes.old) below.old takers.old }
     ensures table { OnOk result (IsTable (get nodes.new) end) }
-    ensures links { OnOk result (IsLinked (get nodes.new) below.now) }
+    ensures linked { OnOk result (AreLinked (get nodes.new) below.new takers.new) }
+    ensures hear { OnOk result (AllHear (get nodes.new) alpha.now.elements) }
     ensures settles { OnOk result (Settles (get nodes.old) (get nodes.new) stamp) }
     ensures served { IfOk result (λ served. AreServed (get nodes.new) stamp served) }
     ensures tell { OnOk result ((w0 w1 : ListOf ElementOf) → Stands (get nodes.old) stamp w0 w1 → ElementsChange w0 w1 (listed come) (listed goes) → SameElements index.now w1 → ElementsDiffer w1 → AllTell (get nodes.new) stamp w0 w1) }
@@ -100,8 +112,10 @@ pub fn settle(
     let mut floor: u64 = 0;
     let mut served = List::new(alloc);
     'turns: while let Some(turn) = agenda.pop_first() {
-        serve(alloc, nodes, turn.node, stamp, index, come, goes)?;
+        let was = heard(nodes, turn.node);
+        serve(alloc, nodes, alpha, turn.node, stamp, index, come, goes)?;
         go_on(alloc, agenda, nodes, turn.node, below)?;
+        relink(nodes, turn.node, was, below, takers)?;
         served.push(turn.node)?;
         floor = turn.made + 1;
     }

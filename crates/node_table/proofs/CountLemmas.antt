@@ -1,5 +1,5 @@
 -- The table as requests for a node are counted.
-use Rattle.std.proofs.Common.{◌≡◌, ◌≢◌, inl, inr, refl, sym, ap, subst, ◌∙◌, ℕ, zero, ◌<◌, Option, Some, List}
+use Rattle.std.proofs.Common.{◌≡◌, ◌≢◌, inl, inr, refl, sym, ap, subst, ◌∙◌, ℕ, zero, ◌<◌, Option, Some, List, []}
 use Rattle.std.proofs.lemmas.Option.{same_Some}
 use Rattle.std.proofs.lemmas.Bool.{cases_eq}
 use Rattle.std.specs.Prelude.{option_and_then}
@@ -12,6 +12,8 @@ use Rattle.node_table.specs.declared.node.Node.{Node}
 use Rattle.node_table.specs.Nodes.{key_at, key_of, IsNumbered}
 use Rattle.node_table.specs.Serving.{found, tags_after, AreIndexed}
 use Rattle.node_table.specs.Content.{content, IsTable, AllHold}
+use Rattle.node_table.specs.Hearing.{AllHear}
+use Rattle.node_table.proofs.HearLemmas.{hear_alike}
 
 -- two live nodes of one key are one
 pub one_of_key : (number : NodeKey → Option ℕ) (nodes : ℕ → Option Node) → IsNumbered number (key_at nodes) → (m n : ℕ) (key : NodeKey) → key_at nodes m ≡ Some key → key_at nodes n ≡ Some key → m ≡ n
@@ -79,3 +81,16 @@ module _ (old new : ℕ → Option Node) (n end : ℕ) (t : IsTable old end) (no
       subst (λ (x : Memory). Holds (found x) (content (key_at new) m.made k w)) (sym (ap (λ (x : Node). x.memory) o.2.kept))
       (subst (λ (h : ℕ). Holds (found o.0.memory) (content (key_at new) h k w)) (sym (ap (λ (x : Node). x.made) o.2.kept))
       (subst (λ (f : ℕ → Option NodeKey). Holds (found o.0.memory) (content f o.0.made k w)) (sym keys_counted) (all k o.0 o.1)))
+
+  pub hear_counted : (w : List Element) → AllHear old w → AllHear new w
+  hear_counted w all =
+      hear_alike old new w (λ k m there.
+      let o = was_counted k m there in (
+        o.0,
+        o.1,
+        record {
+          key = ap (λ (x : Node). x.key) o.2.kept;
+          hears = ap (λ (x : Node). x.hears) o.2.kept;
+          none = λ h. subst (λ (x : Memory). Holds (found x) []) (sym (ap (λ (x : Node). x.memory) o.2.kept)) h;
+        },
+      )) all

@@ -1,5 +1,5 @@
 -- The table as nodes come and go.
-use Rattle.std.proofs.Common.{◌≡◌, ◌≢◌, ◌⊎◌, inl, inr, refl, sym, ap, subst, ◌∙◌, ℕ, zero, suc, ◌+◌, ◌<◌, List, Option, Some, None, arith}
+use Rattle.std.proofs.Common.{◌≡◌, ◌≢◌, ◌⊎◌, inl, inr, refl, sym, ap, subst, ◌∙◌, ℕ, zero, suc, ◌+◌, ◌<◌, List, [], Option, Some, None, arith}
 use Rattle.std.proofs.lemmas.Option.{same_Some}
 use Rattle.std.proofs.lemmas.Bool.{cases_eq}
 use Rattle.std.specs.Prelude.{option_and_then}
@@ -13,6 +13,8 @@ use Rattle.node_table.specs.Nodes.{key_at, key_of, uppers}
 use Rattle.node_table.specs.Serving.{found, stepped, tags_after, AreIndexed, CanJoin}
 use Rattle.node_table.specs.Content.{after, content, IsAbove, IsBelow, IsTable, AllHold}
 use Rattle.node_table.specs.Making.{HoldsAt, IsFilled}
+use Rattle.node_table.specs.Hearing.{HasNoRows, MayHear, AllHear}
+use Rattle.node_table.proofs.HearLemmas.{hear_moves}
 use Rattle.node_table.proofs.ContentLemmas.{after_same, content_at, content_step, content_one_each}
 
 -- Where a table is part of another, the nodes of the first have the same rows in both.
@@ -151,3 +153,18 @@ module _ (old new : ℕ → Option Node) (end n : ℕ) (t : IsTable old end) (no
       own = subst (λ (rs : List Row). Holds (found node.memory) rs) (sym step)
           (filled (λ i. content (key_at new) (end + 1) i w) w held same
           (λ x y a b tags_. content_one_each (key_at new) node.made n w differ x y (subst (λ (rs : List Row). IsIn x rs) (sym step) a) (subst (λ (rs : List Row). IsIn y rs) (sym step) b) tags_))
+
+  -- it hears enough, and so do the others
+  pub more_hear : (w : List Element) → AllHear old w → MayHear old key w node.hears.rows node.hears.elements → AllHear new w
+  more_hear w all enough k m q there own = elim (is_new k m there) [
+    | inl e ↦ (
+        let same : key ≡ q = same_Some key q (sym keyed ∙ ap (λ (x : Node). x.key) e.1 ∙ own) in
+        subst (λ (x : Node). MayHear new q w x.hears.rows x.hears.elements) e.1
+        (subst (λ (r : NodeKey). MayHear new r w node.hears.rows node.hears.elements) same (hear_moves old new key w node.hears.rows node.hears.elements (still_none key.parent parent above) enough)))
+    | inr was ↦ (
+        let b = t.below k m q was own in
+        hear_moves old new q w m.hears.rows m.hears.elements (still_none q.parent b.parent b.above) (all k m q was own))
+  ]
+    where
+      still_none : (p : ℕ) (u : Node) → old p ≡ Some u → HasNoRows old p → HasNoRows new p
+      still_none p u there_ none x up = subst (λ (y : Node). Holds (found y.memory) []) (same_Some u x (sym (still_there p u there_) ∙ up)) (none u there_)

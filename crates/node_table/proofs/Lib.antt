@@ -4,6 +4,7 @@ pub mod CountLemmas
 pub mod DropLemmas
 pub mod FillLemmas
 pub mod GrowLemmas
+pub mod HearLemmas
 pub mod KeyLemmas
 pub mod MakeLemmas
 pub mod MakingLemmas

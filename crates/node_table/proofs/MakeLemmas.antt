@@ -16,9 +16,10 @@ use Rattle.node_table.specs.Content.{IsTable, AllHold}
 use Rattle.node_table.specs.Asked.{asker, asker_by, asker_of, IsAsked}
 use Rattle.node_table.specs.Making.{IsReady, IsParent, IsBelowIt, IsWhole, AsksFor, Adds, Seen, seen, seen_at}
 use Rattle.node_table.proofs.NumberLemmas.{numbered_same}
-use Rattle.node_table.proofs.MakingLemmas.{keys_kept, table_kept, hold_kept}
+use Rattle.node_table.specs.Hearing.{MayHear, AllHear}
+use Rattle.node_table.proofs.MakingLemmas.{keys_kept, table_kept, hold_kept, hear_kept}
 use Rattle.node_table.proofs.AskedLemmas.{asks_at, kept_asked, came_asked}
-use Rattle.node_table.proofs.GrowLemmas.{table_more, more_hold}
+use Rattle.node_table.proofs.GrowLemmas.{table_more, more_hold, more_hear}
 
 pub live_at : {A : Type 0} (o : Option A) → IsSome o → (x : A) × (o ≡ Some x)
 live_at None h = absurd (cc)
@@ -96,9 +97,10 @@ module _ (number : NodeKey → Option ℕ) (xs mid : List (Option Node)) (alpha 
 
     pub made_adds : Adds (at xs) (at ys) key a end n
     made_adds = record {
+      hears = node.hears;
       vacant = (let ne : n ≢ key.parent = λ e. (let none : at mid key.parent ≡ None = ap (at mid) (sym e) ∙ vacant in cc) in sym (others n ne) ∙ vacant);
       here =
-          let told : seen node ≡ record { key = Some key; made = end; stamp = 0; alpha = a; requests = 1 } = λ i. record { key = new.keyed i; made = new.made i; stamp = new.stamp i; alpha = new.alpha i; requests = new.requests i } in
+          let told : seen node ≡ record { key = Some key; made = end; stamp = 0; alpha = a; hears = node.hears; requests = 1 } = λ i. record { key = new.keyed i; made = new.made i; stamp = new.stamp i; alpha = new.alpha i; hears = node.hears; requests = new.requests i } in
           ap (option_map seen) there ∙ ap (λ (s : Seen). let o : Option Seen = Some s in o) told;
       others = λ k ne. ap (option_map seen) (rest k ne) ∙ seen_kept k;
     }
@@ -107,3 +109,8 @@ module _ (number : NodeKey → Option ℕ) (xs mid : List (Option Node)) (alpha 
     made_holds w all same differ =
         more_hold (at mid) (at ys) end n ready_table node now key vacant there rest new.keyed is live_mid new.tags new.made new.requests ready.joined new.indexed index w
         (hold_kept (at xs) (at mid) key.parent end key.step whole.table p0 now here is ready others w all) same differ new.filled
+
+    pub made_hears : (w : List Element) → AllHear (at xs) w → MayHear (at mid) key w node.hears.rows node.hears.elements → AllHear (at ys) w
+    made_hears w all enough =
+        more_hear (at mid) (at ys) end n ready_table node now key vacant there rest new.keyed is live_mid new.tags new.made new.requests ready.joined new.indexed w
+        (hear_kept (at xs) (at mid) key.parent end key.step whole.table p0 now here is ready others w all) enough

@@ -21,6 +21,8 @@ use Rattle.node_table.specs.Nodes.{key_at, key_of}
 use Rattle.node_table.specs.Serving.{found, first_of, tags_after, AreIndexed}
 use Rattle.node_table.specs.Content.{content, IsTable, AllHold}
 use Rattle.node_table.specs.Making.{IsReady}
+use Rattle.node_table.specs.Hearing.{AllHear}
+use Rattle.node_table.proofs.HearLemmas.{none_same, hear_alike}
 
 pub any_in : (v : Joined) (xs : List Joined) → list_any (λ x. joined_eq x v) xs ≡ true → IsIn v xs
 any_in v [] h = absurd (cc)
@@ -103,3 +105,9 @@ module _ (old new : ℕ → Option Node) (n end : ℕ) (step : Step) (t : IsTabl
         (λ h. subst (λ (rs : List Row). IsIn x rs) (sym rows_are) ((held x).0 (sym finds ∙ h))),
         (λ i. finds ∙ (held x).1 (subst (λ (rs : List Row). IsIn x rs) rows_are i)),
       )
+
+  pub hear_kept : (w : List Element) → AllHear old w → AllHear new w
+  hear_kept w all =
+      hear_alike old new w (λ k m there.
+      let o = was_kept k m there in
+      (o.0, o.1, record { key = ap (λ (x : Node). x.key) o.2.same; hears = ap (λ (x : Node). x.hears) o.2.same; none = λ h. none_same o.0.memory m.memory o.2.rows h })) all

@@ -13,6 +13,7 @@ use Rattle.node_memory.specs.Held.{Holds, SameElements}
 use Rattle.node_table.specs.declared.node.Step.{Step}
 use Rattle.node_table.specs.declared.node.Step.TheVariants.{Join, Negation}
 use Rattle.node_table.specs.declared.node.NodeKey.{NodeKey}
+use Rattle.node_table.specs.declared.node.Hears.{Hears}
 use Rattle.node_table.specs.declared.node.Node.{Node}
 use Rattle.node_table.specs.Nodes.{key_at, inner_of, uppers, IsNumbered}
 use Rattle.node_table.specs.Serving.{found, AreIndexed, CanJoin, stepped, tags_after}
@@ -73,18 +74,20 @@ pub record Seen : Type 0 where
   pub made : ℕ
   pub stamp : ℕ
   pub alpha : ℕ
+  pub hears : Hears
   pub requests : ℕ
 
 abbrev pub seen : Node → Seen
-seen node = record { key = node.key; made = node.made; stamp = node.stamp; alpha = node.alpha; requests = node.requests }
+seen node = record { key = node.key; made = node.made; stamp = node.stamp; alpha = node.alpha; hears = node.hears; requests = node.requests }
 
 abbrev pub seen_at : (ℕ → Option Node) → ℕ → Option Seen
 seen_at nodes n = option_map seen (nodes n)
 
 -- a node of this key, and the others as they were, but for their indices
 pub record Adds (old new : ℕ → Option Node) (key : NodeKey) (number time n : ℕ) : Type 0 where
+  pub hears : Hears
   pub vacant : old n ≡ None
-  pub here : seen_at new n ≡ Some (record { key = Some key; made = time; stamp = 0; alpha = number; requests = 1 })
+  pub here : seen_at new n ≡ Some (record { key = Some key; made = time; stamp = 0; alpha = number; hears = hears; requests = 1 })
   pub others : (k : ℕ) → k ≢ n → seen_at new k ≡ seen_at old k
 
 -- the keys, the nodes and what they ask for

@@ -3,6 +3,7 @@
 
 mod dropping;
 mod filling;
+mod hearing;
 mod instances;
 mod making;
 mod node;
@@ -13,6 +14,6 @@ mod serving;
 pub use dropping::drop_node;
 pub use instances::tokens;
 pub use making::make;
-pub use node::{Node, NodeKey, Step};
+pub use node::{Hears, Node, NodeKey, Step};
 pub use requests::ask_again;
 pub use serving::serve;

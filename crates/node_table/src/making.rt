@@ -1,21 +1,23 @@
 // A new node, from its parent made ready to its request for its pattern.
-ghost use Rattle.std.specs.Prelude.{◌≡◌, ◌+◌, ℕ, List as ListOf, false, Some, None, IsSome, OnOk, IfOk};
+ghost use Rattle.std.specs.Prelude.{◌≡◌, ◌+◌, ℕ, List as ListOf, [], true, false, Some, None, IsSome, OnOk, IfOk};
 ghost use Rattle.std.specs.BTreeMap as numbers_of;
 ghost use Rattle.slab.specs.Slab.{get};
 ghost use Rattle.defs_match.specs.Laws.{IsIn, ElementsDiffer};
 ghost use Rattle.soar_wm.specs.declared.element.Element.{Element as ElementOf};
-ghost use Rattle.node_memory.specs.Held.{SameElements};
+ghost use Rattle.node_memory.specs.Held.{Holds, SameElements};
 ghost use Rattle.node_table.specs.Nodes.{key_cmp, inner_of};
-ghost use Rattle.node_table.specs.Serving.{tags_after};
+ghost use Rattle.node_table.specs.Serving.{found, tags_after};
 ghost use Rattle.node_table.specs.Content.{AllHold};
+ghost use Rattle.node_table.specs.Hearing.{hears_some, IsBarren, MayHear, AllHear};
 ghost use Rattle.node_table.specs.Making.{IsParent, IsNewNode, IsWhole, AsksFor, Adds};
 
 use crate::filling::fill;
-use crate::node::{Node, NodeKey, Step};
+use crate::hearing::{has_members, has_rows, hears};
+use crate::node::{Hears, Node, NodeKey, Step};
 use crate::readying::index_at;
 use crate::requests::ask_first;
 use join_parts::constants_of;
-use node_memory::ElementIndex;
+use node_memory::{ElementIndex, Memory};
 use rete_alpha::Alpha;
 use slab::Slab;
 use soar_sym::NoMemory;
@@ -57,6 +59,19 @@ fn ask_pattern(alpha: &mut Alpha, step: &Step) -> Result<usize, NoMemory>
     }
 }
 
+/// What a new node hears of: of rows, until there is one.
+fn first_heard(parent: &Memory, members: bool) -> Hears
+    ensures elements { result.elements ≡ false → Holds (found parent.now) [] }
+    ensures rows { result.rows ≡ false → members ≡ false }
+    ensures either { hears_some result ≡ true }
+{
+    let none = Hears {
+        rows: true,
+        elements: false,
+    };
+    hears(none, has_rows(parent), members, true)
+}
+
 /// A new node below a parent that is ready, with its rows.
 fn new_node(
     alloc: Global,
@@ -65,9 +80,11 @@ fn new_node(
     index: &ElementIndex,
     alpha: usize,
     made: u64,
+    members: bool,
 ) -> Result<Node, NoMemory>
     requires { IsParent (get nodes.now) key.now }
-    ensures { IfOk result (λ node. IsNewNode (get nodes.now) key.now index.now alpha made node) }
+    ensures new { IfOk result (λ node. IsNewNode (get nodes.now) key.now index.now alpha made node) }
+    ensures hears { IfOk result (λ node. (w : ListOf ElementOf) → (members ≡ false → IsBarren key.now.step w) → MayHear (get nodes.now) key.now w node.hears.rows node.hears.elements) }
 {
     let Some(parent) = nodes.get(key.parent) else {
         unreachable!();
@@ -84,6 +101,7 @@ fn new_node(
         made,
         stamp: 0,
         alpha,
+        hears: first_heard(&parent.memory, members),
         requests: 1,
         memory,
         come: Vec::new(alloc),
@@ -110,11 +128,13 @@ pub fn make(
     ensures elements { OnOk result (alpha.new.elements ≡ alpha.old.elements) }
     ensures whole { OnOk result (IsWhole (numbers_of.get key_cmp numbers.new) nodes.new.slots alpha.new (made + 1)) }
     ensures adds { IfOk result (λ n. (number : ℕ) × AsksFor alpha.old alpha.new key.step number × Adds (get nodes.old) (get nodes.new) key number made n) }
+    ensures hear { OnOk result (AllHear (get nodes.old) alpha.old.elements → AllHear (get nodes.new) alpha.new.elements) }
     ensures hold { OnOk result ((w : ListOf ElementOf) → AllHold (get nodes.old) w → SameElements index.now w → ElementsDiffer w → AllHold (get nodes.new) w) }
 {
     index_at(alloc, nodes, key.parent, &key.step)?;
     let number = ask_pattern(alpha, &key.step)?;
-    let node = new_node(alloc, nodes, &key, index, number, made)?;
+    let members = has_members(alpha, &key.step, number);
+    let node = new_node(alloc, nodes, &key, index, number, made, members)?;
     let n = ask_first(numbers, nodes, key, node)?;
     Ok(n)
 }

@@ -21,6 +21,16 @@ pub struct NodeKey {
     pub step: Step,
 }
 
+/// What a node hears of. What can't change its rows it may leave out, but not both.
+#[derive(Clone, Copy)]
+pub struct Hears {
+    /// The rows that come to the nodes that it reads, and those that go from them.
+    pub rows: bool,
+
+    /// The elements that its pattern takes.
+    pub elements: bool,
+}
+
 /// A node: its rows, and what the last change that it served made of them. The root has no key.
 #[derive(Drop)]
 pub struct Node {
@@ -37,6 +47,7 @@ pub struct Node {
 
     /// The number of its pattern memory, where it is a join.
     pub alpha: usize,
+    pub hears: Hears,
     pub requests: u64,
     pub memory: Memory,
     pub come: Vec<Row>,

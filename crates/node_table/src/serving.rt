@@ -1,15 +1,18 @@
 // Serving a node, in the table of nodes.
-ghost use Rattle.std.specs.Prelude.{◌≡◌, ◌≢◌, ℕ, Some, OnOk, IfOk, IfSome, IsSome};
+ghost use Rattle.std.specs.Prelude.{◌≡◌, ◌≢◌, ℕ, false, Some, OnOk, IfOk, IfSome, IsSome};
 ghost use Rattle.slab.specs.Slab.{get};
 ghost use Rattle.node_table.specs.Nodes.{NodeOf};
 ghost use Rattle.node_table.specs.Serving.{found, AreIndexed, CanJoin, TellsJoin, TellsNegation, come_at, gone_at, IsKeyed, HasChange, TakesAt, ServedAt, IsServed};
+ghost use Rattle.node_table.specs.Hearing.{AllAsk, HearsAfter};
 ghost use Rattle.node_table.specs.declared.node.Step.TheVariants.{Join};
 
-use crate::node::{Node, Step};
+use crate::hearing::hears_at;
+use crate::node::{Hears, Node, Step};
 use join_parts::{come_to_join, go_from_join};
 use match_row::Row;
 use negation_parts::{come_to_negation, go_from_negation};
 use node_memory::{ElementIndex, change};
+use rete_alpha::Alpha;
 use slab::Slab;
 use soar_rule::Pattern;
 use soar_sym::{List, NoMemory};
@@ -17,7 +20,7 @@ use soar_wm::Element;
 use std::alloc::Global;
 
 /// The rows that came to a node at a change: none, where it was not served.
-fn come_at(node: &Node, stamp: u64) -> &[Row]
+pub fn come_at(node: &Node, stamp: u64) -> &[Row]
     ensures { result.now ≡ come_at stamp node.now }
 {
     if node.stamp == stamp {
@@ -28,7 +31,7 @@ fn come_at(node: &Node, stamp: u64) -> &[Row]
 }
 
 /// The tags of the rows that went from a node at a change.
-fn gone_at(node: &Node, stamp: u64) -> &[List<u32>]
+pub fn gone_at(node: &Node, stamp: u64) -> &[List<u32>]
     ensures { result.now ≡ gone_at stamp node.now }
 {
     if node.stamp == stamp {
@@ -148,13 +151,16 @@ fn take_change(
     alloc: Global,
     node: &mut Node,
     stamp: u64,
+    hears: Hears,
     come: Vec<Row>,
     gone: Vec<List<u32>>,
 ) -> Result<(), NoMemory>
     requires indexed { AreIndexed node.old.memory }
-    ensures { OnOk result (IsServed node.old node.new stamp come.items gone.items) }
+    ensures served { OnOk result (IsServed node.old node.new stamp come.items gone.items) }
+    ensures hears { OnOk result (node.new.hears ≡ hears) }
 {
     change(alloc, &mut node.memory, come.as_slice(), gone.as_slice())?;
+    node.hears = hears;
     node.come = come;
     node.gone = gone;
     node.stamp = stamp;
@@ -167,33 +173,41 @@ fn take_change_at(
     nodes: &mut Slab<Node>,
     n: usize,
     stamp: u64,
+    hears: Hears,
     come: Vec<Row>,
     gone: Vec<List<u32>>,
 ) -> Result<(), NoMemory>
     requires { IfSome (get nodes.old n) (λ node. AreIndexed node.memory) }
     ensures takes { OnOk result (TakesAt (get nodes.old n) (get nodes.new n) stamp come.items gone.items) }
+    ensures hears { OnOk result ((now : NodeOf) → get nodes.new n ≡ Some now → now.hears ≡ hears) }
     ensures others { OnOk result ((k : ℕ) → k ≢ n → get nodes.new k ≡ get nodes.old k) }
 {
     match nodes.get_mut(n) {
-        Some(node) => take_change(alloc, node, stamp, come, gone),
+        Some(node) => take_change(alloc, node, stamp, hears, come, gone),
         None => Ok(()),
     }
 }
 
-/// Serves a node: works out what the changes of the rows that it reads and of the elements make of its rows, and puts it into effect.
+/// Serves a node: works out what the changes of the rows that it reads and of the elements make of its rows, and what it has to hear of
+/// from then on, and puts it into effect.
 pub fn serve(
     alloc: Global,
     nodes: &mut Slab<Node>,
+    alpha: &Alpha,
     n: usize,
     stamp: u64,
     index: &ElementIndex,
     come: Option<Element>,
     goes: Option<Element>,
 ) -> Result<(), NoMemory>
-    requires { IsKeyed (get nodes.old) n }
-    ensures { OnOk result (ServedAt (get nodes.old) (get nodes.new) n stamp index.now come goes) }
+    requires keyed { IsKeyed (get nodes.old) n }
+    requires works { alpha.now.failed ≡ false }
+    requires asked { AllAsk (get nodes.old) alpha.now }
+    ensures served { OnOk result (ServedAt (get nodes.old) (get nodes.new) n stamp index.now come goes) }
+    ensures hears { OnOk result (HearsAfter (get nodes.old) (get nodes.new) n alpha.now.elements) }
 {
     let (added, removed) = change_at(alloc, nodes, n, stamp, index, come, goes)?;
-    take_change_at(alloc, nodes, n, stamp, added, removed)?;
+    let hears = hears_at(nodes, alpha, n, stamp);
+    take_change_at(alloc, nodes, n, stamp, hears, added, removed)?;
     Ok(())
 }

@@ -1,9 +1,7 @@
 pub mod AgendaLemmas
 pub mod ElementLemmas
-pub mod LinkLemmas
 pub mod NetworkLemmas
 pub mod SettleLemmas
-pub mod SpreadLemmas
 pub mod StartLemmas
 pub mod ToldLemmas
 pub mod ViewLemmas

@@ -1,5 +1,5 @@
 -- A network as nodes are asked for and dropped.
-use Rattle.std.proofs.Common.{◌≡◌, ◌≢◌, ◌↔◌, ◌⊎◌, inl, inr, refl, sym, ap, ◌∙◌, Bool, true, false, cond, nat_lt, ℕ, zero, ◌-◌, ◌<◌, List, Option, Some, None, slice_index_or, arith}
+use Rattle.std.proofs.Common.{◌≡◌, ◌≢◌, ◌↔◌, inl, inr, refl, sym, ap, ◌∙◌, Bool, true, false, cond, nat_lt, ℕ, zero, ◌-◌, ◌<◌, List, Option, Some, None, slice_index_or, arith}
 use Rattle.std.proofs.lemmas.Option.{same_Some}
 use Rattle.std.proofs.lemmas.Bool.{cases_eq, ltb-true}
 use Rattle.std.specs.Prelude.{option_and_then}
@@ -11,16 +11,21 @@ use Rattle.node_table.specs.declared.node.NodeKey.{NodeKey}
 use Rattle.node_table.specs.declared.node.Node.{Node}
 use Rattle.node_table.specs.Nodes.{key_at, key_of, one_more, one_less, IsNumbered}
 use Rattle.node_table.specs.Content.{IsTable, AllHold}
+use Rattle.node_table.specs.Hearing.{AllHear}
 use Rattle.node_table.specs.Asked.{asker}
 use Rattle.node_table.specs.Making.{IsWhole, Adds, Seen, seen, seen_at}
 use Rattle.node_table.proofs.NumberLemmas.{numbered_same}
 use Rattle.node_table.proofs.AskedLemmas.{kept_asked}
-use Rattle.node_table.proofs.CountLemmas.{table_counted, hold_counted}
+use Rattle.node_table.proofs.CountLemmas.{table_counted, hold_counted, hear_counted}
+use Rattle.node_table.proofs.HearLemmas.{hear_part}
 use Rattle.node_table.proofs.GrowLemmas.{table_less, part_holds}
 use Rattle.node_agenda.specs.declared.turns.TurnKey.{TurnKey}
 use Rattle.rete_beta.specs.Joins.{Asked, Asks, asked_more, asked_less, CanDrop, Drops}
-use Rattle.rete_beta.specs.Networks.{links_of, takers_of, IsSpread, asked_of, asked_in, has_more}
-use Rattle.rete_beta.proofs.SpreadLemmas.{spread_same, spread_more, spread_less, links_own, takers_own}
+use Rattle.node_agenda.specs.Agenda.{turn_of}
+use Rattle.node_agenda.specs.Links.{links_by, links_of, takers_by, takers_of, IsSpread, Relinks}
+use Rattle.node_agenda.proofs.SpreadLemmas.{spread_same, spread_less, links_own, takers_own}
+use Rattle.node_agenda.proofs.RelinkLemmas.{spread_relinked}
+use Rattle.rete_beta.specs.Networks.{asked_of, asked_in, has_more}
 
 -- ---- what a node is asked for
 
@@ -58,22 +63,30 @@ asks_new number old new key a time n numbered none adds =
       others = λ k ne. asked_seen new k ∙ ap (option_map asked_by) (adds.others k ne) ∙ sym (asked_seen old k);
     }
 
--- the keys of who reads what, with those of a node that comes
-pub links_more : (old new : ℕ → Option Node) (key : NodeKey) (a time n : ℕ) (keys0 keys1 : List TurnKey) → Adds old new key a time n → IsSpread links_of (seen_at old) keys0
-    → ((c : TurnKey) → IsIn c keys1 ↔ (IsIn c (links_of (seen_at new n) n) ⊎ IsIn c keys0)) → IsSpread links_of (seen_at new) keys1
-links_more old new key a time n keys0 keys1 adds s all =
-    spread_more links_of links_own (seen_at old) (seen_at new) n keys0 keys1 s (ap (λ (o : Option Node). links_of (option_map seen o) n) adds.vacant) (λ k ne. ap (λ (o : Option Seen). links_of o k) (adds.others k ne)) all
+-- the keys of who hears of what, with those of a node that comes
+module _ (old new : ℕ → Option Node) (key : NodeKey) (a time n : ℕ) (keys0 keys1 : List TurnKey) (adds : Adds old new key a time n) where
+  its : (node : Node) × (new n ≡ Some node)
+  its = by (new n) refl adds.here
+    where
+      by : (o : Option Node) → new n ≡ o → option_map seen o ≡ Some (record { key = Some key; made = time; stamp = 0; alpha = a; hears = adds.hears; requests = 1 }) → (node : Node) × (new n ≡ Some node)
+      by None is h = absurd (cc)
+      by (Some node) is h = (node, is)
 
-pub takers_more : (old new : ℕ → Option Node) (key : NodeKey) (a time n : ℕ) (keys0 keys1 : List TurnKey) → Adds old new key a time n → IsSpread takers_of (seen_at old) keys0
-    → ((c : TurnKey) → IsIn c keys1 ↔ (IsIn c (takers_of (seen_at new n) n) ⊎ IsIn c keys0)) → IsSpread takers_of (seen_at new) keys1
-takers_more old new key a time n keys0 keys1 adds s all =
-    spread_more takers_of takers_own (seen_at old) (seen_at new) n keys0 keys1 s (ap (λ (o : Option Node). takers_of (option_map seen o) n) adds.vacant) (λ k ne. ap (λ (o : Option Seen). takers_of o k) (adds.others k ne)) all
+  pub links_more : IsSpread links_of (seen_at old) keys0 → ((node : Node) → new n ≡ Some node → Relinks false node.hears.rows (links_by node.key (turn_of node n)) keys0 keys1) → IsSpread links_of (seen_at new) keys1
+  links_more s all =
+      spread_relinked links_of links_own (seen_at old) (seen_at new) n false its.0.hears.rows (links_by its.0.key (turn_of its.0 n)) keys0 keys1 s (ap (λ (o : Option Node). links_of (option_map seen o) n) adds.vacant)
+      (ap (λ (o : Option Node). links_of (option_map seen o) n) its.1) (λ k ne. ap (λ (o : Option Seen). links_of o k) (adds.others k ne)) (all its.0 its.1)
+
+  pub takers_more : IsSpread takers_of (seen_at old) keys0 → ((node : Node) → new n ≡ Some node → Relinks false node.hears.elements (takers_by (asker node) (turn_of node n)) keys0 keys1) → IsSpread takers_of (seen_at new) keys1
+  takers_more s all =
+      spread_relinked takers_of takers_own (seen_at old) (seen_at new) n false its.0.hears.elements (takers_by (asker its.0) (turn_of its.0 n)) keys0 keys1 s (ap (λ (o : Option Node). takers_of (option_map seen o) n) adds.vacant)
+      (ap (λ (o : Option Node). takers_of (option_map seen o) n) its.1) (λ k ne. ap (λ (o : Option Seen). takers_of o k) (adds.others k ne)) (all its.0 its.1)
 
 pub stamps_more : (old new : ℕ → Option Node) (key : NodeKey) (a time n stamp : ℕ) → Adds old new key a time n → (root : Seen) → seen_at old 0 ≡ Some root → ((k : ℕ) (s : Seen) → seen_at old k ≡ Some s → s.stamp < stamp)
     → (k : ℕ) (s : Seen) → seen_at new k ≡ Some s → s.stamp < stamp
 stamps_more old new key a time n stamp adds root at before k s there = elim (cases_eq k n) [
   | inl e ↦ (
-      let own : 0 ≡ s.stamp = ap (λ (x : Seen). x.stamp) (same_Some (record { key = Some key; made = time; stamp = 0; alpha = a; requests = 1 }) s (sym adds.here ∙ ap (seen_at new) (sym e) ∙ there)) in
+      let own : 0 ≡ s.stamp = ap (λ (x : Seen). x.stamp) (same_Some (record { key = Some key; made = time; stamp = 0; alpha = a; hears = adds.hears; requests = 1 }) s (sym adds.here ∙ ap (seen_at new) (sym e) ∙ there)) in
       let some : root.stamp < stamp = before 0 root at in
       omega (arith, own, some))
   | inr ne ↦ before k s (sym (adds.others k ne) ∙ there)
@@ -138,6 +151,9 @@ module _ (xs ys : List (Option Node)) (n : ℕ) (node now : Node) (here : slice_
 
   pub numbered_counted : (number : NodeKey → Option ℕ) → IsNumbered number (key_at (λ k. slice_index_or xs k None)) → IsNumbered number (key_at (λ k. slice_index_or ys k None))
   numbered_counted number numbered = numbered_same number (key_at (λ k. slice_index_or xs k None)) (key_at (λ k. slice_index_or ys k None)) numbered (λ k. counted_same (λ o. option_and_then key_of o) (λ x r. refl) k)
+
+  pub hear_kept : (end : ℕ) (w : List Element) → IsTable (λ k. slice_index_or xs k None) end → zero < now.requests → AllHear (λ k. slice_index_or xs k None) w → AllHear (λ k. slice_index_or ys k None) w
+  hear_kept end w table some all = hear_counted (λ k. slice_index_or xs k None) (λ k. slice_index_or ys k None) n end table node now here is same some others w all
 
   pub holds_counted : (end : ℕ) (w : List Element) → IsTable (λ k. slice_index_or xs k None) end → zero < now.requests → AllHold (λ k. slice_index_or xs k None) w → AllHold (λ k. slice_index_or ys k None) w
   holds_counted end w table some all = hold_counted (λ k. slice_index_or xs k None) (λ k. slice_index_or ys k None) n end table node now here is same some others w all
@@ -219,6 +235,9 @@ module _ (xs ys : List (Option Node)) (n end : ℕ) (table : IsTable (λ k. slic
 
   pub holds_dropped : (w : List Element) → AllHold (λ k. slice_index_or xs k None) w → AllHold (λ k. slice_index_or ys k None) w
   holds_dropped w all = part_holds (λ k. slice_index_or ys k None) (λ k. slice_index_or xs k None) end less.0 less.1 w all
+
+  pub hear_dropped : (w : List Element) → AllHear (λ k. slice_index_or xs k None) w → AllHear (λ k. slice_index_or ys k None) w
+  hear_dropped w all = hear_part (λ k. slice_index_or xs k None) (λ k. slice_index_or ys k None) w less.1 all
 
   pub links_dropped : (keys0 keys1 : List TurnKey) → IsSpread links_of (seen_at (λ k. slice_index_or xs k None)) keys0
       → ((c : TurnKey) → IsIn c keys1 ↔ (IsIn c keys0 × (IsIn c (links_of (seen_at (λ k. slice_index_or xs k None) n) n) → ⊥))) → IsSpread links_of (seen_at (λ k. slice_index_or ys k None)) keys1

@@ -21,8 +21,9 @@ use Rattle.node_agenda.specs.declared.turns.Turn.{Turn}
 use Rattle.node_agenda.specs.declared.turns.TurnKey.{TurnKey}
 use Rattle.node_agenda.specs.Turns.{under}
 use Rattle.node_agenda.specs.Agenda.{turn_of, IsTurn, Settles}
-use Rattle.rete_beta.specs.Networks.{links_by, links_of, takers_by, takers_of, IsSpread, IsFirst, IsOneOf, SameAsked, asked_of}
-use Rattle.rete_beta.proofs.SpreadLemmas.{taker_there, taker_is}
+use Rattle.node_agenda.specs.Links.{takers_of, IsSpread}
+use Rattle.node_agenda.proofs.SpreadLemmas.{taker_there, taker_is}
+use Rattle.rete_beta.specs.Networks.{IsFirst, IsOneOf, SameAsked, asked_of}
 
 -- ---- what of a node a change leaves
 
@@ -36,12 +37,6 @@ module _ {A : Type 0} (g : Option Node → A) (keeps : (a b : Node) → a.key �
       by (Some node) is p at =
           let x = s.stays k node is in
           keeps node x.0 x.2 x.3 x.4 x.5 ∙ ap g (sym x.1 ∙ at)
-
-pub links_settled : (old new : ℕ → Option Node) (stamp : ℕ) → Settles old new stamp → (k : ℕ) → links_of (seen_at new k) k ≡ links_of (seen_at old k) k
-links_settled old new stamp s k = settled_same (λ o. links_of (option_map seen o) k) (λ a b key made alpha requests. (λ i. links_by (key i) (record { made = made i; node = k }))) old new stamp s k
-
-pub takers_settled : (old new : ℕ → Option Node) (stamp : ℕ) → Settles old new stamp → (k : ℕ) → takers_of (seen_at new k) k ≡ takers_of (seen_at old k) k
-takers_settled old new stamp s k = settled_same (λ o. takers_of (option_map seen o) k) (λ a b key made alpha requests. (λ i. takers_by (asker_by (alpha i) (key i)) (record { made = made i; node = k }))) old new stamp s k
 
 pub keys_settled : (old new : ℕ → Option Node) (stamp : ℕ) → Settles old new stamp → (k : ℕ) → key_at new k ≡ key_at old k
 keys_settled old new stamp s k = settled_same (λ o. option_and_then key_of o) (λ a b key made alpha requests. key) old new stamp s k
@@ -91,11 +86,11 @@ first_turns nodes takers alpha e agenda spread first t i =
     let k = keyed_by x.0.alpha x.0.key x.1 x.3 in
     (x.0, k.0, x.2, k.1, x.5, omega arith)
 
--- each node that is not on it may take neither the element that comes nor the one that goes
+-- each node that is not on it and hears of elements may take neither the one that comes nor the one that goes
 pub first_reached : (slots : List (Option Node)) (takers : List TurnKey) (alpha : AlphaOf) (e : Element) (come goes : Option Element) (agenda : List Turn) → IsAsked slots alpha
     → IsSpread takers_of (seen_at (λ n. slice_index_or slots n None)) takers → IsFirst alpha takers e agenda → IsOneOf e come goes
-    → (n : ℕ) (node : Node) (key : NodeKey) → slice_index_or slots n None ≡ Some node → node.key ≡ Some key → IsIn (turn_of node n) agenda ⊎ LeavesOut key.step come goes
-first_reached slots takers alpha e come goes agenda asked spread first one n node key here keyed = by key.step refl
+    → (n : ℕ) (node : Node) (key : NodeKey) → slice_index_or slots n None ≡ Some node → node.key ≡ Some key → node.hears.elements ≡ true → IsIn (turn_of node n) agenda ⊎ LeavesOut key.step come goes
+first_reached slots takers alpha e come goes agenda asked spread first one n node key here keyed heard = by key.step refl
   where
     by : (step : Step) → key.step ≡ step → IsIn (turn_of node n) agenda ⊎ LeavesOut step come goes
     by (Negation m) is = inr (record { no_come = λ x i. refl; no_go = λ x i. refl })
@@ -110,7 +105,7 @@ first_reached slots takers alpha e come goes agenda asked spread first one n nod
             inl ((first (turn_of node n)).1 (
               node.alpha,
               (r.0, r.1, ap (λ (q : ConstPattern). takes q e) r.2 ∙ h),
-              taker_there (λ k. slice_index_or slots k None) takers spread n node (node.alpha, p) here own,
+              taker_there (λ k. slice_index_or slots k None) takers spread n node (node.alpha, p) here own heard,
             ))
         taken false h = inr (record {
           no_come = λ x i. ap (takes (constants_of p)) (sym (one.comes x i)) ∙ h;

@@ -1,5 +1,5 @@
 -- A network of the root alone.
-use Rattle.std.proofs.Common.{◌≡◌, ◌≢◌, inl, inr, refl, sym, ap, subst, ◌∙◌, ℕ, zero, ◌<◌, List, [], ◌∷◌, Option, Some, None, slice_index_or, arith}
+use Rattle.std.proofs.Common.{◌≡◌, ◌≢◌, inl, inr, refl, sym, ap, subst, ◌∙◌, Bool, true, false, ℕ, zero, ◌<◌, List, [], ◌∷◌, Option, Some, None, slice_index_or, arith}
 use Rattle.std.proofs.lemmas.Option.{same_Some}
 use Rattle.std.proofs.lemmas.Bool.{cases_eq}
 use Rattle.std.specs.Prelude.{option_and_then}
@@ -16,9 +16,11 @@ use Rattle.node_table.specs.Serving.{found, AreIndexed}
 use Rattle.node_table.specs.Content.{content, IsTable, AllHold}
 use Rattle.node_table.specs.Asked.{asker, asker_by, IsAsked}
 use Rattle.node_table.specs.Making.{Seen, seen, seen_at}
+use Rattle.node_table.specs.Hearing.{AllHear}
 use Rattle.node_table.proofs.AskedLemmas.{asks_at, alike_asked}
 use Rattle.node_agenda.specs.declared.turns.TurnKey.{TurnKey}
-use Rattle.rete_beta.specs.Networks.{seen_turn, links_by, links_of, takers_by, takers_of, IsSpread, IsRoot, StartsWith, asked_of}
+use Rattle.node_agenda.specs.Links.{seen_turn, links_by, links_of, takers_by, takers_of, where_heard, IsSpread}
+use Rattle.rete_beta.specs.Networks.{IsRoot, StartsWith, asked_of}
 use Rattle.rete_beta.proofs.NetworkLemmas.{node_keyed}
 
 module _ (slots : List (Option Node)) (root : Node) (is : IsRoot root) (here : slice_index_or slots 0 None ≡ Some root) (others : (k : ℕ) → k ≢ 0 → slice_index_or slots k None ≡ None) where
@@ -60,25 +62,32 @@ module _ (slots : List (Option Node)) (root : Node) (is : IsRoot root) (here : s
   pub start_asked : IsAsked slots no_patterns
   start_asked = alike_asked [] slots no_patterns (record { counted = λ a. refl; patterned = λ k q there. absurd (cc) }) none_asks
 
+  nowhere : (b : Bool) → where_heard b [] ≡ []
+  nowhere true = refl
+  nowhere false = refl
+
   none_linked : (k : ℕ) → links_of (seen_at (λ i. slice_index_or slots i None) k) k ≡ []
   none_linked k = by (slice_index_or slots k None) refl
     where
       by : (o : Option Node) → slice_index_or slots k None ≡ o → links_of (option_map seen o) k ≡ []
       by None at = refl
-      by (Some node) at = ap (λ (key : Option NodeKey). links_by key (seen_turn (seen node) k)) (unkeyed k node at)
+      by (Some node) at = ap (λ (key : Option NodeKey). where_heard node.hears.rows (links_by key (seen_turn (seen node) k))) (unkeyed k node at) ∙ nowhere node.hears.rows
 
   none_takes : (k : ℕ) → takers_of (seen_at (λ i. slice_index_or slots i None) k) k ≡ []
   none_takes k = by (slice_index_or slots k None) refl
     where
       by : (o : Option Node) → slice_index_or slots k None ≡ o → takers_of (option_map seen o) k ≡ []
       by None at = refl
-      by (Some node) at = ap (λ (key : Option NodeKey). takers_by (asker_by node.alpha key) (seen_turn (seen node) k)) (unkeyed k node at)
+      by (Some node) at = ap (λ (key : Option NodeKey). where_heard node.hears.elements (takers_by (asker_by node.alpha key) (seen_turn (seen node) k))) (unkeyed k node at) ∙ nowhere node.hears.elements
 
   pub start_links : IsSpread links_of (seen_at (λ k. slice_index_or slots k None)) []
   start_links c = ((λ i. absurd i), (λ i. subst (λ (l : List TurnKey). IsIn c l) (none_linked c.turn.node) i))
 
   pub start_takers : IsSpread takers_of (seen_at (λ k. slice_index_or slots k None)) []
   start_takers c = ((λ i. absurd i), (λ i. subst (λ (l : List TurnKey). IsIn c l) (none_takes c.turn.node) i))
+
+  pub start_hear : (w : List Element) → AllHear (λ k. slice_index_or slots k None) w
+  start_hear w k node key there keyed = (let bad : None ≡ Some key = sym (unkeyed k node there) ∙ keyed in absurd (cc))
 
   pub start_stamps : (k : ℕ) (s : Seen) → seen_at (λ i. slice_index_or slots i None) k ≡ Some s → s.stamp < 1
   start_stamps k s there = by (slice_index_or slots k None) refl there

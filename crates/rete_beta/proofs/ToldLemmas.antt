@@ -2,7 +2,6 @@
 use Rattle.std.proofs.Common.{◌≡◌, inl, inr, refl, sym, ap, subst, ◌∙◌, Bool, true, false, cond, ◌==◌, ℕ, zero, suc, List, [], ◌∷◌, ◌++◌, map, length, Option, Some, None, slice_index_or, arith}
 use Rattle.std.specs.Prelude.{option_and_then, IsSome}
 use Rattle.std.specs.Option.{option_map}
-use Rattle.std.proofs.lemmas.Option.{same_Some}
 use Rattle.soar_wm.specs.declared.element.Element.{Element}
 use Rattle.defs_match.specs.Conflict.{instance_of}
 use Rattle.defs_match.specs.Laws.{IsIn, ElementsDiffer, NegationKeeps}
@@ -22,7 +21,7 @@ use Rattle.node_agenda.specs.Agenda.{AreServed, AllTell}
 use Rattle.rete_beta.specs.Joins.{JoinsOf, Told, nothing_told, key_of}
 use Rattle.rete_beta.specs.Networks.{SameAsked, asked_of}
 use Rattle.rete_beta.specs.Told.{AreTold, IsRowOf, IsTold, IsToldIn, tags_told, told_in, told_of}
-use Rattle.rete_beta.specs.Ways.{Way, IsWay, conditions_of}
+use Rattle.rete_beta.specs.Ways.{IsWay, conditions_of}
 use Rattle.rete_beta.proofs.ViewLemmas.{keys_in, live_in}
 use Rattle.rete_beta.proofs.WayLemmas.{way_rows}
 

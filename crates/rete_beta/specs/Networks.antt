@@ -1,5 +1,5 @@
 -- What a network keeps.
-use Rattle.std.specs.Prelude.{◌≡◌, ◌≢◌, ◌↔◌, ◌<◌, nat_lt, ℕ, Bool, true, false, List, [], ◌∷◌, map, Option, Some, None}
+use Rattle.std.specs.Prelude.{◌≡◌, ◌≢◌, ◌↔◌, ◌<◌, nat_lt, ℕ, Bool, true, false, List, [], ◌∷◌, Option, Some, None}
 use Rattle.std.specs.Option.{option_map}
 use Rattle.std.specs.BTreeMap as numbers_of
 use Rattle.slab.specs.Slab.{get}
@@ -13,42 +13,18 @@ use Rattle.node_memory.specs.Held.{listed, Holds, SameElements}
 use Rattle.defs_match.specs.Rows.{empty_row}
 use Rattle.node_table.specs.declared.node.NodeKey.{NodeKey}
 use Rattle.node_table.specs.declared.node.Node.{Node}
-use Rattle.node_table.specs.Nodes.{key_cmp, uppers}
+use Rattle.node_table.specs.Nodes.{key_cmp}
 use Rattle.node_table.specs.declared.node.Step.{Step}
 use Rattle.node_table.specs.Serving.{found, AreIndexed}
 use Rattle.node_table.specs.Content.{AllHold}
-use Rattle.node_table.specs.Asked.{Asker, asker_by}
+use Rattle.node_table.specs.Hearing.{AllHear}
 use Rattle.node_table.specs.Making.{IsWhole, Seen, seen_at}
 use Rattle.node_agenda.specs.declared.turns.Turn.{Turn}
 use Rattle.node_agenda.specs.declared.turns.TurnKey.{TurnKey}
 use Rattle.node_agenda.specs.Turns.{under}
+use Rattle.node_agenda.specs.Links.{links_of, takers_of, IsSpread}
 use Rattle.rete_beta.specs.Joins.{Asked}
 use Rattle.rete_beta.specs.declared.network.Network.{Network}
-
-abbrev pub seen_turn : Seen → ℕ → Turn
-seen_turn s n = record { made = s.made; node = n }
-
--- a node stands under each of those that it reads
-abbrev pub links_by : Option NodeKey → Turn → List TurnKey
-links_by None t = []
-links_by (Some key) t = map (λ m. under m t) (uppers key)
-
-abbrev pub links_of : Option Seen → ℕ → List TurnKey
-links_of None n = []
-links_of (Some s) n = links_by s.key (seen_turn s n)
-
--- a join stands under the number of its pattern
-abbrev pub takers_by : Option Asker → Turn → List TurnKey
-takers_by None t = []
-takers_by (Some q) t = under q.0 t ∷ []
-
-abbrev pub takers_of : Option Seen → ℕ → List TurnKey
-takers_of None n = []
-takers_of (Some s) n = takers_by (asker_by s.alpha s.key) (seen_turn s n)
-
--- the keys are those of the live nodes, and no others
-abbrev pub IsSpread : (Option Seen → ℕ → List TurnKey) → (ℕ → Option Seen) → List TurnKey → Type 0
-IsSpread f seen keys = (c : TurnKey) → IsIn c keys ↔ IsIn c (f (seen c.turn.node) c.turn.node)
 
 -- the nodes hold their rows over the elements w
 pub record IsNetworkAt (n : Network) (w : List Element) : Type 0 where
@@ -59,6 +35,7 @@ pub record IsNetworkAt (n : Network) (w : List Element) : Type 0 where
   pub stamps : (k : ℕ) (s : Seen) → seen_at (get n.nodes) k ≡ Some s → s.stamp < n.stamp
   pub elements : SameElements n.index n.alpha.elements
   pub rising : IsRising n.alpha.elements
+  pub hear : AllHear (get n.nodes) w
   pub holds : AllHold (get n.nodes) w
   pub root : (s : Seen) × (seen_at (get n.nodes) 0 ≡ Some s) × (s.key ≡ None)
 

@@ -8,9 +8,9 @@ ghost use Rattle.node_table.specs.Nodes.{key_cmp, key_at, inner_of};
 ghost use Rattle.rete_beta.specs.Joins.{Asks};
 ghost use Rattle.rete_beta.specs.Networks.{IsNetwork, asked_in, key_made};
 
-use crate::linking::{link_node, note_taker};
 use crate::network::Network;
-use node_table::{NodeKey, Step, ask_again, make};
+use node_agenda::relink;
+use node_table::{Hears, NodeKey, Step, ask_again, make};
 use soar_rule::Pattern;
 use soar_sym::NoMemory;
 use std::alloc::Global;
@@ -58,8 +58,11 @@ fn add(alloc: Global, net: &mut Network, key: NodeKey) -> Result<usize, NoMemory
         net.made,
     )?;
     net.made = next;
-    link_node(&net.nodes, n, &mut net.below)?;
-    note_taker(&net.nodes, n, &mut net.takers)?;
+    let nothing = Hears {
+        rows: false,
+        elements: false,
+    };
+    relink(&net.nodes, n, nothing, &mut net.below, &mut net.takers)?;
     Ok(n)
 }
 

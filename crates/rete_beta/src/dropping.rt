@@ -4,8 +4,8 @@ ghost use Rattle.slab.specs.Slab.{get};
 ghost use Rattle.rete_beta.specs.Joins.{CanDrop, Drops};
 ghost use Rattle.rete_beta.specs.Networks.{IsNetwork, asked_in, has_more};
 
-use crate::linking::{forget_taker, unlink_node};
 use crate::network::Network;
+use node_agenda::{forget_taker, unlink_node};
 use node_table::{Node, drop_node};
 use slab::Slab;
 

@@ -5,7 +5,6 @@ mod asking;
 mod changing;
 mod dropping;
 mod joins;
-mod linking;
 mod network;
 mod reading;
 

@@ -6,7 +6,7 @@ ghost use Rattle.rete_beta.specs.Networks.{IsNetwork, IsRoot, IsRootAlone, Start
 use match_row::Row;
 use node_agenda::TurnIndex;
 use node_memory::{ElementIndex, filled};
-use node_table::{Node, NodeKey};
+use node_table::{Hears, Node, NodeKey};
 use rete_alpha::Alpha;
 use slab::Slab;
 use soar_sym::NoMemory;
@@ -21,10 +21,10 @@ pub struct Network {
     pub numbers: BTreeMap<NodeKey, usize>,
     pub nodes: Slab<Node>,
 
-    /// The nodes that read the node of a number.
+    /// The nodes that read the node of a number and hear of its rows.
     pub below: TurnIndex,
 
-    /// The joins that ask for the pattern memory of a number.
+    /// The joins that ask for the pattern memory of a number and hear of its elements.
     pub takers: TurnIndex,
 
     /// The next change.
@@ -46,6 +46,10 @@ fn root(alloc: Global) -> Result<Node, NoMemory>
         made: 0,
         stamp: 0,
         alpha: 0,
+        hears: Hears {
+            rows: true,
+            elements: true,
+        },
         requests: 1,
         memory,
         come: Vec::new(alloc),

@@ -162,6 +162,21 @@ fn negations_up_to_eight_deep_agree(rt: HostRuntime) -> Result<(), Fail> {
     Ok(())
 }
 
+#[test]
+fn a_join_is_unlinked_on_either_side_and_linked_again(rt: HostRuntime) -> Result<(), Fail> {
+    for calls in [
+        "l1 l2 +Tb1 +Tb2 +SaT -SaT +Tb3 -Tb1 +SaT -Tb2 -Tb3 +Tb1",
+        "l1 l2 +SaT -SaT +SaT +SaU -SaU +Tb1 +Ub2 -Tb1 +SaU -SaT -SaU +Tb1 +SaT",
+        "+SaT +Tb1 l1 l2 -Tb1 -SaT +Tb1 +SaT -SaT -Tb1 +SaT +Tb1",
+    ] {
+        assert!(rt;
+            agree_on(rt.alloc(), &["s0a1 +1b2", "s0a1 -1b2"], calls)?,
+            "{calls}"
+        );
+    }
+    Ok(())
+}
+
 /// How many nodes there are after the calls of a text. Two rules begin alike, and the third has the conditions of the first.
 fn nodes_after(alloc: Global, calls: &str) -> Result<usize, Fail> {
     let rules = rules_of(

@@ -1,4 +1,4 @@
--- Labels, and what operands stand for.
+-- What operands stand for, and the identifiers that labels become.
 use Rattle.std.specs.Prelude.{ℕ, ◌+◌, List, Option, Some}
 use Rattle.soar_sym.specs.Letters.{last_of}
 use Rattle.soar_sym.specs.declared.symbol.Sym.{Sym}
@@ -6,10 +6,6 @@ use Rattle.soar_sym.specs.declared.symbol.Sym.TheVariants.{Ident}
 use Rattle.defs_soar.specs.Naming.{letter_from}
 use Rattle.defs_run.specs.Orders.{Operand, is_symbol, is_label}
 use Rattle.defs_run.specs.Sessions.{Label, label_in}
-use Rattle.session_parts.specs.declared.label.Label.{Label as LabelKept}
-
-abbrev pub label_seen : LabelKept → Label
-label_seen l = record { name = l.name; symbol = l.symbol }
 
 -- the symbol that an operand stands for already
 abbrev pub symbol_in : List Label → Operand → Option Sym

@@ -1,8 +1,7 @@
 pub mod Given
 pub mod Labels
-pub mod Lettered
 pub mod Lookups
 pub mod Reasons
 pub mod Saying
 pub mod Stopping
-pub mod TopGoals
+pub mod Told

@@ -1,7 +1,7 @@
 -- The session in which operands are looked up.
 use Rattle.std.specs.Prelude.{map}
 use Rattle.defs_run.specs.Sessions.{Session}
-use Rattle.session_parts.specs.Labels.{label_seen}
+use Rattle.command_labels.specs.Found.{label_seen}
 use Rattle.session_parts.specs.declared.lookup.Lookup.{Lookup}
 
 -- all else in it is as it may be

@@ -2,8 +2,7 @@
 #![tactic(auto)]
 
 mod elements;
-mod label;
-mod labels;
+mod letters;
 mod lookup;
 mod origin;
 mod reasons;
@@ -17,8 +16,7 @@ mod texts;
 mod unknown;
 
 pub use elements::{element_of, triple_of};
-pub use label::Label;
-pub use labels::{label_in, letter_from};
+pub use letters::letter_from;
 pub use lookup::Lookup;
 pub use origin::Origin;
 pub use reasons::Reason;

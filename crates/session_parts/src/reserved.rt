@@ -3,13 +3,13 @@ ghost use Rattle.std.specs.Prelude.{◌≡◌};
 ghost use Rattle.defs_soar.specs.Goals.{is_goal, is_operator_slot};
 ghost use Rattle.defs_run.specs.Inputs.{is_reserved, spelled};
 ghost use Rattle.defs_run.specs.Sessions.{Session, resolved};
-ghost use Rattle.soar_cmd.specs.Asked.{operand_seen};
-ghost use Rattle.soar_cmd.specs.Known.{IsAdditionKnown};
+ghost use Rattle.command_orders.specs.Asked.{operand_seen};
+ghost use Rattle.command_orders.specs.Known.{IsAdditionKnown};
 ghost use Rattle.session_parts.specs.Labels.{next_identifier};
 ghost use Rattle.session_parts.specs.Lookups.{session_with};
 
 use crate::elements::is_identifier;
-use crate::labels::{label_in, letter_from};
+use crate::letters::letter_from;
 use crate::lookup::Lookup;
 use defs_run::{Addition, Operand};
 use defs_soar::{Goal, is_goal};
@@ -42,7 +42,7 @@ impl Lookup<'_> {
     {
         match operand {
             Operand::Symbol(symbol) => is_goal(self.goals.as_slice(), *symbol),
-            Operand::Label(name) => match label_in(self.labels.as_slice(), name.as_str()) {
+            Operand::Label(name) => match self.labels.find(name.as_str()) {
                 Some(symbol) => is_goal(self.goals.as_slice(), symbol),
                 None => self.is_goal_next(name.as_str()),
             },

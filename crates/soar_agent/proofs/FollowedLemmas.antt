@@ -11,8 +11,8 @@ use Rattle.soar_settle.specs.declared.stop.Stop.{Stop}
 use Rattle.soar_settle.specs.declared.stop.Stop.TheVariants as stop
 use Rattle.wave_parts.proofs.StandsLemmas.{state_is}
 use Rattle.cycle_phases.specs.Courses.{Goes, Went, front_said, limit_in}
-use Rattle.session_parts.specs.Labels.{label_seen}
-use Rattle.session_parts.specs.declared.label.Label.{Label}
+use Rattle.command_labels.specs.Found.{label_seen}
+use Rattle.command_labels.specs.declared.label.Label.{Label}
 use Rattle.soar_agent.specs.States.{IsReady, session_of}
 use Rattle.soar_agent.specs.Steps.{Obeys}
 use Rattle.soar_agent.specs.Telling.{front_told, limit_told}

@@ -23,9 +23,10 @@ use Rattle.letter_laws.specs.Grows.{LettersGrow}
 use Rattle.letter_laws.proofs.GrowthLaws.{given_stay_given}
 use Rattle.soar_settle.specs.declared.stop.Stop.{Stop}
 use Rattle.soar_agent.specs.Adding.{adds_at_top, spelled_by, unless_twice}
-use Rattle.soar_cmd.specs.Asked.{operand_seen}
-use Rattle.soar_cmd.specs.Known.{IsAttributeKnown}
-use Rattle.session_parts.specs.Labels.{label_seen, symbol_in}
+use Rattle.command_orders.specs.Asked.{operand_seen}
+use Rattle.command_orders.specs.Known.{IsAttributeKnown}
+use Rattle.command_labels.specs.Found.{label_seen}
+use Rattle.session_parts.specs.Labels.{symbol_in}
 use Rattle.soar_agent.specs.Numbered.{IsAdditionNumbered, IsOperandNumbered}
 use Rattle.soar_agent.specs.States.{session_of}
 use Rattle.soar_agent.specs.Steps.{Obeys}

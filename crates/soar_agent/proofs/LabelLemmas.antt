@@ -22,9 +22,9 @@ use Rattle.wave_parts.specs.Seen.{agent_of}
 use Rattle.wave_parts.proofs.StandsLemmas.{state_is}
 use Rattle.cycle_parts.specs.Calls.{GivesFresh, fresh_step, next_number}
 use Rattle.soar_cycle.specs.Agents.{AgentSeen}
-use Rattle.session_parts.specs.Labels.{label_seen}
-use Rattle.session_parts.specs.Lettered.{is_lettered}
-use Rattle.session_parts.specs.declared.label.Label.{Label as LabelKept}
+use Rattle.command_labels.specs.Found.{label_seen}
+use Rattle.command_labels.specs.Lettered.{is_lettered}
+use Rattle.command_labels.specs.declared.label.Label.{Label as LabelKept}
 use Rattle.soar_agent.specs.Labels.{Makes}
 use Rattle.soar_agent.specs.States.{session_of}
 use Rattle.soar_agent.specs.Steps.{Obeys}

@@ -25,8 +25,8 @@ use Rattle.wave_parts.specs.Stands.{Stands}
 use Rattle.wave_parts.specs.declared.parts.Parts.{Parts as PartsKept}
 use Rattle.cycle_parts.specs.Calls.{IsTripleGiven, IsTripleKnown}
 use Rattle.soar_cycle.specs.Agents.{AgentSeen, IsSoundAgent}
-use Rattle.session_parts.specs.Labels.{label_seen}
-use Rattle.session_parts.specs.declared.label.Label.{Label}
+use Rattle.command_labels.specs.Found.{label_seen}
+use Rattle.command_labels.specs.declared.label.Label.{Label}
 use Rattle.soar_agent.specs.Numbered.{AreLabelsNumbered, IsTripleNumbered}
 use Rattle.soar_agent.specs.States.{IsReady}
 use Rattle.soar_agent.specs.declared.state.Session.{Session as SessionKept}
@@ -145,11 +145,14 @@ element_in tag (e ∷ elements) found is = by (e.tag == tag) is (element_in tag 
     by false is later = inr (later is)
 
 -- the identifiers of elements were given
-pub element_numbered : (p : PartsKept) (tag : ℕ) (found : Element) → IsOfLawful p → element_of tag p.memory.elements ≡ Some found → IsTripleNumbered p.letters (triple_of found)
-element_numbered p tag found lawful is =
+pub elements_numbered : (p : PartsKept) (e : Element) → IsOfLawful p → IsIn e p.memory.elements → IsTripleNumbered p.letters (triple_of e)
+elements_numbered p e lawful is =
     let a : Agent = lawful.agent in
-    let there : IsIn found a.holding.elements = subst (IsIn found) lawful.stands.elements (element_in tag p.memory.elements found is) in
+    let there : IsIn e a.holding.elements = subst (IsIn e) lawful.stands.elements is in
     let elements = lawful.lawful.founded.elements in
-    let given : AreGiven a.names (symbols_of_element found) = elements.given found (elements.present found there) in
-    let numbered : (s : Sym) → IsIn s (symbols_of_element found) → IsNumbered p.letters s = λ s i. subst (λ letters. IsNumbered letters s) (sym lawful.stands.letters) (given s i).1 in
-    (numbered found.id (inl refl), numbered found.attr (inr (inl refl)), numbered found.value (inr (inr (inl refl))))
+    let given : AreGiven a.names (symbols_of_element e) = elements.given e (elements.present e there) in
+    let numbered : (s : Sym) → IsIn s (symbols_of_element e) → IsNumbered p.letters s = λ s i. subst (λ letters. IsNumbered letters s) (sym lawful.stands.letters) (given s i).1 in
+    (numbered e.id (inl refl), numbered e.attr (inr (inl refl)), numbered e.value (inr (inr (inl refl))))
+
+pub element_numbered : (p : PartsKept) (tag : ℕ) (found : Element) → IsOfLawful p → element_of tag p.memory.elements ≡ Some found → IsTripleNumbered p.letters (triple_of found)
+element_numbered p tag found lawful is = elements_numbered p found lawful (element_in tag p.memory.elements found is)

@@ -14,7 +14,7 @@ use Rattle.defs_run.specs.Runs.{replied_by}
 use Rattle.defs_run.specs.Sessions.{Session, Sequel, goes_on, unknown_in}
 use Rattle.defs_run.specs.declared.form.Order.{Order as OrderRead}
 use Rattle.defs_run.specs.declared.form.Order.TheVariants as read
-use Rattle.soar_cmd.specs.Asked.{order_seen}
+use Rattle.command_orders.specs.Asked.{order_seen}
 use Rattle.soar_agent.specs.Alone.{IsAlone}
 use Rattle.soar_agent.specs.Running.{run_learning}
 

@@ -12,7 +12,7 @@ use Rattle.wave_parts.specs.declared.settings.Settings.{Settings}
 use Rattle.wave_parts.proofs.StandsLemmas.{remembers_same, state_is}
 use Rattle.cycle_parts.specs.Calls.{restart_step}
 use Rattle.soar_cycle.specs.Agents.{AgentSeen}
-use Rattle.session_parts.specs.declared.label.Label.{Label as LabelKept}
+use Rattle.command_labels.specs.declared.label.Label.{Label as LabelKept}
 use Rattle.soar_agent.specs.Restarting.{restarts}
 use Rattle.soar_agent.specs.States.{IsReady, session_of}
 use Rattle.soar_agent.specs.Steps.{Obeys}
@@ -26,7 +26,7 @@ abbrev pub with_set : Settings → AgentSeen → AgentSeen
 with_set settings a = record a { parts = record a.parts { settings = settings } }
 
 remembers_set : (settings : Settings) (a : AgentSeen) (history : List RecordedFiring) → Remembers a.parts history → Remembers (with_set settings a).parts history
-remembers_set settings a history r = remembers_same a.parts (with_set settings a).parts history refl refl refl refl r
+remembers_set settings a history r = remembers_same a.parts (with_set settings a).parts history refl refl refl refl refl refl refl r
 
 pub sets : {M : Type 0} (s : SessionKept M) (b : AgentSeen) (settings : Settings) (history : List RecordedFiring) (said : List ℕ) → Remembers s.agent.parts history → b ≡ with_set settings s.agent → IsReady (with_kept b s)
     → Obeys (watch_of s) s.agent.mid_line (with_settings (session_of s history) (settings_seen settings)) (with_kept b s) said said (Ok false)

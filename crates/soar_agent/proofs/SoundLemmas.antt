@@ -14,7 +14,7 @@ use Rattle.learning_laws.specs.Lawful.{Grown}
 use Rattle.learning_laws.specs.LawfulAgents.{EachOnce}
 use Rattle.loading_laws.specs.Orders.{IsLawfulOrder, ReadsLawfully}
 use Rattle.soar_settle.specs.Known.{AreElementsKnown}
-use Rattle.soar_cmd.specs.Asked.{order_seen}
+use Rattle.command_orders.specs.Asked.{order_seen}
 use Rattle.wave_parts.specs.Lawful.{IsOfLawful}
 use Rattle.wave_parts.specs.Remembers.{Remembers}
 use Rattle.wave_parts.specs.Seen.{IsSound}
@@ -42,7 +42,7 @@ ready_read reads s table words text same is ready =
 
 -- what is remembered is in no word
 pub remembers_read : (a : AgentSeen) (table : Texts) (history : List RecordedFiring) → Remembers a.parts history → Remembers (agent_with_table a table).parts history
-remembers_read a table history r = remembers_same a.parts (agent_with_table a table).parts history refl refl refl refl r
+remembers_read a table history r = remembers_same a.parts (agent_with_table a table).parts history refl refl refl refl refl refl refl r
 
 -- ---- orders
 

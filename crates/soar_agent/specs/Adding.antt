@@ -28,10 +28,6 @@ adds_to id attr value s = if is_operator_slot s.agent.holding.goals id attr then
 abbrev pub adds_at_top : Sym → Sym → Operand → Session → Carried
 adds_at_top id attr value s = if not (is_top_level s id) then refuses not_of_the_top_state else adds_to id attr value s
 
--- the value is a label that is used for the first time
-abbrev pub adds_labelled : Sym → Sym → List ℕ → Session → Carried
-adds_labelled id attr name s = unless_twice (spelled_by id attr (labelled s name None))
-
 -- a triple of symbols that there are
 abbrev pub adds_triple : Triple → Session → Carried
 adds_triple t s = unless_twice (record { session = s; triple = t; totals = [] })

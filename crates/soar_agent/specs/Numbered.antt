@@ -5,7 +5,7 @@ use Rattle.defs_run.specs.declared.form.Addition.{Addition}
 use Rattle.defs_run.specs.declared.form.Operand.{Operand}
 use Rattle.defs_run.specs.declared.form.Operand.TheVariants as operand
 use Rattle.learning_laws.specs.LawfulAgents.{IsNumbered}
-use Rattle.session_parts.specs.declared.label.Label.{Label}
+use Rattle.command_labels.specs.declared.label.Label.{Label}
 use Rattle.session_parts.specs.declared.slot.Slot.{Slot}
 
 -- those that labels stand for

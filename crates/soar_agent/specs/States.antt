@@ -8,7 +8,7 @@ use Rattle.wave_parts.specs.Seen.{IsSound, agent_of}
 use Rattle.soar_cycle.specs.Agents.{stop_of}
 use Rattle.soar_cycle.specs.declared.standing.Standing.{Standing}
 use Rattle.soar_cycle.specs.declared.standing.Standing.TheVariants as standing
-use Rattle.session_parts.specs.Labels.{label_seen}
+use Rattle.command_labels.specs.Found.{label_seen}
 use Rattle.soar_agent.specs.Numbered.{AreLabelsNumbered}
 use Rattle.soar_agent.specs.declared.state.Session.{Session as SessionKept}
 

@@ -6,10 +6,10 @@ ghost use Rattle.defs_run.specs.Carrying.{carried_out};
 ghost use Rattle.defs_run.specs.Inputs.{added, first_unknown, spelled};
 ghost use Rattle.defs_run.specs.Orders.{add_wme};
 ghost use Rattle.soar_agent.specs.Running.{run_learning};
-ghost use Rattle.soar_cmd.specs.Asked.{operand_seen};
-ghost use Rattle.soar_cmd.specs.Known.{IsAdditionKnown, IsOperandKnown};
+ghost use Rattle.command_orders.specs.Asked.{operand_seen};
+ghost use Rattle.command_orders.specs.Known.{IsAdditionKnown, IsOperandKnown};
 ghost use Rattle.cycle_parts.specs.Calls.{IsTripleKnown};
-ghost use Rattle.soar_agent.specs.Adding.{adds_at_top, adds_by, adds_labelled, adds_to, adds_triple, makes_labelled};
+ghost use Rattle.soar_agent.specs.Adding.{adds_at_top, adds_by, adds_to, adds_triple, makes_labelled};
 ghost use Rattle.soar_agent.specs.Carries.{Carries, Replies};
 ghost use Rattle.soar_agent.specs.Numbered.{IsOperandNumbered, IsSlotNumbered, IsTripleNumbered};
 ghost use Rattle.soar_agent.specs.States.{IsReady, session_of};
@@ -18,7 +18,7 @@ use crate::state::Session;
 use defs_match::Matcher;
 use defs_run::{Addition, Operand};
 use defs_soar::is_operator_slot;
-use session_parts::{Origin, Reason, Slot, label_in};
+use session_parts::{Origin, Reason, Slot};
 use soar_cycle::Stop;
 use soar_sym::{Text, Triple};
 
@@ -79,7 +79,7 @@ impl<M: Matcher> Session<M> {
         ensures reply { Carries self.old self.new origin.now.source.now origin.now.line (adds_at_top slot.id slot.attr (operand_seen value)) out.old out.new result }
         ensures ready { IfOk result (λ _. IsReady self.new) }
     {
-        let at_top = self.lookup(out.allocator()).is_top_level(slot.id)?;
+        let at_top = self.lookup(out.allocator()).is_top_level(slot.id);
         if at_top {
             self.add_unless_reserved(origin, slot, value, out)
         } else {
@@ -130,9 +130,9 @@ impl<M: Matcher> Session<M> {
     {
         match value {
             Operand::Symbol(value) => self.add_triple(origin, slot.with(value), out),
-            Operand::Label(name) => match label_in(self.labels.as_slice(), name.as_str()) {
+            Operand::Label(name) => match self.labels.find(name.as_str()) {
                 Some(value) => self.add_triple(origin, slot.with(value), out),
-                None => self.add_labelled(origin, slot, name, out),
+                None => self.put_labelled(slot, name, out),
             },
         }
     }
@@ -156,31 +156,7 @@ impl<M: Matcher> Session<M> {
         }
     }
 
-    /// Adds an element whose value is a label that is used for the first time, unless it is there.
-    fn add_labelled(
-        &mut self,
-        origin: &Origin<'_>,
-        slot: Slot,
-        name: Text,
-        out: &mut Text,
-    ) -> Result<bool, Stop>
-        requires ready { IsReady self.old }
-        requires id { IsKnown self.old.agent.parts.table slot.id }
-        requires attr { IsKnown self.old.agent.parts.table slot.attr }
-        requires slot_numbered { IsSlotNumbered self.old.agent.parts.letters slot }
-        ensures reply { Carries self.old self.new origin.now.source.now origin.now.line (adds_labelled slot.id slot.attr name) out.old out.new result }
-        ensures ready { IfOk result (λ _. IsReady self.new) }
-    {
-        match self
-            .lookup(out.allocator())
-            .tag_of_next(slot, name.as_str())?
-        {
-            Some(tag) => self.refuse_with(origin, &Reason::AlreadyThere(tag), out),
-            None => self.put_labelled(slot, name, out),
-        }
-    }
-
-    /// Makes a label, and puts the triple with it behind the inputs.
+    /// Makes a label, and puts the triple with it behind the inputs. No element has a new identifier.
     fn put_labelled(&mut self, slot: Slot, name: Text, out: &mut Text) -> Result<bool, Stop>
         requires ready { IsReady self.old }
         requires id { IsKnown self.old.agent.parts.table slot.id }

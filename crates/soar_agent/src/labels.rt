@@ -7,17 +7,19 @@ ghost use Rattle.defs_soar.specs.History.{RecordedFiring};
 ghost use Rattle.learning_laws.specs.LawfulAgents.{IsNumbered};
 ghost use Rattle.letter_laws.specs.Grows.{LettersGrow};
 ghost use Rattle.wave_parts.specs.Remembers.{Remembers};
-ghost use Rattle.soar_cmd.specs.Asked.{operand_seen};
-ghost use Rattle.soar_cmd.specs.Known.{IsOperandKnown};
-ghost use Rattle.session_parts.specs.Labels.{label_seen, symbol_in};
+ghost use Rattle.command_orders.specs.Asked.{operand_seen};
+ghost use Rattle.command_orders.specs.Known.{IsOperandKnown};
+ghost use Rattle.command_labels.specs.Found.{label_seen};
+ghost use Rattle.session_parts.specs.Labels.{symbol_in};
 ghost use Rattle.soar_agent.specs.Labels.{Makes};
 ghost use Rattle.soar_agent.specs.Numbered.{IsOperandNumbered};
 ghost use Rattle.soar_agent.specs.States.{IsReady, session_of};
 
 use crate::state::Session;
+use command_labels::Label;
 use defs_match::Matcher;
 use defs_run::Operand;
-use session_parts::{Label, label_in, letter_from};
+use session_parts::letter_from;
 use soar_cycle::Stop;
 use soar_sym::{Sym, Text};
 
@@ -37,7 +39,7 @@ impl<M: Matcher> Session<M> {
     {
         match operand {
             Operand::Symbol(symbol) => Ok(symbol),
-            Operand::Label(name) => match label_in(self.labels.as_slice(), name.as_str()) {
+            Operand::Label(name) => match self.labels.find(name.as_str()) {
                 Some(symbol) => Ok(symbol),
                 None => self.make_label(name),
             },
@@ -58,7 +60,7 @@ impl<M: Matcher> Session<M> {
         let letter = letter_from(name.as_str().as_bytes());
         match self.agent.fresh(letter) {
             Ok(symbol) => {
-                self.labels.push(Label { name, symbol })?;
+                self.labels.add(Label { name, symbol })?;
                 Ok(symbol)
             }
             Err(stop) => Err(stop),

@@ -23,7 +23,7 @@ mod standing;
 mod state;
 mod tables;
 
+pub use command_labels::{Label, Labels};
 pub use outcome::Outcome;
-pub use session_parts::Label;
 pub use soar_cycle::{Settings, Standing, Stop};
 pub use state::Session;

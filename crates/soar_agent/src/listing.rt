@@ -7,8 +7,8 @@ ghost use Rattle.defs_run.specs.Listing.{conflict_lines, element_lines};
 ghost use Rattle.defs_run.specs.Orders.{matches_of, print_id, print_name};
 ghost use Rattle.soar_agent.specs.Running.{run_learning};
 ghost use Rattle.defs_run.specs.Sessions.{says};
-ghost use Rattle.soar_cmd.specs.Asked.{operand_seen};
-ghost use Rattle.soar_cmd.specs.Known.{IsOperandKnown};
+ghost use Rattle.command_orders.specs.Asked.{operand_seen};
+ghost use Rattle.command_orders.specs.Known.{IsOperandKnown};
 ghost use Rattle.soar_agent.specs.Carries.{Carries, Replies};
 ghost use Rattle.soar_agent.specs.States.{IsReady};
 

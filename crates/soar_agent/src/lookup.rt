@@ -2,7 +2,8 @@
 ghost use Rattle.std.specs.Prelude.{◌≡◌, List as ListOf};
 ghost use Rattle.defs_soar.specs.History.{RecordedFiring};
 ghost use Rattle.session_parts.specs.Lookups.{session_with};
-ghost use Rattle.soar_agent.specs.States.{session_of};
+ghost use Rattle.session_parts.specs.Told.{AreLevelsTold};
+ghost use Rattle.soar_agent.specs.States.{IsReady, session_of};
 
 use crate::state::Session;
 use defs_match::Matcher;
@@ -14,6 +15,7 @@ impl<M: Matcher> Session<M> {
         ensures table { result.table.now ≡ self.now.agent.parts.table }
         ensures letters { result.letters.now ≡ self.now.agent.parts.letters }
         ensures elements { result.memory.now.elements ≡ self.now.agent.parts.memory.elements }
+        ensures told { IsReady self.now → AreLevelsTold result }
         ensures session { (history : ListOf RecordedFiring) → session_with result (session_of self.now history) ≡ session_of self.now history }
     {
         Lookup {
@@ -23,6 +25,7 @@ impl<M: Matcher> Session<M> {
             labels: &self.labels,
             goals: self.agent.goals(),
             memory: self.agent.memory(),
+            levels: self.agent.levels(),
         }
     }
 }

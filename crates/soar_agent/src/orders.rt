@@ -2,8 +2,8 @@
 ghost use Rattle.std.specs.Prelude.{IfOk};
 ghost use Rattle.defs_run.specs.Carrying.{carried_out};
 ghost use Rattle.loading_laws.specs.Orders.{IsLawfulOrder};
-ghost use Rattle.soar_cmd.specs.Asked.{order_seen};
-ghost use Rattle.soar_cmd.specs.Known.{IsOrderKnown};
+ghost use Rattle.command_orders.specs.Asked.{order_seen};
+ghost use Rattle.command_orders.specs.Known.{IsOrderKnown};
 ghost use Rattle.soar_agent.specs.Alone.{IsAlone, IsLooking};
 ghost use Rattle.soar_agent.specs.Carries.{Carries};
 ghost use Rattle.soar_agent.specs.Running.{run_learning};

@@ -5,9 +5,9 @@ ghost use Rattle.soar_agent.specs.Restarting.{restarts};
 ghost use Rattle.soar_agent.specs.States.{IsReady};
 
 use crate::state::Session;
+use command_labels::Labels;
 use defs_match::Matcher;
 use soar_cycle::Stop;
-use soar_sym::List;
 use std::alloc::Global;
 
 impl<M: Matcher> Session<M> {
@@ -19,7 +19,7 @@ impl<M: Matcher> Session<M> {
     {
         match self.agent.restart() {
             Ok(()) => {
-                self.labels = List::new(alloc);
+                self.labels = Labels::new(alloc);
                 Ok(false)
             }
             Err(stop) => Err(stop),

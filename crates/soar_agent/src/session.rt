@@ -5,8 +5,8 @@ ghost use Rattle.defs_run.specs.Whole.{whole_stage};
 ghost use Rattle.defs_run.specs.Runs.{obeyed};
 ghost use Rattle.defs_run.specs.Sessions.{first_session};
 ghost use Rattle.loading_laws.specs.Orders.{IsLawfulOrder};
-ghost use Rattle.soar_cmd.specs.Asked.{order_seen};
-ghost use Rattle.soar_cmd.specs.Known.{IsOrderKnown};
+ghost use Rattle.command_orders.specs.Asked.{order_seen};
+ghost use Rattle.command_orders.specs.Known.{IsOrderKnown};
 ghost use Rattle.wave_parts.specs.Remembers.{Remembers};
 ghost use Rattle.soar_cycle.specs.Agents.{StaysAsItIs, standing_after};
 ghost use Rattle.soar_agent.specs.Running.{run_learning};
@@ -16,6 +16,7 @@ ghost use Rattle.soar_agent.specs.States.{IsReady, IsSoundSession, StaysStopped,
 use crate::outcome::{Outcome, outcome_of};
 use crate::standing::standing_after;
 use crate::state::Session;
+use command_labels::Labels;
 use defs_match::Matcher;
 use defs_run::Order;
 use defs_soar::Which;
@@ -24,7 +25,7 @@ use session_parts::{Origin, Reason, say_stop};
 use soar_cmd::{CmdFault, read_command};
 use soar_cycle::{Agent, Standing, Stop};
 use soar_edge::Command;
-use soar_sym::{List, NoMemory, Text};
+use soar_sym::{NoMemory, Text};
 use std::alloc::Global;
 
 impl<M: Matcher + Drop> Session<M> {
@@ -40,7 +41,7 @@ impl<M: Matcher + Drop> Session<M> {
     {
         Ok(Session {
             agent: Agent::new(alloc, matcher, watch)?,
-            labels: List::new(alloc),
+            labels: Labels::new(alloc),
             standing: Standing::Stands,
         })
     }

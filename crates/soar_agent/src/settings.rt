@@ -1,7 +1,7 @@
 // The settings of the agent (Soar manual, chapter 9: learn, decide, max-elaborations, watch). They hold from the next command on.
 ghost use Rattle.std.specs.Prelude.{IfOk};
 ghost use Rattle.defs_run.specs.Carrying.{with_settings};
-ghost use Rattle.soar_cmd.specs.Known.{IsModeInRange};
+ghost use Rattle.command_orders.specs.Known.{IsModeInRange};
 ghost use Rattle.wave_parts.specs.Settings.{settings_seen};
 ghost use Rattle.soar_agent.specs.Carries.{RepliesNothing};
 ghost use Rattle.soar_agent.specs.States.{IsReady};

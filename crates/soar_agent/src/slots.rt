@@ -5,8 +5,8 @@ ghost use Rattle.defs_run.specs.Listing.{preference_lines};
 ghost use Rattle.defs_run.specs.Orders.{preferences};
 ghost use Rattle.soar_agent.specs.Running.{run_learning};
 ghost use Rattle.defs_run.specs.Sessions.{says};
-ghost use Rattle.soar_cmd.specs.Asked.{operand_seen};
-ghost use Rattle.soar_cmd.specs.Known.{IsAttributeKnown, IsOperandKnown};
+ghost use Rattle.command_orders.specs.Asked.{operand_seen};
+ghost use Rattle.command_orders.specs.Known.{IsAttributeKnown, IsOperandKnown};
 ghost use Rattle.soar_agent.specs.Carries.{Carries, Replies};
 ghost use Rattle.soar_agent.specs.States.{IsReady};
 

@@ -1,7 +1,12 @@
 mod AcceptLemmas
+mod AddedLemmas
+mod BeatenLemmas
 mod DrawLemmas
+mod IndifferenceLemmas
 mod LawLemmas
+mod MergeLemmas
 mod OwnNameLemmas
+mod RangeLemmas
 mod RisingLemmas
 mod RowLemmas
 mod SameChoiceLemmas

@@ -26,7 +26,7 @@ module _ (words : Texts) where
   Rises [] = Unit {0}
   Rises (s ∷ symbols) = IsBelow s symbols × Rises symbols
 
-  below_first : (s t : Sym) (symbols : List Sym) → symbol_cmp words s t ≡ Less → IsBelow t symbols → IsBelow s symbols
+  pub below_first : (s t : Sym) (symbols : List Sym) → symbol_cmp words s t ≡ Less → IsBelow t symbols → IsBelow s symbols
   below_first s t [] e h = tt
   below_first s t (u ∷ symbols) e h = ((symbols_total words).trans s t u e h.0, below_first s t symbols e h.1)
 

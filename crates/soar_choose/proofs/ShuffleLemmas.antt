@@ -95,7 +95,7 @@ all_known words (row ∷ rows) h =
 known_shuffled : (words : Texts) (rows others : List Preference) → AreKnown words rows → IsPermutation rows others → AreKnown words others
 known_shuffled words rows others h same = all_known words others (All-permutation (known_row words) rows others same (each_known words rows h))
 
-turn : (a b : Sym) → symbol_eq a b ≡ symbol_eq b a
+pub turn : (a b : Sym) → symbol_eq a b ≡ symbol_eq b a
 turn a b = both_ways (symbol_eq a b) (symbol_eq b a) (turned a b) (turned b a)
 
 has_with : (words : Texts) (symbols : List Sym) (s v : Sym) → has_symbol (with_symbol words symbols s) v ≡ (symbol_eq v s || has_symbol symbols v)
@@ -117,7 +117,7 @@ has_with words (t ∷ symbols) s v = by (symbol_eq s t) (is_lt (symbol_cmp words
     by false true e rest = refl
     by false false e rest = ap (λ b. symbol_eq v t || b) rest ∙ past (symbol_eq v t) (symbol_eq v s) (has_symbol symbols v)
 
-has_values : (words : Texts) (k : PrefKind) (rows : List Preference) (v : Sym) → has_symbol (values_of words k rows) v ≡ has_kind rows k v
+pub has_values : (words : Texts) (k : PrefKind) (rows : List Preference) (v : Sym) → has_symbol (values_of words k rows) v ≡ has_kind rows k v
 has_values words k [] v = refl
 has_values words k (row ∷ rows) v = by (is_kind row.wish.kind k) (has_values words k rows v)
   where

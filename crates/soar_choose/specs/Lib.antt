@@ -1,3 +1,5 @@
 pub mod Laws
+pub mod Merging
 pub mod Parts
 pub mod Rows
+pub mod Told

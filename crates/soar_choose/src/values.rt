@@ -6,12 +6,38 @@ ghost use Rattle.soar_sym.specs.Words.{IsKnown};
 ghost use Rattle.soar_choose.specs.Parts.{AreSymbolsKnown};
 ghost use Rattle.soar_choose.specs.Rows.{AreKnown};
 
+use crate::merging::merged;
 use defs_soar::{PrefKind, Preference};
 use soar_sym::{NoMemory, Sym, SymTable, is_symbol};
 use std::alloc::Global;
 
-/// The values of the rows of a kind, in symbol order.
+/// The most rows whose values are put in order one by one.
+const FEW: usize = 16;
+
+/// The values of the rows of a kind, in symbol order, by halves.
 pub(crate) fn values_of(
+    alloc: Global,
+    table: &SymTable,
+    kind: PrefKind,
+    rows: &[Preference],
+) -> Result<Vec<Sym>, NoMemory>
+    requires { AreKnown table.now rows.now }
+    ensures { IfOk result (λ values. values.items ≡ values_of_rows table.now kind rows.now) }
+{
+    if rows.len() <= FEW {
+        let few = few_values_of(alloc, table, kind, rows)?;
+        return Ok(few);
+    }
+    table.law();
+    let (front, back) = rows.split_at(rows.len() / 2);
+    let first = values_of(alloc, table, kind, front)?;
+    let second = values_of(alloc, table, kind, back)?;
+    let both = merged(alloc, table, first.as_slice(), second.as_slice())?;
+    Ok(both)
+}
+
+/// The values of the rows of a kind, in symbol order, one by one.
+fn few_values_of(
     alloc: Global,
     table: &SymTable,
     kind: PrefKind,

@@ -43,6 +43,7 @@ const CHOICES: &[&str] = &[
     "A+ A~ B+ B- => none",
     // values are in symbol order, each once
     "nil+ 7+ B2+ io+ A+ -7+ B+ A+ => tie A B B2 -7 7 io nil",
+    "nil+ 7+ B2+ io+ A+ -7+ B+ A+ B= 7= A+ io+ nil+ B2= C+ C- A=B 7+ -7+ => tie A B B2 -7 7 io nil",
 ];
 
 #[test]

@@ -10,7 +10,7 @@ use Rattle.defs_run.specs.Orders.{unknown_command}
 use Rattle.defs_run.specs.RandomReading.{random_lexed, random_order}
 use Rattle.defs_run.specs.Stages.{Reading}
 use Rattle.defs_run.specs.WholeReading.{by_form, checked, read_arguments, read_source, read_sp, read_whole}
-use Rattle.soar_cmd.specs.Asked.{FormOf}
+use Rattle.command_orders.specs.Asked.{FormOf}
 
 -- what is read by three tests, one after the other
 abbrev picked : Reading → Reading → Reading → Reading → Bool → Bool → Bool → Reading

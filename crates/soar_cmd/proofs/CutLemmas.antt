@@ -1,16 +1,17 @@
 -- A text that was cut into tokens, and the table that its words joined.
-use Rattle.std.proofs.Common.{ℕ, zero, suc, ◌+◌, ◌-◌, ◌^◌, ◌<◌, ◌≤◌, List, [], ◌∷◌, length, map, Some, Err, sym, ap, subst, arith, length-append}
+use Rattle.std.proofs.Common.{ℕ, zero, suc, ◌+◌, ◌-◌, ◌≤◌, List, [], ◌∷◌, length, map, Some, Err, sym, ap, subst, arith}
 use Rattle.std.proofs.lemmas.List.{length-map}
 use Rattle.soar_sym.specs.Words.{Texts}
 use Rattle.defs_text.specs.Lexing.{Lexed, Piece, token, nothing, fault, front_at, piece_of, with_token, lexed_from, lexed}
-use Rattle.defs_text.specs.Numbered.{numbered, words_after}
+use Rattle.defs_text.specs.Numbered.{numbered, token_texts}
 use Rattle.defs_text.specs.declared.token.Token.{Token}
 use Rattle.defs_text.specs.declared.token.LexFault.{LexFault}
 use Rattle.defs_text.specs.declared.token.LexFault.TheVariants as faults
 use Rattle.defs_read.specs.Sayings.{AreTokensKnown}
 use Rattle.soar_lex.specs.Answers.{Gained, Grown, CutWhole, IsCut}
-use Rattle.soar_cmd.specs.Known.{AreSpelledIn}
-use Rattle.soar_cmd.proofs.WordLemmas.{tokens_known, tokens_spelled, words_more}
+use Rattle.soar_lex.proofs.WordLemmas.{grown_all}
+use Rattle.command_orders.specs.Known.{AreSpelledIn}
+use Rattle.soar_cmd.proofs.TokenLemmas.{tokens_known, tokens_spelled}
 
 abbrev after_piece : ℕ → List ℕ → Piece → Lexed
 after_piece place bytes piece =
@@ -46,23 +47,15 @@ pub cut_few : (old new : Texts) (bytes : List ℕ) (tokens : List Token) → Cut
 cut_few old new bytes tokens cut =
     omega (arith, ap length cut.tokens_are, length-map (lexed bytes).tokens (numbered new), tokens_few bytes)
 
-pub gained_few : (old new : Texts) (text : Lexed) → length old < 2 ^ 32 → Gained old new text → length (words_after old text.tokens) < 2 ^ 32
-gained_few old new text small gained = grind (arith, ap length gained.words, words_more old text.tokens, gained.few)
+-- a table with the words of a text has gained words
+pub gained_grown : (old new : Texts) (text : Lexed) → Gained old new text → Grown old new
+gained_grown old new text gained = subst (Grown old) (sym gained.words) (grown_all old (token_texts text.tokens))
 
-pub cut_small : (old new : Texts) (text : Lexed) (tokens : List Token) → length old < 2 ^ 32 → CutWhole old new text tokens → length new < 2 ^ 32
-cut_small old new text tokens small cut = omega (arith, ap length cut.gained.words, gained_few old new text small cut.gained)
-
-pub gained_more : (old new : Texts) (text : Lexed) → Gained old new text → length old ≤ length new
-gained_more old new text gained = omega (arith, ap length gained.words, words_more old text.tokens)
-
-pub grown_more : (old new : Texts) → Grown old new → length old ≤ length new
-grown_more old new grown = omega (arith, ap length grown.1, length-append old grown.0)
-
--- a fault leaves a table that has all words it had
-pub fault_more : (old new : Texts) (text : Lexed) (reason : LexFault) → IsCut old new text (Err reason) → length old ≤ length new
-fault_more old new text (faults.BadByte place) cut = gained_more old new text cut.1
-fault_more old new text (faults.OpenString place) cut = gained_more old new text cut.1
-fault_more old new text (faults.WideNumber place) cut = gained_more old new text cut.1
-fault_more old new text (faults.FloatNumber place) cut = gained_more old new text cut.1
-fault_more old new text faults.WordsSpent cut = grown_more old new cut.1
-fault_more old new text faults.NoMemory cut = grown_more old new cut
+-- so has one that a fault leaves
+pub fault_grown : (old new : Texts) (text : Lexed) (reason : LexFault) → IsCut old new text (Err reason) → Grown old new
+fault_grown old new text (faults.BadByte place) cut = gained_grown old new text cut.1
+fault_grown old new text (faults.OpenString place) cut = gained_grown old new text cut.1
+fault_grown old new text (faults.WideNumber place) cut = gained_grown old new text cut.1
+fault_grown old new text (faults.FloatNumber place) cut = gained_grown old new text cut.1
+fault_grown old new text faults.WordsSpent cut = cut.1
+fault_grown old new text faults.NoMemory cut = cut

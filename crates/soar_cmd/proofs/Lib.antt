@@ -1,11 +1,8 @@
-pub mod ArgumentLemmas
 pub mod CheckedLemmas
 pub mod CommandLemmas
 pub mod CutLemmas
 pub mod NameLemmas
-pub mod OrderLemmas
-pub mod PrintLemmas
 pub mod RandomLemmas
 pub mod ReadingLemmas
 pub mod SpelledLemmas
-pub mod WordLemmas
+pub mod TokenLemmas

@@ -6,7 +6,7 @@ use Rattle.defs_run.specs.Arguments.{Argument, bare, barred, label, number, sign
 use Rattle.defs_run.specs.Orders.{random}
 use Rattle.defs_run.specs.RandomReading.{numbers_of, random_order}
 use Rattle.random_words.specs.Answers.{number_in, numbers_in}
-use Rattle.soar_cmd.specs.Asked.{all_numbers, numbers_order}
+use Rattle.command_orders.specs.Asked.{all_numbers, numbers_order}
 
 number_first : (a : Argument) (numbers : List (Option ℕ)) (arguments : List Argument) → all_numbers numbers ≡ numbers_of arguments
     → all_numbers (number_in a ∷ numbers) ≡ numbers_of (a ∷ arguments)

@@ -1,5 +1,5 @@
 -- What was read of a command, and what the answers say of it.
-use Rattle.std.proofs.Common.{◌≡◌, ℕ, ◌-◌, ◌^◌, ◌<◌, ◌≤◌, List, length, map, Option, Some, None, Result, Ok, Err, refl, sym, ap, subst, ◌∙◌, arith, length-append}
+use Rattle.std.proofs.Common.{◌≡◌, ℕ, ◌-◌, ◌^◌, ◌<◌, ◌≤◌, List, length, map, Option, Some, None, Result, Ok, Err, refl, sym, ap, subst, ◌∙◌, arith}
 use Rattle.soar_sym.specs.Words.{Texts}
 use Rattle.soar_rule.specs.Checking.{Fault as CheckFault, ordered}
 use Rattle.soar_rule.specs.Productions.{ProductionOf, production_seen}
@@ -12,7 +12,8 @@ use Rattle.defs_read.specs.Grammar.{Tree}
 use Rattle.defs_read.specs.Readers.{Stop}
 use Rattle.defs_read.specs.ReadingActions.{tree_of}
 use Rattle.defs_read.specs.Sayings.{sayings}
-use Rattle.soar_lex.specs.Answers.{Gained}
+use Rattle.soar_lex.specs.Answers.{Gained, Grown}
+use Rattle.soar_lex.proofs.WordLemmas.{grown_length, grown_same}
 use Rattle.soar_read.specs.Answers.{IsRead, ReadAs, RefusedAs, SpentAs, meaning, stop_of, place_left as place_behind}
 use Rattle.soar_read.specs.declared.fault.ReadFault.{ReadFault}
 use Rattle.soar_read.specs.declared.fault.ReadFault.TheVariants as read
@@ -23,12 +24,12 @@ use Rattle.defs_run.specs.Stages.{Reading}
 use Rattle.defs_run.specs.WholeReading.{Judge, checked, of_check, of_lexing, of_ordered, of_stop, place_left, read_tokens, read_tree, unless_faulty}
 use Rattle.defs_run.specs.declared.form.Order.{Order as OrderRead}
 use Rattle.soar_cmd.specs.Answers.{GrowsOnly, IsCommandRead, IsJudged, fault_of, refusal_of}
-use Rattle.soar_cmd.specs.Asked.{FormOf, read_order}
-use Rattle.soar_cmd.specs.Known.{AreSpelledIn}
+use Rattle.command_orders.specs.Asked.{FormOf, read_order}
+use Rattle.command_orders.specs.Known.{AreSpelledIn}
 use Rattle.soar_cmd.specs.declared.fault.CmdFault.{CmdFault}
 use Rattle.soar_cmd.specs.declared.fault.CmdFault.TheVariants as fault
 use Rattle.soar_cmd.specs.declared.fault.Shown.TheVariants as shown
-use Rattle.soar_cmd.proofs.SpelledLemmas.{place_same, production_more, sayings_are}
+use Rattle.soar_cmd.proofs.SpelledLemmas.{place_same, production_grown, sayings_are}
 
 -- ---- an order or a refusal, read with a table
 
@@ -81,7 +82,8 @@ pub tokens_grow : (judge : Judge) → GrowsOnly (read_tokens judge)
 tokens_grow judge = λ words tokens. by words tokens (tree_of (map (λ t. t.says) tokens))
   where
     by : (words : Texts) (tokens : List Spelled) (o : Result Tree (Stop × ℕ)) → length words ≤ length (read_tree judge words tokens o).words
-    by words tokens (Ok tree) = production_more words (map (λ t. t.says) tokens) tree
+    by words tokens (Ok tree) =
+        grown_length words (production_of words (map (λ t. t.says) tokens) tree).words (production_grown words (map (λ t. t.says) tokens) tree)
     by words tokens (Err why) = omega arith
 
 -- ---- productions
@@ -139,11 +141,11 @@ fault_read old new tokens spelled read.WordsSpent result are have is gives =
 fault_read old new tokens spelled read.NoMemory result are have is gives =
     subst (λ (f : CmdFault). IsCommandRead new (read_tokens checked old spelled) (Err f)) (sym gives) tt
 
--- they leave the table with the words that it had
-pub fault_more : (old new : Texts) (tokens : List Token) (why : ReadFault) → IsRead old new tokens (Err why) → length old ≤ length new
-fault_more old new tokens (read.SyntaxFault place kind) is = omega (arith, ap length is.words)
-fault_more old new tokens read.WordsSpent is = omega (arith, ap length is.grown.1, length-append old is.grown.0)
-fault_more old new tokens read.NoMemory is = omega (arith, ap length is.1, length-append old is.0)
+-- their words are gained, if any
+pub fault_grown : (old new : Texts) (tokens : List Token) (why : ReadFault) → IsRead old new tokens (Err why) → Grown old new
+fault_grown old new tokens (read.SyntaxFault place kind) is = subst (Grown old) (sym is.words) (grown_same old)
+fault_grown old new tokens read.WordsSpent is = is.grown
+fault_grown old new tokens read.NoMemory is = is
 
 -- ---- faults of productions
 

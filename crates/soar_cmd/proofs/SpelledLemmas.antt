@@ -1,5 +1,5 @@
 -- Tokens with the words of a table, and what they spell.
-use Rattle.std.proofs.Common.{◌≡◌, ℕ, ◌==◌, ◌≤◌, List, [], ◌∷◌, length, map, refl, ap, ap₂, ◌∙◌}
+use Rattle.std.proofs.Common.{◌≡◌, ℕ, ◌==◌, List, [], ◌∷◌, length, map, refl, ap, ap₂, ◌∙◌}
 use Rattle.std.proofs.lemmas.List.{length-map}
 use Rattle.std.specs.Prelude.{if◌then◌else◌}
 use Rattle.soar_sym.specs.Words.{Texts}
@@ -11,9 +11,11 @@ use Rattle.defs_read.specs.Expansion.{names_in, production_of}
 use Rattle.defs_read.specs.Grammar.{Tree, part_and}
 use Rattle.defs_read.specs.Sayings.{saying_of, sayings}
 use Rattle.defs_run.specs.WholeReading.{place_left}
+use Rattle.soar_lex.specs.Answers.{Grown}
+use Rattle.soar_lex.proofs.WordLemmas.{grown_all}
 use Rattle.soar_read.specs.Answers.{place_left as place_behind}
-use Rattle.soar_cmd.specs.Known.{IsSayingIn, AreSpelledIn}
-use Rattle.soar_cmd.proofs.WordLemmas.{text_in, texts_more}
+use Rattle.command_orders.specs.Known.{IsSayingIn, AreSpelledIn}
+use Rattle.command_orders.proofs.WordLemmas.{text_in}
 
 saying_is : (words : Texts) (says : Saying) → IsSayingIn words says → saying_of words (kind_in words says) ≡ says
 saying_is words (mark b) has = refl
@@ -39,8 +41,8 @@ place_same words behind (t ∷ spelled) left =
     ∙ ap (λ place. if length (t ∷ spelled) == left then t.start else place) (place_same words t.end spelled left)
 
 -- the variables of a production join the table
-pub production_more : (words : Texts) (tokens : List Saying) (tree : Tree) → length words ≤ length (production_of words tokens tree).words
+pub production_grown : (words : Texts) (tokens : List Saying) (tree : Tree) → Grown words (production_of words tokens tree).words
 unfolding production_of
-production_more words tokens tree =
+production_grown words tokens tree =
     let conditions = parts_conditions (part_and tree.part tree.parts) words (record { used = names_in tokens; names = []; fresh = []; next = 1 }) in
-    texts_more words (actions_of words tree.actions conditions.names).names.fresh
+    grown_all words (actions_of words tree.actions conditions.names).names.fresh

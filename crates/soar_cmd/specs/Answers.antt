@@ -10,7 +10,7 @@ use Rattle.soar_read.specs.declared.fault.SyntaxKind.TheVariants as kind
 use Rattle.defs_run.specs.Orders.{Order, Refusal, refusal}
 use Rattle.defs_run.specs.Stages.{Reading}
 use Rattle.defs_run.specs.declared.form.Order.{Order as OrderRead}
-use Rattle.soar_cmd.specs.Asked.{order_seen}
+use Rattle.command_orders.specs.Asked.{order_seen}
 use Rattle.soar_cmd.specs.declared.fault.CmdFault.{CmdFault}
 use Rattle.soar_cmd.specs.declared.fault.CmdFault.TheVariants as fault
 use Rattle.soar_cmd.specs.declared.fault.Shown.{Shown}

@@ -1,4 +1,1 @@
 pub mod Answers
-pub mod Asked
-pub mod Behind
-pub mod Known

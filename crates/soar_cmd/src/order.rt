@@ -4,18 +4,15 @@ ghost use Rattle.defs_text.specs.Lexing.{Spelled};
 ghost use Rattle.defs_text.specs.Numbered.{numbered};
 ghost use Rattle.defs_read.specs.Sayings.{AreTokensKnown};
 ghost use Rattle.defs_run.specs.CommandForms.{alone};
-ghost use Rattle.soar_cmd.specs.Asked.{form_seen, order_by, order_seen};
-ghost use Rattle.soar_cmd.specs.Behind.{AreArgumentsKnown, argument_seen};
-ghost use Rattle.soar_cmd.specs.Known.{AreSpelledIn, IsOrderKnown, IsOrderRead};
+ghost use Rattle.command_orders.specs.Asked.{form_seen, order_by, order_seen};
+ghost use Rattle.command_orders.specs.Behind.{AreArgumentsKnown, argument_seen};
+ghost use Rattle.command_orders.specs.Known.{AreSpelledIn, IsOrderKnown, IsOrderRead};
 
-use crate::addition::{addition_order, input_order};
-use crate::argument::{Argument, arguments_behind};
-use crate::form::Form;
-use crate::name::{excise_order, explain_order, matches_order};
-use crate::number::{elaborations_order, removal_order, run_order, watch_order};
-use crate::print::printing_order;
-use crate::settings::{chunk_order, selection_order};
-use crate::slot::slot_order;
+use command_orders::{
+    Argument, Form, addition_order, arguments_behind, chunk_order, elaborations_order,
+    excise_order, explain_order, input_order, matches_order, printing_order, removal_order,
+    run_order, selection_order, slot_order, watch_order,
+};
 use defs_run::Order;
 use defs_text::Token;
 use soar_sym::{NoMemory, SymTable};

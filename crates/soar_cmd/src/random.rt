@@ -2,8 +2,8 @@
 ghost use Rattle.std.specs.Prelude.{◌≡◌, option_map, IfOk};
 ghost use Rattle.soar_sym.specs.Words.{Texts};
 ghost use Rattle.defs_run.specs.Orders.{random};
-ghost use Rattle.soar_cmd.specs.Asked.{all_numbers, numbers_order, order_seen};
-ghost use Rattle.soar_cmd.specs.Known.{IsOrderRead};
+ghost use Rattle.command_orders.specs.Asked.{all_numbers, numbers_order, order_seen};
+ghost use Rattle.command_orders.specs.Known.{IsOrderRead};
 
 use defs_run::Order;
 use soar_sym::{List, NoMemory};

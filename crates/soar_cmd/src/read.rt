@@ -9,16 +9,17 @@ ghost use Rattle.defs_read.specs.Sayings.{AreTokensKnown};
 ghost use Rattle.defs_soar.specs.Pending.{is_justification};
 ghost use Rattle.defs_run.specs.RandomReading.{random_lexed, random_order};
 ghost use Rattle.defs_run.specs.WholeReading.{checked, or_wrong, read_arguments, read_source, read_sp, read_tokens, read_whole};
+ghost use Rattle.soar_lex.specs.Answers.{Grown};
+ghost use Rattle.command_orders.specs.Asked.{form_seen, numbers_order, order_by};
+ghost use Rattle.command_orders.specs.Known.{AreSpelledIn, IsOrderKnown};
 ghost use Rattle.soar_cmd.specs.Answers.{IsCommandRead, IsJudged};
-ghost use Rattle.soar_cmd.specs.Asked.{form_seen, numbers_order, order_by};
-ghost use Rattle.soar_cmd.specs.Known.{AreSpelledIn, IsOrderKnown};
 
 use crate::fault::CmdFault;
-use crate::form::{Form, form_of, is_word};
 use crate::order::order_by;
 use crate::random::random_order;
 use crate::refused::{of_check, of_lexing, of_reading, refused};
 use crate::source::source_order;
+use command_orders::{Form, form_of, is_word};
 use defs_run::Order;
 use defs_text::Token;
 use file_names::first_run;
@@ -37,7 +38,7 @@ pub fn read_command(alloc: Global, table: &mut SymTable, c: &Command) -> Result<
     requires { length c.now.text ≤ 2 ^ 26 }
     ensures reading { IsCommandRead table.new (read_whole table.old c.now.text) result }
     ensures known { IfOk result (λ order. IsOrderKnown table.new order) }
-    ensures grown { length table.old ≤ length table.new }
+    ensures grown { Grown table.old table.new }
 {
     let word = first_run(c.text.as_slice());
     if is_word(word, b"sp") {
@@ -62,7 +63,7 @@ fn read_sp(alloc: Global, table: &mut SymTable, text: &List<u8>) -> Result<Order
     requires { length text.now ≤ 2 ^ 26 }
     ensures reading { IsCommandRead table.new (read_sp checked table.old text.now) result }
     ensures known { IfOk result (λ order. IsOrderKnown table.new order) }
-    ensures grown { length table.old ≤ length table.new }
+    ensures grown { Grown table.old table.new }
 {
     match lex(alloc, table, text) {
         Ok(tokens) => read_tokens(alloc, table, &tokens),
@@ -77,7 +78,7 @@ fn read_tokens(alloc: Global, table: &mut SymTable, tokens: &List<Token>) -> Res
     ensures reading { (spelled : ListOf Spelled) → tokens.now ≡ map (numbered table.old) spelled → AreSpelledIn table.old spelled
         → IsCommandRead table.new (read_tokens checked table.old spelled) result }
     ensures known { IfOk result (λ order. IsOrderKnown table.new order) }
-    ensures grown { length table.old ≤ length table.new }
+    ensures grown { Grown table.old table.new }
 {
     match read_production(alloc, table, tokens) {
         Ok(production) => judge(alloc, table, &production),
@@ -123,7 +124,7 @@ fn read_form(
     requires { length text.now ≤ 2 ^ 26 }
     ensures reading { IsCommandRead table.new (read_arguments table.old text.now (lexed text.now) (form_seen form)) result }
     ensures known { IfOk result (λ order. IsOrderKnown table.new order) }
-    ensures grown { length table.old ≤ length table.new }
+    ensures grown { Grown table.old table.new }
 {
     match lex(alloc, table, text) {
         Ok(tokens) => order_or_refusal(alloc, table, form, text.as_slice(), tokens.as_slice()),
@@ -157,7 +158,7 @@ fn read_random(alloc: Global, table: &mut SymTable, text: &List<u8>) -> Result<O
     requires { length text.now ≤ 2 ^ 26 }
     ensures reading { IsCommandRead table.new (read_arguments table.old text.now (random_lexed 0 0 text.now) (λ words. random_order)) result }
     ensures known { IfOk result (λ order. IsOrderKnown table.new order) }
-    ensures grown { length table.old ≤ length table.new }
+    ensures grown { Grown table.old table.new }
 {
     match lex_random(alloc, table, text) {
         Ok(numbers) => random_or_refusal(alloc, numbers.as_slice()),

@@ -3,8 +3,8 @@ ghost use Rattle.std.specs.Prelude.{◌≤◌, ◌^◌, IfOk, Ok, length};
 ghost use Rattle.soar_sym.specs.Words.{Texts};
 ghost use Rattle.defs_run.specs.Orders.{source};
 ghost use Rattle.defs_run.specs.WholeReading.{file_name, source_order};
+ghost use Rattle.command_orders.specs.Known.{IsOrderKnown};
 ghost use Rattle.soar_cmd.specs.Answers.{IsJudged};
-ghost use Rattle.soar_cmd.specs.Known.{IsOrderKnown};
 
 use crate::fault::CmdFault;
 use crate::refused::{refused, refused_at};

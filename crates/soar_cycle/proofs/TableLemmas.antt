@@ -40,6 +40,7 @@ sound_grown a words more sound = record {
   goals_few = sound.goals_few;
   goals_known = goals_grown a.table words a.letters a.letters a.goals more (λ letter. omega arith) sound.goals_known;
   depends_fit = sound.depends_fit;
+  doubted = sound.doubted;
   element_limit = sound.element_limit;
   row_limit = sound.row_limit;
   few_rows = sound.few_rows;
@@ -91,7 +92,7 @@ stands_grown a words s h = record {
   settings = h.settings;
   output = h.output;
   halted = h.halted;
-  remembers = remembers_same a (with_words a words) s.history refl refl refl refl h.remembers;
+  remembers = remembers_same a (with_words a words) s.history refl refl refl refl refl refl refl h.remembers;
 }
 
 pub lawful_grown : (a : PartsKept) (words : Texts) → Grown a.table words → EachOnce words → IsOfLawful a → IsOfLawful (with_words a words)

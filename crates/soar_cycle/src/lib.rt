@@ -5,6 +5,7 @@ mod agent;
 mod calls;
 mod counts;
 mod explaining;
+mod levels;
 mod program;
 mod running;
 mod standing;

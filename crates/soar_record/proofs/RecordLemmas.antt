@@ -1,5 +1,5 @@
 -- A record as its firings: what stands under a number, and one firing more.
-use Rattle.std.proofs.Common.{◌≡◌, refl, sym, ◌∙◌, ap, subst, ℕ, nat_eq, Bool, true, false, ◌==◌, cond, arith, List, [], ◌∷◌, ◌++◌, map, filter, Option, Some, None}
+use Rattle.std.proofs.Common.{◌≡◌, refl, sym, ◌∙◌, ap, subst, ℕ, nat_eq, Bool, true, false, ◌==◌, cond, arith, List, [], ◌∷◌, ◌++◌, Option, Some, None}
 use Rattle.std.proofs.Math.Dec.{eqb→eq}
 use Rattle.std.specs.Bool.{passes}
 use Rattle.std.specs.List.{slice_get}

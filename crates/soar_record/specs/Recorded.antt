@@ -1,12 +1,25 @@
 -- Firings that are kept under their numbers.
-use Rattle.std.specs.Prelude.{◌≡◌, ℕ, List, [], ◌∷◌, map}
+use Rattle.std.specs.Prelude.{◌≡◌, ℕ, Bool, ◌==◌, List, [], ◌∷◌, map, filter}
+use Rattle.std.specs.List.{list_any}
 use Rattle.defs_soar.specs.declared.firing.Firing.{Firing}
+use Rattle.defs_soar.specs.Explanation.{explaining}
 use Rattle.defs_soar.specs.History.{FiringOf, firing_seen}
 use Rattle.defs_soar.specs.Standing.{AreFrom}
 
 -- the firings that a record keeps, as plain data
 abbrev pub recorded : List Firing → List FiringOf
 recorded firings = map firing_seen firings
+
+-- those that have one of these numbers, in order
+abbrev pub is_of : List ℕ → FiringOf → Bool
+is_of numbers f = list_any (λ n. n == f.number) numbers
+
+abbrev pub of_numbers : List ℕ → List FiringOf → List FiringOf
+of_numbers numbers firings = filter (is_of numbers) firings
+
+-- the roots, and all that they rest on through what they used
+abbrev pub reached_by : List ℕ → List FiringOf → List FiringOf
+reached_by roots firings = of_numbers (explaining firings roots) firings
 
 -- the firings that stand under some numbers, in order
 abbrev pub firings_in : List (ℕ × Firing) → List Firing

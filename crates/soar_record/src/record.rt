@@ -1,19 +1,26 @@
-ghost use Rattle.std.specs.Prelude.{◌≡◌, ◌∷◌, ◌++◌, [], IfOk, OnOk, OnErr};
+ghost use Rattle.std.specs.List.{list_any};
+ghost use Rattle.std.specs.Prelude.{◌≡◌, ◌==◌, ◌∷◌, ◌++◌, [], IfOk, OnOk, OnErr};
 ghost use Rattle.defs_soar.specs.Explanation.{firing_of};
 ghost use Rattle.defs_soar.specs.History.{firing_seen};
 ghost use Rattle.defs_soar.specs.Standing.{AreFrom};
-ghost use Rattle.soar_record.specs.Recorded.{recorded};
+ghost use Rattle.soar_record.specs.Recorded.{of_numbers, recorded};
 
 use defs_soar::{Firing, Keeps};
 use indexmap::IndexMap;
 use soar_sym::NoMemory;
 use std::alloc::Global;
+use std::collections::BTreeSet;
 use std::marker::Model;
+
+/// So many firings may be kept at least before those that nothing needs are looked for.
+const LEAST_BOUND: usize = 1_000;
 
 /// Firings by number, in the order in which they were added.
 #[derive(Drop)]
 pub struct Record {
     firings: IndexMap<u64, Firing>,
+    /// With more firings than this it is time to look for those that nothing needs.
+    bound: usize,
 }
 
 impl Model for Record {
@@ -39,6 +46,7 @@ impl Record {
     {
         Ok(Record {
             firings: IndexMap::new(alloc),
+            bound: LEAST_BOUND,
         })
     }
 
@@ -53,12 +61,36 @@ impl Record {
         Ok(())
     }
 
+    /// Whether so many firings were added since the last look that it is worth to look for those that nothing needs: the
+    /// record has twice as many as stayed then, and over a thousand.
+    pub fn is_due(&self) -> bool {
+        self.firings.len() > self.bound
+    }
+
+    /// Drops all firings but those of these numbers. It takes no memory.
+    pub fn keep(&mut self, numbers: &BTreeSet<u64>)
+        ensures { recorded self.new ≡ of_numbers numbers.now.keys (recorded self.old) }
+    {
+        self.firings.retain(
+            |number: &u64, firing: &mut Firing| -> bool
+                ensures { (result ≡ list_any (λ n. n == number.now) numbers.entry.now.keys) × (firing.new ≡ firing.old) }
+            { is_among(numbers, *number) },
+        );
+        self.bound = self.firings.len().saturating_mul(2).max(LEAST_BOUND);
+    }
+
     /// A law for callers' proofs: nothing is done.
     pub fn numbers_stand_once(&self)
         ensures { AreFrom (recorded self.now) (recorded self.now) }
     {
         let _ = &self.firings;
     }
+}
+
+fn is_among(numbers: &BTreeSet<u64>, number: u64) -> bool
+    ensures { result ≡ list_any (λ n. n == number) numbers.now.keys }
+{
+    numbers.contains(&number)
 }
 
 impl Keeps for Record {

@@ -30,7 +30,7 @@ use Rattle.wave_parts.specs.Changing.{HasChanged}
 use Rattle.wave_parts.specs.Leaving.{IsMadeFit}
 use Rattle.wave_parts.specs.Living.{has_left, still_live}
 use Rattle.wave_parts.specs.Programs.{program_of}
-use Rattle.wave_parts.specs.Remembers.{Remembers}
+use Rattle.wave_parts.specs.Remembers.{Remembers, RemembersGoals}
 use Rattle.wave_parts.specs.Resettles.{resettled_now}
 use Rattle.wave_parts.specs.Seen.{AreLiveKnown, IsSound, agent_of}
 use Rattle.wave_parts.specs.WaveParts.{ended_in, live_after, rows_made_in, settled_after, unsettled}
@@ -124,11 +124,10 @@ pub settles_same : (new : PartsKept) (history : List RecordedFiring) (a : Agent)
     → resettled_now (agent_of new history) ≡ settled_after a gone v
 settles_same new history a gone v stands = ap resettled_now stands
 
--- what is remembered is remembered, as words, rules, rows and live firings change
-pub mid_remembers : (old worked mid : PartsKept) (history : List RecordedFiring) → IsWorkedFrom old worked → IsMidOf worked mid → Remembers old history → Remembers mid history
+-- what settling goes by is remembered, as words, rules, rows and live firings change
+pub mid_remembers : (old worked mid : PartsKept) (history : List RecordedFiring) → IsWorkedFrom old worked → IsMidOf worked mid → Remembers old history → RemembersGoals mid history
 mid_remembers old worked mid history from is remembers =
-    subst (λ (m : PartsKept). Remembers m history) (sym (mid_is old worked mid from is)) (record {
-      firings_are = remembers.firings_are;
+    subst (λ (m : PartsKept). RemembersGoals m history) (sym (mid_is old worked mid from is)) (record {
       depends_are = remembers.depends_are;
       goals_numbered = λ p s at of_goal. numbered_later old.letters worked.letters s from.letters (remembers.goals_numbered p s at of_goal);
     })
@@ -169,6 +168,7 @@ renewed_sound a prefs live gone made new keeps s renews lives fit =
       goals_few = s.goals_few;
       goals_known = s.goals_known;
       depends_fit = s.depends_fit;
+      doubted = s.doubted;
       element_limit = s.element_limit;
       row_limit = ap (λ (p : PreferenceMemory). p.limit) renews.rows ∙ s.row_limit;
       few_rows = omega (
@@ -214,6 +214,7 @@ counted_sound a waves retractions s = record {
   goals_few = s.goals_few;
   goals_known = s.goals_known;
   depends_fit = s.depends_fit;
+  doubted = s.doubted;
   element_limit = s.element_limit;
   row_limit = s.row_limit;
   few_rows = s.few_rows;

@@ -11,16 +11,23 @@ use Rattle.soar_settle.specs.declared.stop.Stop.{Stop}
 use Rattle.trace_laws.specs.Events.{AreEventsKnown}
 use Rattle.defs_match.specs.Rules.{rule_seen}
 use Rattle.defs_soar.specs.declared.firing.Firing.{Firing}
-use Rattle.defs_soar.specs.Agents.{Agent}
 use Rattle.defs_soar.specs.History.{RecordedFiring}
 use Rattle.defs_soar.specs.Learning.{with_learning}
 use Rattle.defs_soar.specs.Pending.{Work as WorkOf}
 use Rattle.defs_soar.specs.Preferences.{without_firings}
+use Rattle.defs_soar.specs.Resettling.{AgentStep}
+use Rattle.defs_soar.specs.Standing.{roots_of}
 use Rattle.defs_soar.specs.Trimming.{numbers_of}
 use Rattle.defs_soar.specs.WaveAtHand.{Entry as EntryOf, all_fresh}
 use Rattle.defs_soar.specs.Waves.{live_of, rows_added, wave_of}
-use Rattle.agent_laws.specs.Dependence.{GoalsDependOnMore, MakersAreEarlier, each_with}
-use Rattle.agent_laws.specs.Records.{AreRisingFrom}
+use Rattle.agent_laws.specs.Dependence.{GoalsDependOnMore, MakersAreEarlier}
+use Rattle.agent_laws.specs.Records.{AreApart, AreRisingFrom}
+use Rattle.agent_laws.proofs.OrderLaws.{learning_keeps_order}
+use Rattle.dependency_tables.specs.Tables.{all_tags, each_with_tags}
+use Rattle.learning_laws.specs.LawfulWaves.{LearningKeeps, fresh_firings}
+use Rattle.record_laws.specs.Closed.{AreRecorded, HasMakers}
+use Rattle.record_laws.specs.Joining.{IsRecordAfter}
+use Rattle.record_laws.proofs.JoiningLaws.{waves_leave_record}
 use Rattle.firing_records.specs.Recorded.{recorded_seen}
 use Rattle.goal_dependence.specs.Remembered.{CanJoin, firings_of, past_by, reach_over, tags_found_from}
 use Rattle.goal_dependence.proofs.DependenceSteps.{tags_of_left}
@@ -38,10 +45,10 @@ use Rattle.wave_parts.specs.Carrying.{Carried}
 use Rattle.wave_parts.specs.Changing.{Changes, HasChanged, StopsAs}
 use Rattle.wave_parts.specs.Counting.{Counts}
 use Rattle.wave_parts.specs.Leaving.{IsMadeFit}
-use Rattle.wave_parts.specs.Remembers.{Remembers}
-use Rattle.wave_parts.specs.Resettles.{IsLeft, IsResettled, Resettles, resettled_now}
-use Rattle.wave_parts.specs.Seen.{AreLiveGiven, AreLiveKnown, IsSound, agent_of}
-use Rattle.wave_parts.specs.Stands.{Stands}
+use Rattle.wave_parts.specs.Lawful.{IsOfLawful}
+use Rattle.wave_parts.specs.Remembers.{Remembers, RemembersGoals, roots_in}
+use Rattle.wave_parts.specs.Resettles.{IsLeft, ResettlesAll}
+use Rattle.wave_parts.specs.Seen.{AreLiveGiven, AreLiveKnown, IsSound, agent_of, pending_of}
 use Rattle.wave_parts.specs.Teaching.{AreRetaught}
 use Rattle.wave_parts.specs.WaveParts.{ended_in, rows_in_all, rows_made_in, unsettled}
 use Rattle.wave_parts.specs.Working.{HoldsWave, IsWorkedFrom, IsWorkedOut, WorksOut, firings_at}
@@ -49,13 +56,13 @@ use Rattle.wave_parts.specs.declared.changing.WaveChange.{WaveChange}
 use Rattle.wave_parts.specs.declared.parts.Parts.{Parts as PartsKept}
 use Rattle.wave_parts.specs.declared.working.WaveWorked.{WaveWorked}
 use Rattle.wave_parts.proofs.CarriedLemmas.{counted_now, retracted_length, retractions_stop, rows_fit, rows_stop, waves_stop, work_stops}
-use Rattle.wave_parts.proofs.CarryLemmas.{Counted}
-use Rattle.wave_parts.proofs.CarryingLemmas.{IsMidOf, mid_is, mid_remembers, mid_stands, renews_old, rows_old, waves_more}
-use Rattle.wave_parts.proofs.DoneLemmas.{done, remembers_wave, report_known, settling_stop, wave_sound, with_wave}
+use Rattle.wave_parts.proofs.CarryLemmas.{Counted, stands_after}
+use Rattle.wave_parts.proofs.CarryingLemmas.{IsMidOf, mid_is, mid_remembers, mid_stands, renews_old, rows_old, settles_same, waves_more}
+use Rattle.wave_parts.proofs.DoneLemmas.{IsRecordedAfter, done, remembers_wave, report_known, settling_stop, wave_sound, with_wave}
 use Rattle.wave_parts.proofs.NamedLemmas.{live_grown}
+use Rattle.wave_parts.proofs.RecordedLemmas.{lawful_at}
 use Rattle.wave_parts.proofs.RememberedLemmas.{makers_joined, makers_of_new, recorded_firings}
 use Rattle.wave_parts.proofs.RetaughtLemmas.{retaught, retracted_given}
-use Rattle.wave_parts.proofs.StandsLemmas.{stands_at}
 
 -- nothing changes where nothing settles
 pub left_itself : (a : PartsKept) → IsLeft a a
@@ -150,25 +157,35 @@ module _ (old mid : PartsKept) (work : Work) (change : WaveChange) (sound : IsSo
         mid_stands old mid work change history w x pend.retracted_are holds (waves_more mid.waves old.waves x.waves_are)
         (x.retractions_are ∙ ap (λ n. old.retractions + n) (retracted_length (map rule_seen old.rules) old.memory.elements work w pend))
 
-    stands_now : Stands mid (agent_of mid history)
-    stands_now = stands_at mid history (mid_remembers old x.worked mid history x.from is_mid remembers)
+    goals_now : RemembersGoals mid history
+    goals_now = mid_remembers old x.worked mid history x.from is_mid remembers
 
-    pub settling_stops : (new : PartsKept) (why : Stop) → ((s : Agent) → Stands mid s → Resettles new s (Err why)) → StopsAs (wave_of with_learning (agent_of old history) w) why
-    settling_stops new why stops = settling_stop old mid new history w why counted holds.within room stands (stops (agent_of mid history) stands_now)
+    pub settling_stops : (new : PartsKept) (why : Stop) → ResettlesAll mid new (Err why) → StopsAs (wave_of with_learning (agent_of old history) w) why
+    settling_stops new why stops = settling_stop old mid new history w why counted holds.within room stands (stops history goals_now)
 
-    pub is_carried : GoalsDependOnMore → (new : PartsKept) (settled : Settled) (depends : List (List ℕ)) (firings : List Firing)
-        → ((s : Agent) → Stands mid s → IsResettled new settled (resettled_now s)) → recorded new.past ≡ recorded old.past
-        → recorded firings ≡ recorded new.past ++ firings_of change.recorded
-        → depends ≡ each_with new.depends (tags_found_from (recorded firings) (map (past_by (reach_over old.goals old.memory.elements) change.added) change.recorded) 2 (drop 1 new.goals))
-        → Carried (with_wave new depends firings change.halted) (record { retracted = work.retracted; fired = change.told; settled = settled }) change.halted (wave_of with_learning (agent_of old history) w)
-    is_carried law new settled depends firings settles same_record firings_is depends_is =
-        let settles_here = settles (agent_of mid history) stands_now in
-        done old mid new history w work.retracted change.told change.halted settled depends firings counted holds.within room stands settles_here
-        (remembers_wave law old mid new history w change.recorded change.halted settled change.added depends firings sound remembers
+    pub is_carried : GoalsDependOnMore → (new : PartsKept) (settled : Settled) (depends : List (List ℕ)) (doubted : List ℕ) (firings : List Firing) → ResettlesAll mid new (Ok settled)
+        → IsRecordedAfter old new change.recorded firings
+        → depends ≡ each_with_tags new.depends (tags_found_from (recorded firings) (map (past_by (reach_over old.goals old.memory.elements) change.added) change.recorded) 2 (drop 1 new.goals))
+        → Carried (with_wave new depends doubted firings change.halted) (record { retracted = work.retracted; fired = change.told; settled = settled }) change.halted (wave_of with_learning (agent_of old history) w)
+    is_carried law new settled depends doubted firings settles after depends_is =
+        let settles_here = settles history goals_now in
+        done old mid new history w work.retracted change.told change.halted settled depends doubted firings counted holds.within room stands settles_here
+        (remembers_wave law old mid new history w change.recorded change.halted settled change.added depends doubted firings sound remembers
         (subst (LettersKeep old.letters) (sym (ap (λ (a : PartsKept). a.letters) (mid_is old x.worked mid x.from is_mid))) x.from.letters)
-        (x.recorded_are ∙ ap recorded_in holds.entries_are) settles_here same_record rising (subst (AreGoalsOf old.goals) (sym x.recorded_are) x.out.fit.goals)
-        (x.added_is ∙ (λ k. rows_added (without_firings (x.from.same k).prefs.rows (numbers_of (pend.retracted_are k))) (rows_are k))) firings_is depends_is)
+        (x.recorded_are ∙ ap recorded_in holds.entries_are) settles_here after rising makers (subst (AreGoalsOf old.goals) (sym x.recorded_are) x.out.fit.goals)
+        (x.added_is ∙ (λ k. rows_added (without_firings (x.from.same k).prefs.rows (numbers_of (pend.retracted_are k))) (rows_are k))) depends_is)
         pend.retracted_are (x.told_are ∙ ap events_in holds.entries_are) holds.halted_is
+
+    -- the firings that are recorded are those of the wave
+    fresh_are : firings_of change.recorded ≡ fresh_firings (ended_in (agent_of old history) w)
+    fresh_are = firings_are ∙ ap firings_at holds.entries_are
+
+    -- the roots are those of the agent after the wave
+    roots_are : (new : PartsKept) (settled : Settled) → ResettlesAll mid new (Ok settled) → roots_in new ≡ roots_of (wave_of with_learning (agent_of old history) w).agent
+    roots_are new settled settles =
+        let a = agent_of old history in
+        let s = settles history goals_now in
+        ap roots_of (stands_after a (agent_of new history) w change.halted (s.agent_is ∙ ap (λ (t : AgentStep). t.agent) (settles_same mid history a w.retracted (ended_in a w) stands)) holds.halted_is)
 
   -- ---- behind settling
 
@@ -191,31 +208,54 @@ module _ (old mid : PartsKept) (work : Work) (change : WaveChange) (sound : IsSo
         makers_joined (recorded new.past) (firings_of change.recorded) (subst (λ past. MakersAreEarlier (recorded past)) (sym past_is) sound.makers_earlier)
         (makers_of_new old.firings change.recorded rising makers)
 
+    -- what the record has after the wave, as it is in a lawful state for which the parts stand
+    pub record_after : LearningKeeps → IsOfLawful old → (settled : Settled) (firings : List Firing) → ResettlesAll mid new (Ok settled)
+        → recorded firings ≡ recorded new.past ++ firings_of change.recorded → IsRecordedAfter old new change.recorded firings
+    record_after keeps lawful settled firings settles firings_join =
+        let history = lawful.agent.history in
+        let remembers = lawful.stands.remembers in
+        let w = pending_of x.pending.0 old in
+        let a = agent_of old history in
+        let after : IsRecordAfter (recorded old.past) (fresh_firings (ended_in a w)) (wave_of with_learning a w).agent =
+        waves_leave_record with_learning keeps learning_keeps_order (recorded old.past) a x.pending.0 (lawful_at old lawful) remembers.is_record remembers.makers_kept in
+        let all : recorded firings ≡ recorded old.past ++ firings_of change.recorded = firings_join ∙ ap (λ past. recorded past ++ firings_of change.recorded) past_is in
+        let fresh : recorded old.past ++ fresh_firings (ended_in a w) ≡ recorded firings = ap (λ fs. recorded old.past ++ fs) (sym (fresh_are history remembers w x.pending.1)) ∙ sym all in
+        record {
+          firings_are = all;
+          more = subst (λ n. old.firings ≤ n) (sym firings_is) x.out.counted;
+          numbers = subst (λ n. AreRecordedUpTo n (firings_of change.recorded)) (sym firings_is) (subst (AreRecordedUpTo x.worked.firings) (sym firings_are) x.out.fit.recorded_up_to);
+          apart = subst (λ kept. AreApart kept) fresh after.apart;
+          makers = subst HasMakers fresh after.makers;
+          roots =
+              subst (AreRecorded (recorded firings)) (sym (roots_are history remembers w x.pending.1 new settled settles))
+              (subst (λ kept. AreRecorded kept (roots_of (wave_of with_learning a w).agent)) fresh after.roots);
+        }
+
     -- the tags that were found before all settled join the tables of the goals that are left
     pub depends_left : (depends tags : List (List ℕ)) (firings : List Firing) → IsSound new → new.goals ≡ take (length new.goals) mid.goals
         → recorded firings ≡ recorded new.past ++ firings_of change.recorded
         → tags ≡ tags_found_from (recorded mid.past ++ firings_of change.recorded) (map (past_by (reach_over mid.goals mid.memory.elements) change.added) change.recorded) 2 (drop 1 mid.goals)
-        → depends ≡ each_with new.depends tags
-        → depends ≡ each_with new.depends (tags_found_from (recorded firings) (map (past_by (reach_over old.goals old.memory.elements) change.added) change.recorded) 2 (drop 1 new.goals))
+        → depends ≡ each_with_tags new.depends tags
+        → depends ≡ each_with_tags new.depends (tags_found_from (recorded firings) (map (past_by (reach_over old.goals old.memory.elements) change.added) change.recorded) 2 (drop 1 new.goals))
     depends_left depends tags firings s first firings_join tags_are is =
         let goals_are : mid.goals ≡ old.goals = ap (λ (a : PartsKept). a.goals) (mid_is old x.worked mid x.from is_mid) in
         let all : recorded mid.past ++ firings_of change.recorded ≡ recorded firings = ap (λ past. recorded past ++ firings_of change.recorded) (sym remains.past) ∙ sym firings_join in
         is
-        ∙ ap (each_with new.depends) tags_are
+        ∙ ap (each_with_tags new.depends) tags_are
         ∙ tags_of_left (recorded mid.past ++ firings_of change.recorded) (map (past_by (reach_over mid.goals mid.memory.elements) change.added) change.recorded) 2 mid.goals new.goals new.depends first s.depends_fit
-        ∙ (λ k. each_with new.depends (tags_found_from (all k) (map (past_by (reach_over (goals_are k) (memory_is k).elements) change.added) change.recorded) 2 (drop 1 new.goals)))
+        ∙ (λ k. each_with_tags new.depends (tags_found_from (all k) (map (past_by (reach_over (goals_are k) (memory_is k).elements) change.added) change.recorded) 2 (drop 1 new.goals)))
 
-    pub end_is_sound : (depends : List (List ℕ)) (firings : List Firing) (tags : List (List ℕ)) → IsSound new
-        → recorded firings ≡ recorded new.past ++ firings_of change.recorded → depends ≡ each_with new.depends tags → IsSound (with_wave new depends firings change.halted)
-    end_is_sound depends firings tags s firings_join depends_is =
-        wave_sound new old.firings change.recorded depends firings change.halted tags s rising makers
+    pub end_is_sound : (depends : List (List ℕ)) (doubted : List ℕ) (firings : List Firing) (tags : List (List ℕ)) → IsSound new
+        → recorded firings ≡ recorded new.past ++ firings_of change.recorded → depends ≡ each_with_tags new.depends tags → doubted ≡ new.doubted ++ all_tags tags → IsSound (with_wave new depends doubted firings change.halted)
+    end_is_sound depends doubted firings tags s firings_join depends_is doubted_is =
+        wave_sound new old.firings change.recorded depends doubted firings change.halted tags s rising makers
         (subst (λ n. AreRecordedUpTo n (firings_of change.recorded)) (sym firings_is) (subst (AreRecordedUpTo x.worked.firings) (sym firings_are) x.out.fit.recorded_up_to))
         (subst (λ words. AreNamed words (firings_of change.recorded)) (sym table_is) (subst (AreNamed x.worked.table) (sym firings_are) x.out.fit.named))
-        firings_join depends_is
+        firings_join depends_is doubted_is
 
-    pub is_retaught : (depends : List (List ℕ)) (firings : List Firing) → AreRetaught old (with_wave new depends firings change.halted) change.spent
-    is_retaught depends firings =
-        retaught old x.worked (map live_seen work.retracted) sound x.out.joined (retracted_given old work sound x.pending) mid (with_wave new depends firings change.halted) change.spent
+    pub is_retaught : (depends : List (List ℕ)) (doubted : List ℕ) (firings : List Firing) → AreRetaught old (with_wave new depends doubted firings change.halted) change.spent
+    is_retaught depends doubted firings =
+        retaught old x.worked (map live_seen work.retracted) sound x.out.joined (retracted_given old work sound x.pending) mid (with_wave new depends doubted firings change.halted) change.spent
         x.spent_is x.program_is remains.rules remains.last_rule
 
     pub is_known : (settled : Settled) → AreLiveKnown old.table (map live_seen work.retracted) → AreEventsKnown new.table (settled_events settled)

@@ -8,13 +8,14 @@ use Rattle.soar_settle.specs.declared.stop.Stop.TheVariants as stop
 use Rattle.defs_soar.specs.declared.firing.Firing.{Firing}
 use Rattle.defs_soar.specs.declared.preference.Preference.{Preference}
 use Rattle.defs_soar.specs.Agents.{Agent, LiveFiring}
-use Rattle.defs_soar.specs.History.{RecordedFiring}
+use Rattle.defs_soar.specs.History.{FiringOf, RecordedFiring}
 use Rattle.defs_soar.specs.Learning.{with_learning}
 use Rattle.defs_soar.specs.Limits.{first_passed}
 use Rattle.defs_soar.specs.Pending.{Work as WorkOf}
 use Rattle.defs_soar.specs.Phases.{halting}
 use Rattle.defs_soar.specs.Preferences.{without_firings}
 use Rattle.defs_soar.specs.Resettling.{resettled}
+use Rattle.defs_soar.specs.Standing.{AreFrom}
 use Rattle.defs_soar.specs.Trimming.{numbers_of}
 use Rattle.defs_soar.specs.WaveAtHand.{all_fresh}
 use Rattle.defs_soar.specs.WaveFirings.{before_wave}
@@ -22,8 +23,15 @@ use Rattle.defs_soar.specs.Waves.{entry_events, recorded_firing, retract_event, 
 use Rattle.learning_laws.specs.LawfulAgents.{IsNumbered}
 use Rattle.learning_laws.specs.LawfulWaves.{LearningKeeps, WavesKeep}
 use Rattle.session_laws.specs.Steps.{HaltsKeep}
-use Rattle.agent_laws.specs.Dependence.{GoalsDependOnMore, MakersAreEarlier, each_with, firings_in}
-use Rattle.agent_laws.specs.Records.{AreRisingFrom}
+use Rattle.agent_laws.specs.Dependence.{GoalsDependOnMore, MakersAreEarlier, firings_in}
+use Rattle.agent_laws.specs.Records.{AreApart, AreRisingFrom, IsPartOf}
+use Rattle.dependency_tables.specs.Tables.{all_tags, each_with_tags}
+use Rattle.dependency_tables.proofs.TableLemmas.{length_each}
+use Rattle.goal_trimming.specs.Doubted.{AreDoubted}
+use Rattle.goal_trimming.proofs.LostLemmas.{doubted_joined}
+use Rattle.record_laws.specs.Closed.{AreRecorded, HasMakers}
+use Rattle.record_laws.proofs.ClosedLaws.{recorded_roots_suffice}
+use Rattle.record_laws.proofs.JoiningLaws.{later_join}
 use Rattle.program_laws.specs.Knowing.{AreNamed}
 use Rattle.firing_records.specs.Recorded.{fresh_seen, recorded_seen}
 use Rattle.firing_records.specs.declared.outcome.Recorded.{Recorded}
@@ -41,18 +49,18 @@ use Rattle.wave_firings.specs.Numbered.{AreGoalsOf, AreMakersUpTo, AreRecordedUp
 use Rattle.wave_parts.specs.Carrying.{Carried, IsPendingIn}
 use Rattle.wave_parts.specs.Changing.{StopsAs}
 use Rattle.wave_parts.specs.Lawful.{IsOfLawful}
-use Rattle.wave_parts.specs.Remembers.{Remembers}
-use Rattle.wave_parts.specs.Resettles.{IsResettled, Resettles, resettled_now}
+use Rattle.wave_parts.specs.Remembers.{Remembers, roots_in}
+use Rattle.wave_parts.specs.Resettles.{IsResettledWith, ResettlesWith, resettled_now}
 use Rattle.wave_parts.specs.Seen.{agent_of, AreLiveKnown, IsSound, pending_of}
 use Rattle.wave_parts.specs.WaveParts.{ended_in, rows_in_all, rows_made_in, settled_after, unsettled}
 use Rattle.wave_parts.specs.declared.parts.Parts.{Parts as PartsKept}
 use Rattle.wave_parts.proofs.CarryLemmas.{Counted, history_after, halted_is, past_rows, stands_after, wave_is}
 use Rattle.wave_parts.proofs.CarryingLemmas.{settles_same}
 use Rattle.wave_parts.proofs.GrownLemmas.{numbered_later}
-use Rattle.wave_parts.proofs.RememberedLemmas.{are_later, at_goal, dependencies_joined, firings_append, firings_joined, goal_of_past, in_either, length_each, makers_joined, makers_of_new, pasts_are, recorded_within}
+use Rattle.wave_parts.proofs.RecordedLemmas.{lawful_at}
+use Rattle.wave_parts.proofs.RememberedLemmas.{are_later, at_goal, dependencies_joined, firings_append, firings_joined, goal_of_past, in_either, makers_joined, makers_of_new, number_recorded, pasts_are, recorded_within, tags_kept}
 use Rattle.wave_parts.proofs.RemovedLemmas.{known_append}
-use Rattle.wave_parts.proofs.StandsLemmas.{stands_for, state_is}
-use Rattle.wave_parts.proofs.WorkedLemmas.{lawful_at}
+use Rattle.wave_parts.proofs.StandsLemmas.{stands_for}
 
 -- ---- what is told
 
@@ -82,7 +90,7 @@ report_known words report retracted fired settled =
 pub settling_stop : (old mid new : PartsKept) (history : List RecordedFiring) (w : WorkOf) (why : Stop) → Counted (agent_of old history) w
     → first_passed (ended_in (agent_of old history) w).totals ≡ None → rows_in_all (agent_of old history) w.retracted (ended_in (agent_of old history) w) ≤ 1000000
     → agent_of mid history ≡ unsettled (agent_of old history) w.retracted (ended_in (agent_of old history) w)
-    → Resettles new (agent_of mid history) (Err why) → StopsAs (wave_of with_learning (agent_of old history) w) why
+    → ResettlesWith new history (resettled_now (agent_of mid history)) (Err why) → StopsAs (wave_of with_learning (agent_of old history) w) why
 settling_stop old mid new history w (stop.Limit limit) counted within room stands passed =
     let a = agent_of old history in
     past_rows a w counted within room ∙ ap (λ s. first_passed s.totals) (sym (settles_same mid history a w.retracted (ended_in a w) stands)) ∙ passed
@@ -91,28 +99,27 @@ settling_stop old mid new history w stop.NoMemory counted within room stands pas
 -- ---- the end
 
 -- what the wave leaves behind settling: the goals' tags, the firings, and whether one halted
-abbrev pub with_wave : PartsKept → List (List ℕ) → List Firing → Bool → PartsKept
-with_wave new depends firings halted = record new { depends = depends; past = firings; halted = new.halted || halted }
+abbrev pub with_wave : PartsKept → List (List ℕ) → List ℕ → List Firing → Bool → PartsKept
+with_wave new depends doubted firings halted = record new { depends = depends; doubted = doubted; past = firings; halted = new.halted || halted }
 
-pub done : (old mid new : PartsKept) (history : List RecordedFiring) (w : WorkOf) (retracted : List Live) (told : List Told) (halted : Bool) (settled : Settled) (depends : List (List ℕ)) (firings : List Firing)
+pub done : (old mid new : PartsKept) (history : List RecordedFiring) (w : WorkOf) (retracted : List Live) (told : List Told) (halted : Bool) (settled : Settled) (depends : List (List ℕ)) (doubted : List ℕ) (firings : List Firing)
     → Counted (agent_of old history) w
     → first_passed (ended_in (agent_of old history) w).totals ≡ None
     → rows_in_all (agent_of old history) w.retracted (ended_in (agent_of old history) w) ≤ 1000000
     → agent_of mid history ≡ unsettled (agent_of old history) w.retracted (ended_in (agent_of old history) w)
-    → IsResettled new settled (resettled_now (agent_of mid history))
-    → Remembers (with_wave new depends firings halted) (history_after (agent_of old history) w)
+    → IsResettledWith new settled history (resettled_now (agent_of mid history))
+    → Remembers (with_wave new depends doubted firings halted) (history_after (agent_of old history) w)
     → map live_seen retracted ≡ w.retracted
     → flat_map told_events told ≡ flat_map entry_events (ended_in (agent_of old history) w).entries
     → halted ≡ (ended_in (agent_of old history) w).halted
-    → Carried (with_wave new depends firings halted) (record { retracted = retracted; fired = told; settled = settled }) halted (wave_of with_learning (agent_of old history) w)
-done old mid new history w retracted told halted settled depends firings counted within room stands settles remembers retracted_are told_are halts =
+    → Carried (with_wave new depends doubted firings halted) (record { retracted = retracted; fired = told; settled = settled }) halted (wave_of with_learning (agent_of old history) w)
+done old mid new history w retracted told halted settled depends doubted firings counted within room stands settles remembers retracted_are told_are halts =
     let a = agent_of old history in
     let same = settles_same mid history a w.retracted (ended_in a w) stands in
-    let now = (resettled_now (agent_of mid history)).agent in
     record {
       stepped = record {
-        stands = stands_for (with_wave new depends firings halted) (history_after a w) (halting (wave_of with_learning a w)) remembers
-            (stands_after a (agent_of new now.history) w halted (sym (state_is new now settles.stands) ∙ ap (λ s. s.agent) same) halts);
+        stands = stands_for (with_wave new depends doubted firings halted) (history_after a w) (halting (wave_of with_learning a w)) remembers
+            (stands_after a (agent_of new history) w halted (settles.agent_is ∙ ap (λ s. s.agent) same) halts);
         within = past_rows a w counted within room ∙ ap (λ s. first_passed s.totals) (sym same) ∙ settles.within;
       };
       halted_is = halts ∙ sym (halted_is a w);
@@ -121,15 +128,10 @@ done old mid new history w retracted told halted settled depends firings counted
 
 -- ---- what is remembered
 
--- the history that settling leaves is that before it
-left_remembers : (mid new : PartsKept) (history : List RecordedFiring) (told : Settled) → IsResettled new told (resettled_now (agent_of mid history)) → Remembers new history
-unfolding resettled
-left_remembers mid new history told settled = settled.stands.remembers
-
 -- the letters after settling
-left_letters : (mid new : PartsKept) (history : List RecordedFiring) (told : Settled) → IsResettled new told (resettled_now (agent_of mid history)) → new.letters ≡ mid.letters
+left_letters : (mid new : PartsKept) (history : List RecordedFiring) (told : Settled) → IsResettledWith new told history (resettled_now (agent_of mid history)) → new.letters ≡ mid.letters
 unfolding resettled
-left_letters mid new history told settled = settled.stands.letters
+left_letters mid new history told settled = ap (λ (s : Agent). s.names.letters) settled.agent_is
 
 -- the history after the wave, by what is recorded
 history_joins : (a : Agent) (w : WorkOf) (added : List Preference) (recorded_now : List Recorded)
@@ -140,33 +142,54 @@ history_joins a w added recorded_now added_is recorded_are =
     ap (λ rows. a.history ++ map (recorded_firing (before_wave a) rows) (all_fresh (ended_in a w).entries)) (sym added_is)
     ∙ ap (λ l. a.history ++ l) (sym (pasts_are (reach_over a.holding.goals a.holding.elements) added recorded_now (all_fresh (ended_in a w).entries) recorded_are))
 
+-- the record after the wave: its firings behind those that were there, each once, with their makers, and the roots
+pub record IsRecordedAfter (old new : PartsKept) (recorded_now : List Recorded) (firings : List Firing) : Type 0 where
+  pub firings_are : recorded firings ≡ recorded old.past ++ firings_of recorded_now
+  pub more : old.firings ≤ new.firings
+  pub numbers : AreRecordedUpTo new.firings (firings_of recorded_now)
+  pub apart : AreApart (recorded firings)
+  pub makers : HasMakers (recorded firings)
+  pub roots : AreRecorded (recorded firings) (roots_in new)
+
 -- the firings of the wave join the history, and goals depend on what they add
-pub remembers_wave : GoalsDependOnMore → (old mid new : PartsKept) (history : List RecordedFiring) (w : WorkOf) (recorded_now : List Recorded) (halted : Bool) (told : Settled) (added : List Preference) (depends : List (List ℕ)) (firings : List Firing)
+pub remembers_wave : GoalsDependOnMore → (old mid new : PartsKept) (history : List RecordedFiring) (w : WorkOf) (recorded_now : List Recorded) (halted : Bool) (told : Settled) (added : List Preference) (depends : List (List ℕ)) (doubted : List ℕ) (firings : List Firing)
     → IsSound old → Remembers old history → LettersKeep old.letters mid.letters
     → map recorded_seen recorded_now ≡ map fresh_seen (all_fresh (ended_in (agent_of old history) w).entries)
-    → IsResettled new told (resettled_now (agent_of mid history)) → recorded new.past ≡ recorded old.past
-    → AreRisingFrom old.firings (firings_of recorded_now) → AreGoalsOf old.goals (map recorded_seen recorded_now)
+    → IsResettledWith new told history (resettled_now (agent_of mid history)) → IsRecordedAfter old new recorded_now firings
+    → AreRisingFrom old.firings (firings_of recorded_now) → AreMakersUpTo old.firings (map recorded_seen recorded_now) → AreGoalsOf old.goals (map recorded_seen recorded_now)
     → added ≡ rows_added (without_firings old.prefs.rows (numbers_of w.retracted)) (rows_made_in (ended_in (agent_of old history) w))
-    → recorded firings ≡ recorded new.past ++ firings_of recorded_now
-    → depends ≡ each_with new.depends (tags_found_from (recorded firings) (map (past_by (reach_over old.goals old.memory.elements) added) recorded_now) 2 (drop 1 new.goals))
-    → Remembers (with_wave new depends firings halted) (history_after (agent_of old history) w)
-remembers_wave law old mid new history w recorded_now halted told added depends firings sound remembers keep recorded_are settled same_record rising goals added_is firings_is depends_is =
+    → depends ≡ each_with_tags new.depends (tags_found_from (recorded firings) (map (past_by (reach_over old.goals old.memory.elements) added) recorded_now) 2 (drop 1 new.goals))
+    → Remembers (with_wave new depends doubted firings halted) (history_after (agent_of old history) w)
+remembers_wave law old mid new history w recorded_now halted told added depends doubted firings sound remembers keep recorded_are settled after rising makers goals added_is depends_is =
     let a = agent_of old history in
     let reach = reach_over old.goals old.memory.elements in
-    let now = left_remembers mid new history told settled in
+    let now = settled.remembers in
     let pasts = map (past_by reach added) recorded_now in
     let history_is : history_after a w ≡ history ++ pasts = history_joins a w added recorded_now added_is recorded_are in
-    let up_to = subst (AreRecordedUpTo old.firings) remembers.firings_are sound.recorded_up_to in
-    let earlier = subst MakersAreEarlier remembers.firings_are sound.makers_earlier in
-    let all : recorded firings ≡ firings_in history ++ firings_in pasts =
-    firings_is ∙ (λ k. (same_record ∙ remembers.firings_are) k ++ firings_joined reach added recorded_now k) in
+    let same : firings_of recorded_now ≡ firings_in pasts = firings_joined reach added recorded_now in
+    let whole : List FiringOf = firings_in history ++ firings_of recorded_now in
+    let both : whole ≡ firings_in (history ++ pasts) = ap (λ fs. firings_in history ++ fs) same ∙ sym (firings_append history pasts) in
+    let from : AreFrom whole (recorded firings) =
+    subst (AreFrom whole) (sym after.firings_are) (later_join old.firings (recorded old.past) (firings_in history) (firings_of recorded_now) remembers.is_record.from_history remembers.numbers_given rising) in
     let grown : LettersKeep old.letters new.letters = subst (LettersKeep old.letters) (sym (left_letters mid new history told settled)) keep in
-    subst (Remembers (with_wave new depends firings halted)) (sym history_is) (record {
-      firings_are = all ∙ sym (firings_append history pasts);
+    subst (Remembers (with_wave new depends doubted firings halted)) (sym history_is) (record {
+      is_record =
+          subst (λ fs. IsPartOf (recorded firings) fs (roots_in new)) both (recorded_roots_suffice (recorded firings) whole (roots_in new) after.apart from after.makers after.roots);
+      makers_kept = after.makers;
+      numbers_given =
+          subst (AreRecordedUpTo new.firings) both
+          (recorded_within new.firings (firings_in history) (firings_of recorded_now) (λ f is. omega (arith, after.more, remembers.numbers_given f is)) after.numbers);
+      makers_earlier =
+          subst MakersAreEarlier both
+          (makers_joined (firings_in history) (firings_of recorded_now) remembers.makers_earlier (makers_of_new old.firings recorded_now rising makers));
       depends_are =
           depends_is
-          ∙ ap (λ fs. each_with new.depends (tags_found_from fs pasts 2 (drop 1 new.goals))) all
-          ∙ dependencies_joined law history pasts new.depends (drop 1 new.goals) now.depends_are earlier (are_later old.firings history reach added recorded_now up_to rising);
+          ∙ ap (each_with_tags new.depends)
+          (tags_kept (recorded firings) whole pasts
+          (λ p is. recorded_roots_suffice (recorded firings) whole (p.firing.number ∷ []) after.apart from after.makers
+          (number_recorded (recorded old.past) (firings_of recorded_now) (recorded firings) pasts after.firings_are same p is)) 2 (drop 1 new.goals))
+          ∙ ap (λ fs. each_with_tags new.depends (tags_found_from (firings_in history ++ fs) pasts 2 (drop 1 new.goals))) same
+          ∙ dependencies_joined law history pasts new.depends (drop 1 new.goals) now.depends_are remembers.makers_earlier (are_later old.firings history reach added recorded_now remembers.numbers_given rising);
       goals_numbered = λ p s is of_goal. elim (in_either p history pasts is) [
         | inl past ↦ now.goals_numbered p s past of_goal
         | inr here ↦ let at = goal_of_past reach added recorded_now p here in
@@ -177,15 +200,17 @@ remembers_wave law old mid new history w recorded_now halted told added depends 
 
 -- ---- what is sound
 
-pub wave_sound : (new : PartsKept) (last : ℕ) (recorded_now : List Recorded) (depends : List (List ℕ)) (firings : List Firing) (halted : Bool) (tags : List (List ℕ)) → IsSound new
+pub wave_sound : (new : PartsKept) (last : ℕ) (recorded_now : List Recorded) (depends : List (List ℕ)) (doubted : List ℕ) (firings : List Firing) (halted : Bool) (tags : List (List ℕ)) → IsSound new
     → AreRisingFrom last (firings_of recorded_now) → AreMakersUpTo last (map recorded_seen recorded_now) → AreRecordedUpTo new.firings (firings_of recorded_now) → AreNamed new.table (firings_of recorded_now)
-    → recorded firings ≡ recorded new.past ++ firings_of recorded_now → depends ≡ each_with new.depends tags
-    → IsSound (with_wave new depends firings halted)
-wave_sound new last recorded_now depends firings halted tags s rising makers up_to named firings_is depends_is = record {
+    → recorded firings ≡ recorded new.past ++ firings_of recorded_now → depends ≡ each_with_tags new.depends tags → doubted ≡ new.doubted ++ all_tags tags
+    → IsSound (with_wave new depends doubted firings halted)
+wave_sound new last recorded_now depends doubted firings halted tags s rising makers up_to named firings_is depends_is doubted_is = record {
   goals_some = s.goals_some;
   goals_few = s.goals_few;
   goals_known = s.goals_known;
   depends_fit = omega (arith, ap length depends_is, length_each new.depends tags, s.depends_fit);
+  doubted = subst (λ (tables : List (List ℕ)). AreDoubted tables new.memory.elements new.kept.triples doubted) (sym depends_is)
+      (subst (AreDoubted (each_with_tags new.depends tags) new.memory.elements new.kept.triples) (sym doubted_is) (doubted_joined new.depends tags new.memory.elements new.kept.triples new.doubted s.doubted));
   element_limit = s.element_limit;
   row_limit = s.row_limit;
   few_rows = s.few_rows;
@@ -229,5 +254,5 @@ lawful_end laws old new work report halted lawful pending carried =
     record {
       agent = halting s;
       stands = carried.stepped.stands;
-      lawful = laws.halts s.agent (s.agent.halted || s.halted) (laws.waves with_learning laws.learning a pending.0 (lawful_at old lawful.agent.history lawful lawful.stands.remembers));
+      lawful = laws.halts s.agent (s.agent.halted || s.halted) (laws.waves with_learning laws.learning a pending.0 (lawful_at old lawful));
     }

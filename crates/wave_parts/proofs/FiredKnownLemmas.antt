@@ -24,6 +24,7 @@ use Rattle.firing_records.specs.Recorded.{fresh_seen}
 use Rattle.pending_work.specs.Firables.{IsPending, firables_for, rules_of}
 use Rattle.pending_work.specs.declared.work.Work.{Work}
 use Rattle.wave_entries.specs.Entries.{entry_seen}
+use Rattle.soar_record.specs.Recorded.{recorded}
 use Rattle.wave_firings.specs.FiresAll.{FiresAll, HasFired}
 use Rattle.wave_firings.specs.Listed.{events_in, recorded_in}
 use Rattle.wave_firings.specs.Numbered.{AreGoalsOf}
@@ -34,15 +35,15 @@ use Rattle.wave_learning.specs.Hands.{IsAtHand, learned_rule_seen}
 use Rattle.wave_learning.specs.declared.hand.AtHand.{AtHand}
 use Rattle.wave_parts.specs.Carrying.{IsPendingIn}
 use Rattle.wave_parts.specs.Lawful.{IsOfLawful}
-use Rattle.wave_parts.specs.Remembers.{Remembers}
 use Rattle.wave_parts.specs.Seen.{IsSound, agent_of}
 use Rattle.wave_parts.specs.WaveParts.{ended_in, fired_in}
 use Rattle.wave_parts.specs.Working.{IsWorkedFrom, standing_now}
 use Rattle.wave_parts.specs.declared.parts.Parts.{Parts as PartsKept}
 use Rattle.wave_parts.proofs.FiredWaveLemmas.{program_stays}
 use Rattle.wave_parts.proofs.GivenLemmas.{IsGivenWave, firings_given}
+use Rattle.wave_parts.proofs.RecordedLemmas.{firings_alone, lawful_recorded, recorded_agent, recorded_alone}
 use Rattle.wave_parts.proofs.RememberedLemmas.{at_goal}
-use Rattle.wave_parts.proofs.WorkedLemmas.{fired_lawful, has_fired, holds_wave, lawful_at, worked_of}
+use Rattle.wave_parts.proofs.WorkedLemmas.{fired_lawful, has_fired, holds_wave, worked_of}
 use Rattle.wave_parts.proofs.WorkedSoundLemmas.{IsWave, WaveLaws, chains_grown, named_grown}
 
 -- ---- names
@@ -132,22 +133,24 @@ given_fired old history work w sound pend =
 
 -- ---- with what is learned
 
-pub is_wave : WaveLaws → (old : PartsKept) (history : List RecordedFiring) (work : Work) (w : WorkOf) (words : Texts) (letters : List ℕ) (made : Fired) (table : Texts) (hand : AtHand) → IsSound old
-    → IsOfLawful old → IsPendingIn old work → Remembers old history → IsPending (map rule_seen old.rules) old.memory.elements work w
+-- with the record in the place of the history
+pub is_wave : WaveLaws → (old : PartsKept) (work : Work) (w : WorkOf) (words : Texts) (letters : List ℕ) (made : Fired) (table : Texts) (hand : AtHand) → IsSound old
+    → IsOfLawful old → IsPendingIn old work → IsPending (map rule_seen old.rules) old.memory.elements work w
     → FiresAll old.table old.letters (standing_now old) (map rule_seen old.rules) work.fired old.firings words letters (Ok made) → Grown old.table words
     → AreEventsKnown words (events_in (map entry_seen made.entries)) → AreGoalsOf old.goals (recorded_in (map entry_seen made.entries))
-    → IsAtHand table hand (ended_in (agent_of old history) w) → IsWorkedFrom old (worked_of old table letters hand)
-    → IsWave old (worked_of old table letters hand) history w hand.entries made.halted
-is_wave laws old history work w words letters made table hand sound lawful pending remembers pend all grown told goals at from =
+    → IsAtHand table hand (ended_in (recorded_agent old) w) → IsWorkedFrom old (worked_of old table letters hand)
+    → IsWave old (worked_of old table letters hand) (recorded_alone old) w hand.entries made.halted
+is_wave laws old work w words letters made table hand sound lawful pending pend all grown told goals at from =
+    let history = recorded_alone old in
     let has = has_fired old history work w words letters made pend all in
-    let is_lawful = lawful_at old history lawful remembers in
+    let is_lawful = lawful_recorded old lawful in
     let longer = no_shorter old.table words (record { grown = grown }) in
     record {
       lawful = is_lawful;
       lawful_wave = fired_lawful laws.firings old history work w pending pend is_lawful;
       named =
           subst (λ ws. AreNamed ws (firings_in history)) has.words_are
-          (named_grown old.table words (firings_in history) longer (subst (AreNamed old.table) remembers.firings_are sound.past_named));
+          (named_grown old.table words (firings_in history) longer (subst (AreNamed old.table) (sym (firings_alone (recorded old.past))) sound.past_named));
       known = known_fired old history work w words letters made sound longer pend has told;
       goals = goals_fired old history w (length work.fired) words letters made has goals;
       given = given_fired old history work w sound pend;

@@ -4,11 +4,13 @@ pub mod CarryLemmas
 pub mod CarryingLemmas
 pub mod ChangedLemmas
 pub mod DoneLemmas
+pub mod DoubtLemmas
 pub mod ExplainedLemmas
 pub mod FiredKnownLemmas
 pub mod FiredWaveLemmas
 pub mod FiringLemmas
 pub mod FitLemmas
+pub mod ForgettingLemmas
 pub mod GivenLemmas
 pub mod GrownLemmas
 pub mod KeptUpLemmas
@@ -17,6 +19,8 @@ pub mod LeavingLemmas
 pub mod LimitLemmas
 pub mod LivingLemmas
 pub mod NamedLemmas
+pub mod OpeningLemmas
+pub mod RecordedLemmas
 pub mod RememberedLemmas
 pub mod RemovedLemmas
 pub mod ResettlingLemmas

@@ -1,20 +1,26 @@
 -- The firings of a wave join what is remembered.
-use Rattle.std.proofs.Common.{◌≡◌, ◌∙◌, ℕ, suc, ◌<◌, ◌≤◌, ◌⊎◌, List, [], ◌∷◌, ◌++◌, map, length, flat_map, inl, inr, refl, sym, ap, subst, arith}
+use Rattle.std.proofs.Common.{◌≡◌, ◌∙◌, ℕ, suc, true, ◌==◌, ◌<◌, ◌≤◌, ◌⊎◌, List, [], ◌∷◌, ◌++◌, map, filter, flat_map, inl, inr, refl, sym, ap, subst, arith}
 use Rattle.soar_sym.specs.declared.symbol.Sym.{Sym}
 use Rattle.defs_soar.specs.declared.goal.Goal.{Goal}
 use Rattle.defs_soar.specs.declared.preference.Preference.{Preference}
+use Rattle.defs_soar.specs.Dependencies.{counts_for, higher_grounds}
 use Rattle.defs_soar.specs.Explanation.{maker_named}
 use Rattle.defs_soar.specs.Goals.{goal_ids}
 use Rattle.defs_soar.specs.History.{FiringOf, Reach, RecordedFiring}
 use Rattle.defs_soar.specs.Laws.{IsIn}
-use Rattle.defs_soar.specs.Standing.{dependencies_from}
+use Rattle.defs_soar.specs.Standing.{dependencies_from, is_recorded}
 use Rattle.defs_soar.specs.WaveAtHand.{Fresh}
 use Rattle.defs_soar.specs.Waves.{lasting_of}
 use Rattle.agent_laws.specs.Dependence.{AreLater, GoalsDependOnMore, MakersAreEarlier, each_with, firings_in, tags_from}
-use Rattle.agent_laws.specs.Records.{AreRisingFrom}
+use Rattle.agent_laws.specs.Records.{AreRisingFrom, IsPartOf}
+use Rattle.agent_laws.proofs.DependenceLaws.{tags_by_record}
+use Rattle.dependency_tables.specs.Tables.{each_with_tags, tables_of}
+use Rattle.learning_laws.proofs.Lists.{any_in, filter_within, in_right}
+use Rattle.record_laws.specs.Closed.{AreRecorded}
 use Rattle.firing_records.specs.Recorded.{RecordedAs, recorded_seen}
 use Rattle.firing_records.specs.declared.outcome.Recorded.{Recorded}
 use Rattle.goal_dependence.specs.Remembered.{firings_of, past_by, tags_found, tags_found_from}
+use Rattle.goal_dependence.proofs.DependenceSteps.{tables_joined}
 use Rattle.firing_records.specs.Recorded.{fresh_seen}
 use Rattle.wave_firings.specs.Numbered.{AreMakersUpTo, AreRecordedUpTo}
 
@@ -90,11 +96,6 @@ goal_of_past reach added [] p is = absurd is
 goal_of_past reach added (r ∷ recorded) p (inl e) = (recorded_seen r, inl refl, ap (λ (x : RecordedFiring). x.goal) e)
 goal_of_past reach added (r ∷ recorded) p (inr is) = let later = goal_of_past reach added recorded p is in (later.0, inr later.1, later.2)
 
-pub length_each : (xs ys : List (List ℕ)) → length (each_with xs ys) ≡ length xs
-length_each [] ys = refl
-length_each (x ∷ xs) [] = refl
-length_each (x ∷ xs) (y ∷ ys) = ap suc (length_each xs ys)
-
 -- a goal's identifier
 pub at_goal : (goals : List Goal) (s : Sym) → IsIn s (goal_ids goals) → (g : Goal) × IsIn g goals × (g.id ≡ s)
 at_goal [] s is = absurd is
@@ -109,11 +110,33 @@ tags_are : (history pasts : List RecordedFiring) (depth : ℕ) (goals : List Goa
 tags_are history pasts depth [] = refl
 tags_are history pasts depth (goal ∷ goals) = ap (λ l. tags_found (firings_in history) pasts goal.id depth ∷ l) (tags_are history pasts (suc depth) goals)
 
--- the tags that the wave's firings add stand behind those that were there
-pub dependencies_joined : GoalsDependOnMore → (history pasts : List RecordedFiring) (depends : List (List ℕ)) (goals : List Goal) → depends ≡ dependencies_from history 2 goals
+-- a firing that joined is recorded
+pub number_recorded : (kept new all : List FiringOf) (pasts : List RecordedFiring) → all ≡ kept ++ new → new ≡ firings_in pasts → (p : RecordedFiring) → IsIn p pasts → AreRecorded all (p.firing.number ∷ [])
+number_recorded kept new all pasts all_are new_are p is n (inl e) =
+    subst (λ m. is_recorded all m ≡ true) e
+    (subst (λ fs. is_recorded fs p.firing.number ≡ true) (sym all_are)
+    (any_in (λ (f : FiringOf). f.number == p.firing.number) p.firing (kept ++ new) (in_right p.firing kept new (subst (IsIn p.firing) (sym new_are) (firing_of_past pasts p is))) (grind arith)))
+number_recorded kept new all pasts all_are new_are p is n (inr none) = absurd none
+
+-- a part of the history that has all that these firings reach gives the same tags
+pub tags_kept : (kept whole : List FiringOf) (pasts : List RecordedFiring) → ((p : RecordedFiring) → IsIn p pasts → IsPartOf kept whole (p.firing.number ∷ [])) → (depth : ℕ) (goals : List Goal)
+    → tags_found_from kept pasts depth goals ≡ tags_found_from whole pasts depth goals
+tags_kept kept whole pasts parts depth [] = refl
+tags_kept kept whole pasts parts depth (goal ∷ goals) =
+    let here = filter (counts_for goal.id depth) pasts in
+    let same = each_kept here (λ p is. parts p (filter_within (counts_for goal.id depth) pasts p is).0) in
+    λ k. same k ∷ tags_kept kept whole pasts parts (suc depth) goals k
+  where
+    each_kept : (ps : List RecordedFiring) → ((p : RecordedFiring) → IsIn p ps → IsPartOf kept whole (p.firing.number ∷ [])) → flat_map (higher_grounds kept depth) ps ≡ flat_map (higher_grounds whole depth) ps
+    each_kept [] h = refl
+    each_kept (p ∷ ps) h = λ k. tags_by_record kept whole depth p (h p (inl refl)) k ++ each_kept ps (λ q is. h q (inr is)) k
+
+-- the tags that the wave's firings add join the tables
+pub dependencies_joined : GoalsDependOnMore → (history pasts : List RecordedFiring) (depends : List (List ℕ)) (goals : List Goal) → depends ≡ tables_of (dependencies_from history 2 goals)
     → MakersAreEarlier (firings_in history) → AreLater history pasts
-    → each_with depends (tags_found_from (firings_in history ++ firings_in pasts) pasts 2 goals) ≡ dependencies_from (history ++ pasts) 2 goals
+    → each_with_tags depends (tags_found_from (firings_in history ++ firings_in pasts) pasts 2 goals) ≡ tables_of (dependencies_from (history ++ pasts) 2 goals)
 dependencies_joined law history pasts depends goals depends_are earlier later =
-    (λ k. each_with (depends_are k) (tags_found_from (sym (firings_append history pasts) k) pasts 2 goals))
-    ∙ ap (each_with (dependencies_from history 2 goals)) (sym (tags_are (history ++ pasts) pasts 2 goals))
-    ∙ sym (law history pasts 2 goals earlier later)
+    (λ k. each_with_tags (depends_are k) (tags_found_from (sym (firings_append history pasts) k) pasts 2 goals))
+    ∙ tables_joined (dependencies_from history 2 goals) (tags_found_from (firings_in (history ++ pasts)) pasts 2 goals)
+    ∙ ap (λ found. tables_of (each_with (dependencies_from history 2 goals) found)) (sym (tags_are (history ++ pasts) pasts 2 goals))
+    ∙ ap tables_of (sym (law history pasts 2 goals earlier later))

@@ -4,6 +4,7 @@ use Rattle.soar_sym.specs.declared.symbol.Triple.{Triple}
 use Rattle.soar_wm.specs.WorkingMemory.{WorkingMemory}
 use Rattle.soar_wm.specs.declared.element.Element.{Element}
 use Rattle.defs_soar.specs.declared.goal.Goal.{Goal}
+use Rattle.defs_soar.specs.Agents.{Agent}
 use Rattle.defs_soar.specs.Events.{goes, comes}
 use Rattle.defs_soar.specs.Goals.{goal_ids}
 use Rattle.defs_soar.specs.History.{RecordedFiring}
@@ -12,6 +13,10 @@ use Rattle.defs_soar.specs.Limits.{elements_to, tags_to, first_passed}
 use Rattle.defs_soar.specs.Resettling.{AgentStep, resettled, without_elements, removal_events}
 use Rattle.defs_soar.specs.Settling.{kept_triples}
 use Rattle.defs_soar.specs.Trimming.{Remains, at_depths, supports_of, trimmed}
+use Rattle.agent_laws.specs.Dependence.{firings_in}
+use Rattle.agent_laws.proofs.PartLaws.{fewer_roots_need_less}
+use Rattle.agent_laws.proofs.RootLaws.{each_root, root_of_goal, root_of_live, root_of_row}
+use Rattle.goal_trimming.specs.Doubted.{AreDoubted}
 use Rattle.goal_trimming.specs.Held.{held_by, kept_held, supports_held}
 use Rattle.live_firings.specs.Living.{live_seen}
 use Rattle.goal_trimming.specs.Trims.{KeepsFirst, Trims, remains_of}
@@ -19,6 +24,7 @@ use Rattle.live_firings.specs.declared.live.Live.{Live}
 use Rattle.removal_laws.specs.Alone.{RemovalsAlone}
 use Rattle.removal_laws.specs.Nested.{RemovalsAreNested}
 use Rattle.soar_prefs.specs.Memory.{PreferenceMemory}
+use Rattle.soar_record.specs.Recorded.{recorded}
 use Rattle.soar_settle.specs.Known.{AreElementsKnown, AreTriplesKnown}
 use Rattle.soar_settle.specs.Settles.{after_of, last_of, passed_by, Retags}
 use Rattle.soar_settle.specs.declared.changes.Changes.{Changes}
@@ -30,14 +36,14 @@ use Rattle.step_report.specs.declared.settled.Settled.{Settled}
 use Rattle.trace_laws.specs.Events.{AreEventsKnown}
 use Rattle.kept_triples.specs.Kept.{KeptOf}
 use Rattle.wave_parts.specs.KeptUp.{IsKeptUp}
-use Rattle.wave_parts.specs.Remembers.{Remembers}
-use Rattle.wave_parts.specs.Resettles.{resettled_now, IsResettled, Resettles}
+use Rattle.wave_parts.specs.Remembers.{Remembers, RemembersGoals, roots_in}
+use Rattle.wave_parts.specs.Resettles.{resettled_now, IsResettled, IsResettledWith, Resettles, ResettlesWith}
 use Rattle.wave_parts.specs.Seen.{agent_of, AreGoalsKnown, IsSound, IsToSettle}
 use Rattle.wave_parts.specs.declared.parts.Parts.{Parts as PartsKept}
 use Rattle.wave_parts.proofs.KnownLemmas.{KnowsSupports, kept_known, after_known, rows_left, triples_left, range_left}
 use Rattle.wave_parts.proofs.NamedLemmas.{live_left}
 use Rattle.wave_parts.proofs.RemovedLemmas.{length_take, removed_behind, settled_known}
-use Rattle.wave_parts.proofs.StandsLemmas.{stands_for}
+use Rattle.wave_parts.proofs.StandsLemmas.{goals_remembered, stands_for}
 
 -- ---- what trimming left
 
@@ -45,6 +51,7 @@ use Rattle.wave_parts.proofs.StandsLemmas.{stands_for}
 pub record Left : Type 0 where
   pub goals : List Goal
   pub depends : List (List ℕ)
+  pub doubted : List ℕ
   pub prefs : PreferenceMemory
   pub inputs : List Triple
   pub changed : List Triple
@@ -52,11 +59,11 @@ pub record Left : Type 0 where
   pub kept : KeptOf
 
 abbrev pub with_left : PartsKept → Left → WorkingMemory → PartsKept
-with_left a l memory = record a { goals = l.goals; depends = l.depends; prefs = l.prefs; inputs = l.inputs; changed = l.changed; live = l.live; kept = l.kept; memory = memory }
+with_left a l memory = record a { goals = l.goals; depends = l.depends; doubted = l.doubted; prefs = l.prefs; inputs = l.inputs; changed = l.changed; live = l.live; kept = l.kept; memory = memory }
 
 -- what trimming says of them
 pub record HasTrimmed (a : PartsKept) (l : Left) (kept : List Triple) : Type 0 where
-  pub trims : (history : List RecordedFiring) → Remembers a history
+  pub trims : (history : List RecordedFiring) → RemembersGoals a history
       → Trims history a.memory.elements (held_by a.goals a.depends a.prefs a.inputs a.live) (held_by l.goals l.depends l.prefs l.inputs l.live) kept
   pub keeps : KeepsFirst (held_by a.goals a.depends a.prefs a.inputs a.live) (held_by l.goals l.depends l.prefs l.inputs l.live)
   pub kept_is : kept ≡ kept_held (held_by l.goals l.depends l.prefs l.inputs l.live)
@@ -99,22 +106,22 @@ unfolding resettled
 step_is a history = refl
 
 -- the elements are those of what is left
-elements_are : (a : PartsKept) (l : Left) (kept : List Triple) (history : List RecordedFiring) → Remembers a history → HasTrimmed a l kept
+elements_are : (a : PartsKept) (l : Left) (kept : List Triple) (history : List RecordedFiring) → RemembersGoals a history → HasTrimmed a l kept
     → elements_left a l kept ≡ after_of a.table (trimmed_of a history).goals (kept_triples (trimmed_of a history).goals (supports_of (trimmed_of a history))) a.memory
 elements_are a l kept history remembers h =
     let t = h.trims history remembers in
     λ i. after_of a.table (t.goals_are i) (t.kept_are i) a.memory
 
 -- a limit that is passed where memory is made is that of the step
-stops_resettling : (a new : PartsKept) (l : Left) (kept : List Triple) (history : List RecordedFiring) (memory : WorkingMemory) (why : Stop) → Remembers a history → HasTrimmed a l kept
-    → Retags a.table l.goals kept a.memory memory (Err why) → Resettles new (agent_of a history) (Err why)
+stops_resettling : (a new : PartsKept) (l : Left) (kept : List Triple) (history : List RecordedFiring) (memory : WorkingMemory) (why : Stop) → RemembersGoals a history → HasTrimmed a l kept
+    → Retags a.table l.goals kept a.memory memory (Err why) → ResettlesWith new history (resettled_now (agent_of a history)) (Err why)
 stops_resettling a new l kept history memory stop.NoMemory remembers h tagged = tt
 stops_resettling a new l kept history memory (stop.Limit which) remembers h tagged =
     ap (λ (s : AgentStep). first_passed s.totals) (step_is a history)
     ∙ ap (λ after. passed_by after a.memory) (sym (elements_are a l kept history remembers h))
     ∙ tagged.0
 
-agent_left : (a : PartsKept) (l : Left) (kept : List Triple) (history : List RecordedFiring) (memory : WorkingMemory) → Remembers a history → HasTrimmed a l kept
+agent_left : (a : PartsKept) (l : Left) (kept : List Triple) (history : List RecordedFiring) (memory : WorkingMemory) → RemembersGoals a history → HasTrimmed a l kept
     → memory ≡ record a.memory { elements = elements_left a l kept; last = last_of (elements_left a l kept) a.memory }
     → agent_of (with_left a l memory) history ≡ (step_to a history (trimmed_of a history)).agent
 agent_left a l kept history memory remembers h memory_is = λ i.
@@ -127,52 +134,10 @@ agent_left a l kept history memory remembers h memory_is = λ i.
       holding = record { elements = elements i; goals = t.goals_are i; rows = (t.prefs_are i).rows; inputs = t.inputs_are i; live = t.live_are i };
     }
 
--- the history is remembered, with the tags of the goals that are left
-remembers_left : (a : PartsKept) (l : Left) (kept : List Triple) (history : List RecordedFiring) (memory : WorkingMemory) → Remembers a history → HasTrimmed a l kept
-    → Remembers (with_left a l memory) history
-remembers_left a l kept history memory remembers h = record {
-  firings_are = remembers.firings_are;
-  depends_are = (h.trims history remembers).depends_are;
-  goals_numbered = remembers.goals_numbered;
-}
-
--- the goals that went are those that trimming removes
-goals_removed : RemovalsAreNested → RemovalsAlone → (a : PartsKept) (l : Left) (kept : List Triple) (removed : List Removed) (history : List RecordedFiring) → Remembers a history → HasTrimmed a l kept
-    → HasRemoved a l removed → map removed_seen removed ≡ (trimmed_of a history).removed
-goals_removed nested alone a l kept removed history remembers h gone =
-    let left = trimmed_of a history in
-    let same = (h.trims history remembers).goals_are in
-    gone.removed_are
-    ∙ (λ k. at_depths (suc (length (same k))) (drop (length (same k)) a.goals))
-    ∙ sym (alone (suc (length left.goals)) (drop (length left.goals) a.goals))
-    ∙ sym (nested history a.memory.elements (remains_of (held_by a.goals a.depends a.prefs a.inputs a.live)))
-
-events_left : RemovalsAreNested → RemovalsAlone → (a : PartsKept) (l : Left) (kept : List Triple) (removed : List Removed) (history : List RecordedFiring) (changes : Changes) → Remembers a history
-    → HasTrimmed a l kept → HasRemoved a l removed → changes.gone ≡ without_elements (elements_left a l kept) a.memory.elements
-    → changes.new ≡ without_elements a.memory.elements (elements_left a l kept)
-    → settled_events (record { removed = removed; changes = changes }) ≡ (step_to a history (trimmed_of a history)).events
-events_left nested alone a l kept removed history changes remembers h gone gone_are new_are =
-    let same = elements_are a l kept history remembers h in
-    let went = gone_are ∙ ap (λ after. without_elements after a.memory.elements) same in
-    let came = new_are ∙ ap (without_elements a.memory.elements) same in
-    λ k. removal_events (goals_removed nested alone a l kept removed history remembers h gone k) ++ (map goes (went k) ++ map comes (came k))
-
-pub settles : RemovalsAreNested → RemovalsAlone → (a : PartsKept) (l : Left) (kept : List Triple) (removed : List Removed) (history : List RecordedFiring) (memory : WorkingMemory) (changes : Changes)
-    → Remembers a history → HasTrimmed a l kept → HasRemoved a l removed
-    → Retags a.table l.goals kept a.memory memory (Ok changes) → IsResettled (with_left a l memory) (record { removed = removed; changes = changes }) (resettled_now (agent_of a history))
-settles nested alone a l kept removed history memory changes remembers h gone tagged = record {
-  stands = stands_for (with_left a l memory) history (resettled_now (agent_of a history)).agent (remembers_left a l kept history memory remembers h)
-      (agent_left a l kept history memory remembers h tagged.memory_is ∙ ap (λ (s : AgentStep). s.agent) (sym (step_is a history)));
-  within = ap (λ (s : AgentStep). first_passed s.totals) (step_is a history) ∙ ap (λ after. passed_by after a.memory) (sym (elements_are a l kept history remembers h)) ∙ tagged.within;
-  events_are = events_left nested alone a l kept removed history changes remembers h gone tagged.gone_are tagged.new_are ∙ ap (λ (s : AgentStep). s.events) (sym (step_is a history));
-}
-
-pub settles_not : (a new : PartsKept) (l : Left) (kept : List Triple) (history : List RecordedFiring) (memory : WorkingMemory) (r : Result Settled Stop) (why : Stop) → r ≡ Err why → Remembers a history
-    → HasTrimmed a l kept → Retags a.table l.goals kept a.memory memory (Err why) → Resettles new (agent_of a history) r
-settles_not a new l kept history memory r why is remembers h tagged =
-    subst (Resettles new (agent_of a history)) (sym is) (stops_resettling a new l kept history memory why remembers h tagged)
-
--- ---- what is sound stays so
+-- the goals' part of the history is remembered, with the tags of the goals that are left
+goals_left_remember : (a : PartsKept) (l : Left) (kept : List Triple) (history : List RecordedFiring) (memory : WorkingMemory) → RemembersGoals a history → HasTrimmed a l kept
+    → RemembersGoals (with_left a l memory) history
+goals_left_remember a l kept history memory remembers h = record { depends_are = (h.trims history remembers).depends_are; goals_numbered = remembers.goals_numbered }
 
 goal_left : (n : ℕ) (goals : List Goal) (g : Goal) → IsIn g (take n goals) → IsIn g goals
 goal_left zero goals g is = absurd is
@@ -182,6 +147,85 @@ goal_left (suc n) (goal ∷ goals) g (inr is) = inr (goal_left n goals g is)
 
 within_left : (a : PartsKept) (l : Left) (kept : List Triple) → HasTrimmed a l kept → (g : Goal) → IsIn g l.goals → IsIn g a.goals
 within_left a l kept h g is = goal_left (length l.goals) a.goals g (subst (λ gs. IsIn g gs) h.keeps.goals_are is)
+
+-- no explanation begins elsewhere
+roots_left : (a : PartsKept) (l : Left) (kept : List Triple) (memory : WorkingMemory) → HasTrimmed a l kept → (n : ℕ) → IsIn n (roots_in (with_left a l memory)) → IsIn n (roots_in a)
+roots_left a l kept memory h =
+    each_root (λ n. IsIn n (roots_in a)) (map live_seen l.live) l.prefs.rows l.goals (λ x is. root_of_live (map live_seen a.live) a.prefs.rows a.goals x (h.keeps.live_are x is))
+    (λ row is. root_of_row (map live_seen a.live) a.prefs.rows a.goals row (h.keeps.rows_are row is))
+    (λ g is n named. root_of_goal (map live_seen a.live) a.prefs.rows a.goals g (within_left a l kept h g is) n named)
+
+remembers_left : (a : PartsKept) (l : Left) (kept : List Triple) (history : List RecordedFiring) (memory : WorkingMemory) → Remembers a history → HasTrimmed a l kept
+    → Remembers (with_left a l memory) history
+remembers_left a l kept history memory remembers h =
+    let goals = goals_left_remember a l kept history memory (goals_remembered a history remembers) h in
+    record {
+      is_record = fewer_roots_need_less (recorded a.past) (firings_in history) (roots_in a) (roots_in (with_left a l memory)) (roots_left a l kept memory h) remembers.is_record;
+      makers_kept = remembers.makers_kept;
+      numbers_given = remembers.numbers_given;
+      makers_earlier = remembers.makers_earlier;
+      depends_are = goals.depends_are;
+      goals_numbered = goals.goals_numbered;
+    }
+
+-- the goals that went are those that trimming removes
+goals_removed : RemovalsAreNested → RemovalsAlone → (a : PartsKept) (l : Left) (kept : List Triple) (removed : List Removed) (history : List RecordedFiring) → RemembersGoals a history → HasTrimmed a l kept
+    → HasRemoved a l removed → map removed_seen removed ≡ (trimmed_of a history).removed
+goals_removed nested alone a l kept removed history remembers h gone =
+    let left = trimmed_of a history in
+    let same = (h.trims history remembers).goals_are in
+    gone.removed_are
+    ∙ (λ k. at_depths (suc (length (same k))) (drop (length (same k)) a.goals))
+    ∙ sym (alone (suc (length left.goals)) (drop (length left.goals) a.goals))
+    ∙ sym (nested history a.memory.elements (remains_of (held_by a.goals a.depends a.prefs a.inputs a.live)))
+
+events_left : RemovalsAreNested → RemovalsAlone → (a : PartsKept) (l : Left) (kept : List Triple) (removed : List Removed) (history : List RecordedFiring) (changes : Changes) → RemembersGoals a history
+    → HasTrimmed a l kept → HasRemoved a l removed → changes.gone ≡ without_elements (elements_left a l kept) a.memory.elements
+    → changes.new ≡ without_elements a.memory.elements (elements_left a l kept)
+    → settled_events (record { removed = removed; changes = changes }) ≡ (step_to a history (trimmed_of a history)).events
+events_left nested alone a l kept removed history changes remembers h gone gone_are new_are =
+    let same = elements_are a l kept history remembers h in
+    let went = gone_are ∙ ap (λ after. without_elements after a.memory.elements) same in
+    let came = new_are ∙ ap (without_elements a.memory.elements) same in
+    λ k. removal_events (goals_removed nested alone a l kept removed history remembers h gone k) ++ (map goes (went k) ++ map comes (came k))
+
+pub settles_each : RemovalsAreNested → RemovalsAlone → (a : PartsKept) (l : Left) (kept : List Triple) (removed : List Removed) (history : List RecordedFiring) (memory : WorkingMemory) (changes : Changes)
+    → RemembersGoals a history → HasTrimmed a l kept → HasRemoved a l removed
+    → Retags a.table l.goals kept a.memory memory (Ok changes) → IsResettledWith (with_left a l memory) (record { removed = removed; changes = changes }) history (resettled_now (agent_of a history))
+settles_each nested alone a l kept removed history memory changes remembers h gone tagged = record {
+  agent_is = agent_left a l kept history memory remembers h tagged.memory_is ∙ ap (λ (s : AgentStep). s.agent) (sym (step_is a history));
+  remembers = goals_left_remember a l kept history memory remembers h;
+  within = ap (λ (s : AgentStep). first_passed s.totals) (step_is a history) ∙ ap (λ after. passed_by after a.memory) (sym (elements_are a l kept history remembers h)) ∙ tagged.within;
+  events_are = events_left nested alone a l kept removed history changes remembers h gone tagged.gone_are tagged.new_are ∙ ap (λ (s : AgentStep). s.events) (sym (step_is a history));
+}
+
+pub settles : RemovalsAreNested → RemovalsAlone → (a : PartsKept) (l : Left) (kept : List Triple) (removed : List Removed) (history : List RecordedFiring) (memory : WorkingMemory) (changes : Changes)
+    → Remembers a history → HasTrimmed a l kept → HasRemoved a l removed
+    → Retags a.table l.goals kept a.memory memory (Ok changes) → IsResettled (with_left a l memory) (record { removed = removed; changes = changes }) (resettled_now (agent_of a history))
+settles nested alone a l kept removed history memory changes remembers h gone tagged =
+    let s = settles_each nested alone a l kept removed history memory changes (goals_remembered a history remembers) h gone tagged in
+    record {
+      stands = stands_for (with_left a l memory) history (resettled_now (agent_of a history)).agent (remembers_left a l kept history memory remembers h) s.agent_is;
+      within = s.within;
+      events_are = s.events_are;
+    }
+
+stops_each : (new : PartsKept) (history : List RecordedFiring) (s : AgentStep) (why : Stop) → ResettlesWith new history s (Err why) → (a : Agent) → resettled_now a ≡ s → Resettles new a (Err why)
+stops_each new history s stop.NoMemory h a same = tt
+stops_each new history s (stop.Limit which) h a same = ap (λ (t : AgentStep). first_passed t.totals) same ∙ h
+
+pub settles_not_each : (a new : PartsKept) (l : Left) (kept : List Triple) (history : List RecordedFiring) (memory : WorkingMemory) (r : Result Settled Stop) (why : Stop) → r ≡ Err why → RemembersGoals a history
+    → HasTrimmed a l kept → Retags a.table l.goals kept a.memory memory (Err why) → ResettlesWith new history (resettled_now (agent_of a history)) r
+settles_not_each a new l kept history memory r why is remembers h tagged =
+    subst (ResettlesWith new history (resettled_now (agent_of a history))) (sym is) (stops_resettling a new l kept history memory why remembers h tagged)
+
+pub settles_not : (a new : PartsKept) (l : Left) (kept : List Triple) (history : List RecordedFiring) (memory : WorkingMemory) (r : Result Settled Stop) (why : Stop) → r ≡ Err why → Remembers a history
+    → HasTrimmed a l kept → Retags a.table l.goals kept a.memory memory (Err why) → Resettles new (agent_of a history) r
+settles_not a new l kept history memory r why is remembers h tagged =
+    subst (Resettles new (agent_of a history)) (sym is)
+    (stops_each new history (resettled_now (agent_of a history)) why (stops_resettling a new l kept history memory why (goals_remembered a history remembers) h tagged) (agent_of a history) refl)
+
+-- ---- what is sound stays so
 
 goals_left : (a : PartsKept) (l : Left) (kept : List Triple) → HasTrimmed a l kept → IsToSettle a → AreGoalsKnown a.table a.letters l.goals
 goals_left a l kept h sound g is = sound.goals_known g (within_left a l kept h g is)
@@ -200,14 +244,15 @@ kept_sound a l kept h sound =
 
 pub left_sound : (a : PartsKept) (l : Left) (kept : List Triple) (memory : WorkingMemory) → HasTrimmed a l kept → IsToSettle a
     → memory ≡ record a.memory { elements = elements_left a l kept; last = last_of (elements_left a l kept) a.memory } → IsKeptUp l.prefs l.inputs l.changed l.kept memory.elements
-    → l.kept.ids ≡ goal_ids l.goals → IsSound (with_left a l memory)
-left_sound a l kept memory h sound memory_is kept_up kept_ids =
+    → l.kept.ids ≡ goal_ids l.goals → AreDoubted l.depends memory.elements l.kept.triples l.doubted → IsSound (with_left a l memory)
+left_sound a l kept memory h sound memory_is kept_up kept_ids doubted =
     let elements = ap (λ (m : WorkingMemory). m.elements) memory_is in
     record {
       goals_some = h.keeps.some;
       goals_few = omega (arith, ap length h.keeps.goals_are, length_take (length l.goals) a.goals, sound.goals_few);
       goals_known = goals_left a l kept h sound;
       depends_fit = h.keeps.fits;
+      doubted = doubted;
       element_limit = ap (λ (m : WorkingMemory). m.limit) memory_is ∙ sound.element_limit;
       row_limit = h.keeps.limit_is ∙ sound.row_limit;
       few_rows = omega (arith, h.keeps.fewer_rows, h.keeps.limit_is, sound.few_rows);

@@ -169,6 +169,7 @@ sound_left old new numbers s left =
       goals_few = s.goals_few;
       goals_known = s.goals_known;
       depends_fit = s.depends_fit;
+      doubted = s.doubted;
       element_limit = s.element_limit;
       row_limit = s.row_limit;
       few_rows = s.few_rows;

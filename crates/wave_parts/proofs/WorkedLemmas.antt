@@ -5,14 +5,13 @@ use Rattle.soar_sym.specs.Words.{Texts}
 use Rattle.soar_wm.specs.declared.element.Element.{Element}
 use Rattle.defs_match.specs.Rules.{RuleOf, rule_seen}
 use Rattle.defs_soar.specs.declared.limit.Which.{Which}
-use Rattle.defs_soar.specs.History.{FiringOf, RecordedFiring}
+use Rattle.defs_soar.specs.History.{RecordedFiring}
 use Rattle.defs_soar.specs.Limits.{first_passed}
 use Rattle.defs_soar.specs.Pending.{Firable, Work as WorkOf, is_of_operator_kind}
 use Rattle.defs_soar.specs.WaveAtHand.{BeforeWave, Entry, Fresh, Wave, all_fresh, fired}
 use Rattle.defs_soar.specs.WaveFirings.{before_wave, first_wave, firing_of_work, fresh_firing, made_in, with_firing, with_firings}
-use Rattle.learning_laws.specs.LawfulAgents.{IsFounded, IsHeldUp, IsLawfulAgent}
+use Rattle.learning_laws.specs.LawfulAgents.{IsLawfulAgent}
 use Rattle.learning_laws.specs.LawfulWaves.{AllFiringsKeep, IsLawfulWave}
-use Rattle.agent_laws.specs.Dependence.{firings_in}
 use Rattle.program_laws.specs.Taught.{LearningTeaches}
 use Rattle.firing_records.specs.Recorded.{Standing}
 use Rattle.pending_work.specs.Firables.{IsPending}
@@ -30,32 +29,14 @@ use Rattle.wave_parts.specs.Carrying.{IsPendingIn}
 use Rattle.wave_parts.specs.Counting.{Counts}
 use Rattle.wave_parts.specs.Lawful.{IsOfLawful}
 use Rattle.wave_parts.specs.Programs.{program_of}
-use Rattle.wave_parts.specs.Remembers.{Remembers}
 use Rattle.wave_parts.specs.Seen.{agent_of, pending_of}
-use Rattle.wave_parts.specs.Stands.{queues_of}
 use Rattle.wave_parts.specs.WaveParts.{ended_in, fired_in}
 use Rattle.wave_parts.specs.Working.{HoldsWave, Works, WorksOut, standing_now}
 use Rattle.wave_parts.specs.declared.parts.Parts.{Parts as PartsKept}
 use Rattle.wave_parts.specs.declared.working.WaveWorked.{WaveWorked}
 use Rattle.wave_parts.proofs.FiredWaveLemmas.{last_within, learned_stays, program_stays, tag_stays}
 use Rattle.wave_parts.proofs.LimitLemmas.{passed_front}
-use Rattle.wave_parts.proofs.StandsLemmas.{state_is}
-
--- ---- lawful states
-
--- states with the same firings are lawful together
-lawful_alike : (old : PartsKept) (first other : List RecordedFiring) → firings_in first ≡ firings_in other → IsLawfulAgent (agent_of old first) → IsLawfulAgent (agent_of old other)
-lawful_alike old first other same h =
-    let a = agent_of old [] in
-    record {
-      founded = subst (λ (fs : List FiringOf). IsFounded a.names a.holding (queues_of old).input (map rule_seen old.rules) old.firings fs) same h.founded;
-      held_up = subst (λ (fs : List FiringOf). IsHeldUp (record (before_wave a) { firings = fs })) same h.held_up;
-    }
-
-pub lawful_at : (old : PartsKept) (history : List RecordedFiring) → IsOfLawful old → Remembers old history → IsLawfulAgent (agent_of old history)
-lawful_at old history lawful remembers =
-    lawful_alike old lawful.agent.history history (sym lawful.stands.remembers.firings_are ∙ remembers.firings_are)
-    (subst IsLawfulAgent (state_is old lawful.agent lawful.stands) lawful.lawful)
+use Rattle.wave_parts.proofs.RecordedLemmas.{ended_same, firings_alone, lawful_recorded, recorded_agent, recorded_alone}
 
 -- ---- the work
 
@@ -141,13 +122,12 @@ at_hand old history w count words letters made program last has program_is last_
       within = has.within;
     }
 
-pub is_before : (old : PartsKept) (history : List RecordedFiring) (s : Standing) → Remembers old history → s ≡ standing_now old
-    → IsBefore s (recorded old.past) old.settings.learning old.settings.local_negations (agent_of old history)
-is_before old history s remembers same = record {
+is_before : (old : PartsKept) (s : Standing) → s ≡ standing_now old → IsBefore s (recorded old.past) old.settings.learning old.settings.local_negations (recorded_agent old)
+is_before old s same = record {
   goals_are = ap (λ (x : Standing). x.goals) (sym same);
   rows_are = ap (λ (x : Standing). x.rows) (sym same);
   elements_are = ap (λ (x : Standing). x.elements) (sym same);
-  past_is = sym remembers.firings_are;
+  past_is = firings_alone (recorded old.past);
   on_is = refl;
   local_is = refl;
 }
@@ -158,17 +138,17 @@ pub to_learn : AllFiringsKeep → (old : PartsKept) (work : Work) (s : Standing)
     → program_seen program ≡ program_of old → last ≡ old.firings + length work.fired
     → IsToLearn words s (recorded old.past) old.settings.learning old.settings.local_negations (record { program = program; last = last; learned = old.learned; entries = made.entries })
 to_learn law old work s words letters made program last lawful pending same all program_is last_is =
-    let history = lawful.agent.history in
-    let a = agent_of old history in
+    let history = recorded_alone old in
+    let a = recorded_agent old in
     let w = pending_of pending.0 old in
     let has = has_fired old history work w words letters made pending.1 all in
-    let is_lawful = lawful_at old history lawful lawful.stands.remembers in
+    let is_lawful = lawful_recorded old lawful in
     record {
       agent = a;
       wave = fired_in a w;
       lawful = is_lawful;
       lawful_wave = fired_lawful law old history work w pending pending.1 is_lawful;
-      before = is_before old history s lawful.stands.remembers same;
+      before = is_before old s same;
       at_hand = at_hand old history w (length work.fired) words letters made program last has program_is last_is;
       next = next_numbers old history w;
     }
@@ -217,19 +197,28 @@ stops_in_counting old new work words letters made n r why is all fits same over 
 
 -- ---- learning
 
--- what learning answers of this wave
-pub learns_here : AllFiringsKeep → (old : PartsKept) (history : List RecordedFiring) (work : Work) (w : WorkOf) (s : Standing) (words : Texts) (letters : List ℕ) (made : Fired) (program : Program) (last : ℕ) (table : Texts)
-    (r : Result AtHand Stop) → IsOfLawful old → IsPendingIn old work → Remembers old history → IsPending (map rule_seen old.rules) old.memory.elements work w → s ≡ standing_now old
+-- what learning answers of this wave, with the record in the place of the history
+pub learns_here : AllFiringsKeep → (old : PartsKept) (work : Work) (w : WorkOf) (s : Standing) (words : Texts) (letters : List ℕ) (made : Fired) (program : Program) (last : ℕ) (table : Texts)
+    (r : Result AtHand Stop) → IsOfLawful old → IsPendingIn old work → IsPending (map rule_seen old.rules) old.memory.elements work w → s ≡ standing_now old
     → FiresAll old.table old.letters (standing_now old) (map rule_seen old.rules) work.fired old.firings words letters (Ok made)
     → program_seen program ≡ program_of old → last ≡ old.firings + length work.fired
     → LearnsAll words s (recorded old.past) old.settings.learning old.settings.local_negations (record { program = program; last = last; learned = old.learned; entries = made.entries }) table r
-    → LearnsFrom (agent_of old history) (fired_in (agent_of old history) w) table r
-learns_here law old history work w s words letters made program last table r lawful pending remembers pend same all program_is last_is learns =
-    let a = agent_of old history in
+    → LearnsFrom (recorded_agent old) (fired_in (recorded_agent old) w) table r
+learns_here law old work w s words letters made program last table r lawful pending pend same all program_is last_is learns =
+    let history = recorded_alone old in
+    let a = recorded_agent old in
     let has = has_fired old history work w words letters made pend all in
-    let is_lawful = lawful_at old history lawful remembers in
-    learns a (fired_in a w) is_lawful (fired_lawful law old history work w pending pend is_lawful) (is_before old history s remembers same)
+    let is_lawful = lawful_recorded old lawful in
+    learns a (fired_in a w) is_lawful (fired_lawful law old history work w pending pend is_lawful) (is_before old s same)
     (at_hand old history w (length work.fired) words letters made program last has program_is last_is) (next_numbers old history w)
+
+-- what the record gives, each history gives of which it is a part
+pub works_each : AllFiringsKeep → (old new : PartsKept) (work : Work) (result : Result WaveWorked Stop) → IsOfLawful old → IsPendingIn old work
+    → ((w : WorkOf) → IsPending (map rule_seen old.rules) old.memory.elements work w → Works old new result (ended_in (recorded_agent old) w)) → WorksOut old new work result
+works_each law old new work result lawful pending works = λ history remembers w pend.
+    let is_lawful = lawful_recorded old lawful in
+    subst (Works old new result)
+    (sym (ended_same old history w is_lawful (fired_lawful law old (recorded_alone old) work w pending pend is_lawful) remembers)) (works w pend)
 
 learning_stops : (old new : PartsKept) (history : List RecordedFiring) (w : WorkOf) (table : Texts) (why : Stop)
     → LearnsFrom (agent_of old history) (fired_in (agent_of old history) w) table (Err why) → Works old new (Err why) (ended_in (agent_of old history) w)

@@ -234,6 +234,7 @@ module _ (laws : WaveLaws) (old new : PartsKept) (history : List RecordedFiring)
         goals_few = sound.goals_few;
         goals_known = goals_grown old.table new.table old.letters new.letters old.goals grown h.from.letters sound.goals_known;
         depends_fit = sound.depends_fit;
+        doubted = sound.doubted;
         element_limit = sound.element_limit;
         row_limit = sound.row_limit;
         few_rows = sound.few_rows;

@@ -1,11 +1,13 @@
 pub mod Carrying
 pub mod Changing
 pub mod Counting
+pub mod Forgetting
 pub mod Lawful
 pub mod KeptUp
 pub mod Leaving
 pub mod Living
 pub mod Modes
+pub mod Openings
 pub mod Programs
 pub mod Remembers
 pub mod Resettles

@@ -21,6 +21,7 @@ use Rattle.program_laws.specs.Knowing.{AreChainsKnown, AreNamed}
 use Rattle.soar_record.specs.Recorded.{recorded}
 use Rattle.soar_choose.specs.Rows.{AreInRange}
 use Rattle.soar_settle.specs.Known.{AreElementsKnown, AreRulesKnown, AreRowsKnown, AreTriplesKnown}
+use Rattle.goal_trimming.specs.Doubted.{AreDoubted}
 use Rattle.input_queue.specs.Seen.{triple_queued}
 use Rattle.live_firings.specs.Living.{live_seen}
 use Rattle.pending_work.specs.Firables.{AreNumbered}
@@ -81,7 +82,7 @@ AreLiveKnown words (l ∷ live) = IsKnown words l.name × AreLiveKnown words liv
 abbrev pub AreLiveGiven : ℕ → List LiveFiring → Type 0
 AreLiveGiven last live = (l : LiveFiring) → IsIn l live → l.instance.rule ≤ last
 
--- goals that the letters gave, the limits, rules in order of number, rows as decisions ask them, firings numbered up to the last, each of which used what earlier ones
+-- goals that the letters gave, their tables and which of their tags may be of elements that are gone, the limits, rules in order of number, rows as decisions ask them, firings numbered up to the last, each of which used what earlier ones
 -- made, live firings of rules that were given, words that the table has, those of the architecture, of firings and of explanations among them, and what is kept of
 -- the state that was settled last, which had the goals of these identifiers
 pub record IsSoundFor (ids : List Sym) (a : PartsKept) : Type 0 where
@@ -89,6 +90,7 @@ pub record IsSoundFor (ids : List Sym) (a : PartsKept) : Type 0 where
   pub goals_few : length a.goals ≤ 100
   pub goals_known : AreGoalsKnown a.table a.letters a.goals
   pub depends_fit : suc (length a.depends) ≡ length a.goals
+  pub doubted : AreDoubted a.depends a.memory.elements a.kept.triples a.doubted
   pub element_limit : a.memory.limit ≡ 4000000
   pub row_limit : a.prefs.limit ≡ 1000000
   pub few_rows : length a.prefs.rows ≤ a.prefs.limit

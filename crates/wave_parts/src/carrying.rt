@@ -56,6 +56,27 @@ impl Parts {
         ensures sound { IfOk result (λ _. IsSound self.new) }
         ensures lawful { IfOk result (λ _. IsOfLawful self.new) }
     {
+        let done = self.carry_and_record(alloc, work)?;
+        self.forget(alloc)?;
+        Ok(done)
+    }
+
+    /// The same, with each firing that was recorded kept.
+    fn carry_and_record(&mut self, alloc: Global, work: Work) -> Result<Done, Stop>
+        requires sound { IsSound self.old }
+        requires lawful { IsOfLawful self.old }
+        requires pending { IsPendingIn self.old work }
+        requires bound { AreBound (map rule_seen self.old.rules) work.fired }
+        requires known { AreInstancesKnown self.old.table work.fired }
+        requires names { AreLiveKnown self.old.table (map live_seen work.retracted) }
+        ensures wave { CarriesOut self.old self.new work result }
+        ensures told { IfOk result (λ done. IsTold self.old.memory.elements self.new.memory.elements done.report.settled.changes) }
+        ensures known { IfOk result (λ done. AreEventsKnown self.new.table (report_events done.report)) }
+        ensures rules { IfOk result (λ done. AreRetaught self.old self.new done.spent) }
+        ensures settings { self.new.settings ≡ self.old.settings }
+        ensures sound { IfOk result (λ _. IsSound self.new) }
+        ensures lawful { IfOk result (λ _. IsOfLawful self.new) }
+    {
         agents_stay_lawful();
         sessions_keep();
         dependencies_grow();
@@ -69,7 +90,13 @@ impl Parts {
         } = change;
         let tags = self.tags_found(alloc, &recorded, &added)?;
         let settled = self.resettle(alloc)?;
-        remember(alloc, &mut self.depends, &mut self.past, recorded, &tags)?;
+        remember(
+            &mut self.depends,
+            &mut self.doubted,
+            &mut self.past,
+            recorded,
+            &tags,
+        )?;
         self.halted = either(self.halted, halted);
         let Work {
             retracted,

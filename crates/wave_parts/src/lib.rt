@@ -4,6 +4,8 @@
 mod carrying;
 mod changing;
 mod counting;
+mod doubting;
+mod forgetting;
 mod kept;
 mod leaving;
 mod living;

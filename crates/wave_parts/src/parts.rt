@@ -1,4 +1,5 @@
 use crate::settings::Settings;
+use dependency_tables::Dependencies;
 use input_memory::Inputs;
 use input_queue::Queued;
 use kept_triples::Kept;
@@ -28,8 +29,11 @@ pub struct Parts {
     pub justifications: u64,
     /// The goals, from the top.
     pub goals: Goals,
-    /// The tags on which each goal depends, from the one below the top on. Nothing removes the top goal.
-    pub depends: List<List<u32>>,
+    /// The tags on which each goal below the top depends. Nothing removes the top goal.
+    pub depends: Dependencies,
+    /// Those of these tags that may be of elements that are gone: those of elements that went when all was settled, and
+    /// those that joined since.
+    pub doubted: List<u32>,
     /// The firings since the start, which explain one another.
     pub past: Record,
     pub inputs: Inputs,

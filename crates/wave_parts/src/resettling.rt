@@ -4,10 +4,11 @@ ghost use Rattle.defs_soar.specs.Trimming.{at_depths};
 ghost use Rattle.matching_laws.specs.Telling.{IsTold};
 ghost use Rattle.step_report.specs.Reports.{removed_seen, settled_events};
 ghost use Rattle.trace_laws.specs.Events.{AreEventsKnown};
-ghost use Rattle.wave_parts.specs.Resettles.{IsLeft, Resettles};
+ghost use Rattle.wave_parts.specs.Resettles.{IsLeft, Resettles, ResettlesAll};
 ghost use Rattle.wave_parts.specs.Seen.{IsSound, IsToSettle};
 ghost use Rattle.wave_parts.specs.Stands.{Stands};
 
+use crate::doubting::tags_of;
 use crate::parts::Parts;
 use crate::removing::{at_depths, behind};
 use goal_trimming::trim;
@@ -27,6 +28,7 @@ impl Parts {
     pub fn resettle(&mut self, alloc: Global) -> Result<Settled, Stop>
         requires sound { IsToSettle self.old }
         ensures resettled { (s : AgentOf) → Stands self.old s → Resettles self.new s result }
+        ensures each { ResettlesAll self.old self.new result }
         ensures first { OnOk result (self.new.goals ≡ take (length self.new.goals) self.old.goals) }
         ensures removed { IfOk result (λ settled. map removed_seen settled.removed ≡ at_depths (suc (length self.new.goals)) (drop (length self.new.goals) self.old.goals)) }
         ensures told { IfOk result (λ settled. IsTold self.old.memory.elements self.new.memory.elements settled.changes) }
@@ -46,6 +48,7 @@ impl Parts {
             alloc,
             &mut self.goals,
             &mut self.depends,
+            &self.doubted,
             &mut self.prefs,
             &mut self.inputs,
             &mut self.changed,
@@ -64,6 +67,8 @@ impl Parts {
             touched.as_slice(),
             &mut self.memory,
         )?;
+        let doubted = tags_of(alloc, changes.gone.as_slice())?;
+        self.doubted = doubted;
         Ok(Settled { removed, changes })
     }
 }

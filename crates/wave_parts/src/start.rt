@@ -2,7 +2,9 @@
 ghost use Rattle.std.specs.Prelude.{◌≡◌, ◌<◌, ◌-◌, ◌^◌, false, [], None, length, IfOk, OnOk};
 ghost use Rattle.defs_soar.specs.Start.{first_agent, first_elements, first_letters, first_settings};
 ghost use Rattle.soar_wm.specs.WorkingMemory.{tag_of, with_triple};
+ghost use Rattle.soar_sym.specs.Words.{architecture};
 ghost use Rattle.wave_parts.specs.Lawful.{IsOfLawful};
+ghost use Rattle.wave_parts.specs.Openings.{IsBare, IsOpening};
 ghost use Rattle.wave_parts.specs.Seen.{IsSound};
 ghost use Rattle.wave_parts.specs.Settings.{settings_seen};
 ghost use Rattle.wave_parts.specs.Stands.{Stands};
@@ -11,7 +13,9 @@ use crate::kept::first_kept;
 use crate::parts::Parts;
 use crate::settings::Settings;
 use defs_soar::Mode;
+use dependency_tables::Dependencies;
 use input_memory::Inputs;
+use kept_triples::Kept;
 use learning_laws::agents_stay_lawful;
 use rule_shelf::Rules;
 use settle_changes::rest_is_kept;
@@ -24,9 +28,9 @@ use std::alloc::Global;
 
 const MOST_ELEMENTS: u32 = 4_000_000;
 
-pub const MOST_ROWS: u32 = 1_000_000;
+const MOST_ROWS: u32 = 1_000_000;
 
-pub const TOP: Sym = Sym::Ident {
+const TOP: Sym = Sym::Ident {
     letter: b'S',
     number: 1,
 };
@@ -58,18 +62,34 @@ impl Parts {
         Parts::first(alloc, watch)
     }
 
-    fn first(alloc: Global, watch: u8) -> Result<Parts, NoMemory>
+    /// The parts of the first state.
+    pub(crate) fn first(alloc: Global, watch: u8) -> Result<Parts, NoMemory>
         ensures stands { IfOk result (λ parts. Stands parts (first_agent watch)) }
         ensures sound { IfOk result (λ parts. IsSound parts) }
+        ensures bare { IfOk result (λ parts. IsBare parts) }
+    {
+        let table = SymTable::new(alloc)?;
+        let opening = made_opening(alloc)?;
+        Ok(Parts::of_opening(alloc, watch, table, opening))
+    }
+
+    /// The opening, with nothing else but words and settings.
+    fn of_opening(alloc: Global, watch: u8, table: SymTable, opening: Opening) -> Parts
+        requires table { table ≡ architecture }
+        requires opening { IsOpening opening }
+        ensures stands { Stands result (first_agent watch) }
+        ensures sound { IsSound result }
+        ensures bare { IsBare result }
     {
         rest_is_kept();
-        let table = SymTable::new(alloc)?;
-        let memory = first_memory(alloc)?;
-        let prefs = Prefs::new(alloc, MOST_ROWS)?;
-        let goals = Goals::new(alloc, TOP)?;
-        let past = Record::new(alloc)?;
-        let kept = first_kept(alloc, goals.list())?;
-        Ok(Parts {
+        let Opening {
+            memory,
+            prefs,
+            goals,
+            past,
+            kept,
+        } = opening;
+        Parts {
             table,
             letters: first_letters(),
             memory,
@@ -80,7 +100,7 @@ impl Parts {
             chunks: 0,
             justifications: 0,
             goals,
-            depends: List::new(alloc),
+            depends: Dependencies::new(alloc),
             past,
             inputs: Inputs::new(alloc),
             changed: List::new(alloc),
@@ -94,10 +114,38 @@ impl Parts {
             retractions: 0,
             learned: 0,
             output: List::new(alloc),
+            doubted: List::new(alloc),
             halted: false,
             settings: first_settings(watch),
-        })
+        }
     }
+}
+
+/// What of the start may lack memory.
+#[derive(Drop)]
+pub struct Opening {
+    pub memory: Memory,
+    pub prefs: Prefs,
+    pub goals: Goals,
+    pub past: Record,
+    pub kept: Kept,
+}
+
+fn made_opening(alloc: Global) -> Result<Opening, NoMemory>
+    ensures { IfOk result (λ opening. IsOpening opening) }
+{
+    let memory = first_memory(alloc)?;
+    let prefs = Prefs::new(alloc, MOST_ROWS)?;
+    let goals = Goals::new(alloc, TOP)?;
+    let past = Record::new(alloc)?;
+    let kept = first_kept(alloc, goals.list())?;
+    Ok(Opening {
+        memory,
+        prefs,
+        goals,
+        past,
+        kept,
+    })
 }
 
 /// The settings of the start, at a watch level.
@@ -114,7 +162,7 @@ fn first_settings(watch: u8) -> Settings
 }
 
 /// The numbers of the first three identifiers of letter I and of the first of letter S are given.
-pub fn first_letters() -> Letters
+fn first_letters() -> Letters
     ensures { result ≡ first_letters }
 {
     let mut letters = Letters::new();
@@ -124,7 +172,7 @@ pub fn first_letters() -> Letters
 }
 
 /// Working memory with the elements of the start.
-pub fn first_memory(alloc: Global) -> Result<Memory, NoMemory>
+fn first_memory(alloc: Global) -> Result<Memory, NoMemory>
     ensures { IfOk result (λ memory. memory ≡ record { elements = first_elements; limit = 4000000; last = 5 }) }
 {
     let mut memory = Memory::new(alloc, MOST_ELEMENTS, 0)?;

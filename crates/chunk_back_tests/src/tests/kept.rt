@@ -6,6 +6,7 @@ ghost use Rattle.soar_record.specs.Recorded.{recorded};
 
 use defs_match::{Instance, Rule};
 use defs_soar::{Firing, How, Keeps, Used};
+use record_keeping::keep_only;
 use soar_record::Record;
 use soar_rule::{Kind, Production, Support};
 use soar_sym::{List, NoMemory, Sym};
@@ -152,5 +153,14 @@ pub fn kept_firings(alloc: Global) -> Result<Record, NoMemory>
             used(14, How::Made(0)),
         ],
     )?;
+    Ok(record)
+}
+
+/// The same, of which those alone stay that these rest on.
+pub fn kept_behind(alloc: Global, roots: &[u64]) -> Result<Record, NoMemory>
+    ensures { IfOk result (λ r. MakersAreEarlier (recorded r)) }
+{
+    let mut record = kept_firings(alloc)?;
+    keep_only(alloc, &mut record, roots)?;
     Ok(record)
 }

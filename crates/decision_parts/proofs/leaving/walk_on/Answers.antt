@@ -30,4 +30,4 @@ returns-clause-removed_known c =
     let count = c.len.ensures ∙ ap length c.list-2.ensures.goals in
     let removed = c.in_ok-removed.ensures ∙ (λ k. drop (count k) (c.as_slice-2.ensures k)) in
     subst (λ gone. AreEventsKnown a.table (removal_events gone)) (sym (behind_are a.goals n c.in_ok-before.before c.in_ok-removed.removed before removed))
-    (goals_removed_known a.table a.letters (suc n) n a.goals c.requires.goals_known)
+    (goals_removed_known a.table a.letters (suc n) n a.goals c.requires.sound.goals_known)

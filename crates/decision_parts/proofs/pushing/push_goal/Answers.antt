@@ -1,4 +1,4 @@
-use Rattle.std.proofs.Common.{◌≡◌, ◌∙◌, ◌+◌, [], ◌∷◌, ◌++◌, None, ap, rules}
+use Rattle.std.proofs.Common.{◌≡◌, ◌+◌, [], ◌∷◌, None, rules}
 use Rattle.soar_sym.specs.Letters.{last_of}
 use Rattle.defs_soar.specs.Limits.{first_passed, identifiers_to}
 use Rattle.decision_parts.proofs.PushedLemmas.{IsPush, has_pushed, push_is_sound}
@@ -12,7 +12,7 @@ returns-clause-pushes c =
       id_is = c.in-Ok.ensures.given.0;
       goals_are = c.in-Ok-push.ensures.ok;
       letters_are = c.in-Ok.ensures.given.1;
-      depends_are = c.in_ok-push.ensures.ok ∙ ap (λ tags. a.depends ++ tags ∷ []) c.new.ensures;
+      depends_are = c.in_ok-push.ensures;
     } in
     has_pushed c.dependencies_grow.ensures.nothing a c.args.why c.args.items c.in-Ok.goal c.push.new.self c.next.new.self c.push-2.new.self c.requires.sound within push
 
@@ -23,6 +23,6 @@ returns-clause-sound c =
       id_is = c.in-Ok.ensures.given.0;
       goals_are = c.in-Ok-push.ensures.ok;
       letters_are = c.in-Ok.ensures.given.1;
-      depends_are = c.in_ok-push.ensures.ok ∙ ap (λ tags. a.depends ++ tags ∷ []) c.new.ensures;
+      depends_are = c.in_ok-push.ensures;
     } in
     push_is_sound a c.args.why c.args.items c.in-Ok.goal c.push.new.self c.next.new.self c.push-2.new.self c.requires.sound c.requires.room c.requires.known push

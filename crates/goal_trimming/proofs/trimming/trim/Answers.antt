@@ -1,10 +1,23 @@
-use Rattle.std.proofs.Common.{◌≡◌, ◌≤◌, ◌∙◌, Bool, true, false, arith, sym, ap, refl, length, None, Some, []}
-use Rattle.soar_prefs.specs.Memory.{PreferenceMemory, has_plain}
+use Rattle.std.proofs.Common.{◌≡◌, ◌-◌, ◌∙◌, ℕ, List, arith, sym, ap, refl, subst, None, Some, []}
+use Rattle.soar_prefs.specs.Memory.{PreferenceMemory}
 use Rattle.settle_changes.specs.Rest.{IsTracked}
+use Rattle.goal_trimming.specs.Doubted.{AreDoubted}
+use Rattle.goal_trimming.specs.Lost.{AreLooked}
 use Rattle.goal_trimming.specs.Held.{held_by, kept_held, room_of, settled_held}
 use Rattle.goal_trimming.proofs.HeldLemmas.{GoesOn, round_goes_on, round_there}
-use Rattle.goal_trimming.proofs.RoundLemmas.{IsEnd, Removes, end_keeps, end_trims, ends_round, removed_is, round_of, round_settles}
+use Rattle.goal_trimming.proofs.LostLemmas.{doubted_first, looked_at, nothing_lost}
+use Rattle.goal_trimming.proofs.RoundLemmas.{IsEnd, Removes, end_keeps, end_trims, ends_round, grows_on, removed_is, round_of, round_settles}
 use Rattle.goal_trimming.proofs.trimming.trim.Goals as goal
+
+-- ---- what is broken
+
+pub highest_broken-requires : goal.highest_broken-requires
+highest_broken-requires c =
+    let grown = grows_on c.args.touched.now c.rounds.touched c.settle_changes.new.touched c.args.kept.now c.rounds.kept c.settle_changes.new.kept c.rounds.invariant.grows c.in_ok-settle_changes.ensures.touched in
+    record {
+      looked = subst (AreLooked c.rounds.depends c.args.memory.now.elements c.settle_changes.new.kept.triples c.args.doubted.now) (sym c.as_slice.ensures)
+          (looked_at c.rounds.depends c.args.memory.now.elements c.args.kept.now.triples c.settle_changes.new.kept.triples c.args.doubted.now c.settle_changes.new.touched c.rounds.invariant.doubted grown.1);
+    }
 
 -- ---- where no goal is broken
 
@@ -13,8 +26,8 @@ at_end : (c : goal.In-None) → IsEnd c.args.memory.now.elements (held_by c.args
     (kept_held (settled_held (held_by c.rounds.goals c.rounds.depends c.rounds.prefs c.rounds.inputs c.rounds.live)))
 at_end c =
     ends_round c.args.memory.now.elements _ (held_by c.rounds.goals c.rounds.depends c.rounds.prefs c.rounds.inputs c.rounds.live) _ _ c.rounds.invariant.rest
-    (round_settles c.args.memory.now.elements _ _ _ _ _ _ _ _ c.rounds.live _ None (round_of c.rest_is_kept.ensures c.args.memory.now.elements c.rounds.goals c.list.result.now c.rounds.depends c.as_slice.result.now c.rounds.prefs c.settle_changes.new.prefs c.rounds.inputs c.settle_changes.new.inputs c.settle_changes.new.kept None
-    c.list.ensures.goals c.as_slice.ensures c.in_ok-settle_changes.ensures.prefs c.in_ok-settle_changes.ensures.inputs c.in_ok-settle_changes.ensures.rest (sym c.in-None.is ∙ c.highest_broken.ensures)))
+    (round_settles c.args.memory.now.elements _ _ _ _ _ _ _ _ c.rounds.live _ None (round_of c.rest_is_kept.ensures c.args.memory.now.elements c.rounds.goals c.list.result.now c.rounds.depends c.rounds.depends c.rounds.prefs c.settle_changes.new.prefs c.rounds.inputs c.settle_changes.new.inputs c.settle_changes.new.kept None
+    c.list.ensures.goals refl c.in_ok-settle_changes.ensures.prefs c.in_ok-settle_changes.ensures.inputs c.in_ok-settle_changes.ensures.rest (sym c.in-None.is ∙ c.in_ok-broken.ensures)))
 
 pub returns-in-None-clause-trims : goal.returns-in-None-clause-trims
 returns-in-None-clause-trims c = end_trims c.args.memory.now.elements _ _ _ (record { left = (at_end c).left; kept_is = refl })
@@ -22,22 +35,25 @@ returns-in-None-clause-trims c = end_trims c.args.memory.now.elements _ _ _ (rec
 pub returns-in-None-clause-keeps : goal.returns-in-None-clause-keeps
 returns-in-None-clause-keeps c = end_keeps c.args.memory.now.elements _ _ _ (omega arith) c.requires.fits (at_end c)
 
+pub returns-in-None-clause-whole : goal.returns-in-None-clause-whole
+returns-in-None-clause-whole c = nothing_lost c.rounds.depends c.args.memory.now.elements c.settle_changes.new.kept.triples (sym c.in_ok-broken.ensures ∙ c.in-None.is)
+
 -- ---- where a goal goes
 
 pub remove_from-requires-clause-substate : goal.remove_from-requires-clause-substate
 remove_from-requires-clause-substate c =
     let k =
     round_there c.args.memory.now.elements (held_by c.rounds.goals c.rounds.depends c.rounds.prefs c.rounds.inputs c.rounds.live) _ _ c.in-Some.depth c.rounds.invariant.fits
-    (round_settles c.args.memory.now.elements _ _ _ _ _ _ _ _ c.rounds.live _ (Some c.in-Some.depth) (round_of c.rest_is_kept.ensures c.args.memory.now.elements c.rounds.goals c.list.result.now c.rounds.depends c.as_slice.result.now c.rounds.prefs c.settle_changes.new.prefs c.rounds.inputs c.settle_changes.new.inputs c.settle_changes.new.kept (Some c.in-Some.depth)
-    c.list.ensures.goals c.as_slice.ensures c.in_ok-settle_changes.ensures.prefs c.in_ok-settle_changes.ensures.inputs c.in_ok-settle_changes.ensures.rest (sym c.in-Some.is ∙ c.highest_broken.ensures))) in
+    (round_settles c.args.memory.now.elements _ _ _ _ _ _ _ _ c.rounds.live _ (Some c.in-Some.depth) (round_of c.rest_is_kept.ensures c.args.memory.now.elements c.rounds.goals c.list.result.now c.rounds.depends c.rounds.depends c.rounds.prefs c.settle_changes.new.prefs c.rounds.inputs c.settle_changes.new.inputs c.settle_changes.new.kept (Some c.in-Some.depth)
+    c.list.ensures.goals refl c.in_ok-settle_changes.ensures.prefs c.in_ok-settle_changes.ensures.inputs c.in_ok-settle_changes.ensures.rest (sym c.in-Some.is ∙ c.in_ok-broken.ensures))) in
     k.0
 
 pub remove_from-requires-clause-there : goal.remove_from-requires-clause-there
 remove_from-requires-clause-there c =
     let k =
     round_there c.args.memory.now.elements (held_by c.rounds.goals c.rounds.depends c.rounds.prefs c.rounds.inputs c.rounds.live) _ _ c.in-Some.depth c.rounds.invariant.fits
-    (round_settles c.args.memory.now.elements _ _ _ _ _ _ _ _ c.rounds.live _ (Some c.in-Some.depth) (round_of c.rest_is_kept.ensures c.args.memory.now.elements c.rounds.goals c.list.result.now c.rounds.depends c.as_slice.result.now c.rounds.prefs c.settle_changes.new.prefs c.rounds.inputs c.settle_changes.new.inputs c.settle_changes.new.kept (Some c.in-Some.depth)
-    c.list.ensures.goals c.as_slice.ensures c.in_ok-settle_changes.ensures.prefs c.in_ok-settle_changes.ensures.inputs c.in_ok-settle_changes.ensures.rest (sym c.in-Some.is ∙ c.highest_broken.ensures))) in
+    (round_settles c.args.memory.now.elements _ _ _ _ _ _ _ _ c.rounds.live _ (Some c.in-Some.depth) (round_of c.rest_is_kept.ensures c.args.memory.now.elements c.rounds.goals c.list.result.now c.rounds.depends c.rounds.depends c.rounds.prefs c.settle_changes.new.prefs c.rounds.inputs c.settle_changes.new.inputs c.settle_changes.new.kept (Some c.in-Some.depth)
+    c.list.ensures.goals refl c.in_ok-settle_changes.ensures.prefs c.in_ok-settle_changes.ensures.inputs c.in_ok-settle_changes.ensures.rest (sym c.in-Some.is ∙ c.in_ok-broken.ensures))) in
     k.1
 
 goes : (c : goal.After-remove_from) → GoesOn c.args.memory.now.elements (held_by c.rounds.goals c.rounds.depends c.rounds.prefs c.rounds.inputs c.rounds.live)
@@ -46,17 +62,12 @@ goes c =
     let left : Removes c.in-Some.depth c.rounds.goals c.remove_from.new.goals c.rounds.depends c.remove_from.new.depends c.settle_changes.new.prefs c.remove_from.new.prefs c.rounds.live c.remove_from.new.live
     = record { goals_are = c.remove_from.ensures.goals; depends_are = c.remove_from.ensures.depends; rows_are = ap room_of c.remove_from.ensures.rows; live_are = c.remove_from.ensures.live } in
     round_goes_on c.args.memory.now.elements (held_by c.rounds.goals c.rounds.depends c.rounds.prefs c.rounds.inputs c.rounds.live) _ _ _ c.in-Some.depth c.rounds.invariant.fits
-    (round_settles c.args.memory.now.elements _ _ _ _ _ _ _ _ c.rounds.live _ (Some c.in-Some.depth) (round_of c.rest_is_kept.ensures c.args.memory.now.elements c.rounds.goals c.list.result.now c.rounds.depends c.as_slice.result.now c.rounds.prefs c.settle_changes.new.prefs c.rounds.inputs c.settle_changes.new.inputs c.settle_changes.new.kept (Some c.in-Some.depth)
-    c.list.ensures.goals c.as_slice.ensures c.in_ok-settle_changes.ensures.prefs c.in_ok-settle_changes.ensures.inputs c.in_ok-settle_changes.ensures.rest (sym c.in-Some.is ∙ c.highest_broken.ensures)))
+    (round_settles c.args.memory.now.elements _ _ _ _ _ _ _ _ c.rounds.live _ (Some c.in-Some.depth) (round_of c.rest_is_kept.ensures c.args.memory.now.elements c.rounds.goals c.list.result.now c.rounds.depends c.rounds.depends c.rounds.prefs c.settle_changes.new.prefs c.rounds.inputs c.settle_changes.new.inputs c.settle_changes.new.kept (Some c.in-Some.depth)
+    c.list.ensures.goals refl c.in_ok-settle_changes.ensures.prefs c.in_ok-settle_changes.ensures.inputs c.in_ok-settle_changes.ensures.rest (sym c.in-Some.is ∙ c.in_ok-broken.ensures)))
     (removed_is c.in-Some.depth c.rounds.goals _ c.rounds.depends _ c.settle_changes.new.prefs _ c.settle_changes.new.inputs c.rounds.live _ left)
 
 pub rounds-smaller : goal.rounds-smaller
 rounds-smaller c = (goes c).less
-
--- what is not named now was not named before
-unnamed : (old new : Bool) → (old ≡ true → new ≡ true) → new ≡ false → old ≡ false
-unnamed true new grows h = absurd (let clash : true ≡ false = sym (grows refl) ∙ h in cc)
-unnamed false new grows h = refl
 
 pub rounds-preserved : goal.rounds-preserved
 rounds-preserved c =
@@ -70,8 +81,7 @@ rounds-preserved c =
       rest = k.rest ∙ c.rounds.invariant.rest;
       tracked = c.changes_are_tracked.ensures.goes_on c.settle_changes.new.prefs c.remove_from.new.prefs c.settle_changes.new.inputs c.settle_changes.new.inputs [] c.settle_changes.new.changed c.settle_changes.new.kept now
           (ap (λ (p : PreferenceMemory). p.settled) c.remove_from.ensures.rows) (λ t h. refl) (λ t h. refl);
-      grows = (
-        λ t h. answer.touched.0 t (c.rounds.invariant.grows.0 t h),
-        λ t h. answer.touched.1 t h ∙ c.rounds.invariant.grows.1 t (unnamed (has_plain c.rounds.touched t) (has_plain c.settle_changes.new.touched t) (answer.touched.0 t) h),
-      );
+      grows = grows_on c.args.touched.now c.rounds.touched c.settle_changes.new.touched c.args.kept.now c.rounds.kept c.settle_changes.new.kept c.rounds.invariant.grows answer.touched;
+      doubted = subst (λ (tables : List (List ℕ)). AreDoubted tables c.args.memory.now.elements c.args.kept.now.triples c.args.doubted.now) (sym c.remove_from.ensures.depends)
+          (doubted_first (c.in-Some.depth - 2) c.rounds.depends c.args.memory.now.elements c.args.kept.now.triples c.args.doubted.now c.rounds.invariant.doubted);
     }

@@ -3,8 +3,8 @@ use Rattle.defs_match.specs.Rows.{Row}
 use Rattle.node_memory.specs.Changes.{RowsChange}
 use Rattle.node_table.proofs.serving.take_change.Goals as goal
 
-pub returns : goal.returns
-returns c = record {
+pub returns-clause-served : goal.returns-clause-served
+returns-clause-served c = record {
   key = refl;
   tags = refl;
   made = refl;

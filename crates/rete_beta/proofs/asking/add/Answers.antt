@@ -22,11 +22,12 @@ returns-clause-network c =
     record {
       works = c.in_ok-n.ensures.works;
       whole = subst (λ (end : ℕ). IsWhole (numbers_of.get key_cmp c.make.new.numbers) c.make.new.nodes.slots c.make.new.alpha end) (sym next) c.in_ok-n.ensures.whole;
-      links = links_more old new c.args.key adds.0 net.made c.in_ok-n.n net.below c.link_node.new.below adds.2 n.links c.in_ok-link_node.ensures;
-      takers = takers_more old new c.args.key adds.0 net.made c.in_ok-n.n net.takers c.note_taker.new.takers adds.2 n.takers c.in_ok-note_taker.ensures;
+      links = links_more old new c.args.key adds.0 net.made c.in_ok-n.n net.below c.relink.new.below adds.2 n.links c.in_ok-relink.ensures.links;
+      takers = takers_more old new c.args.key adds.0 net.made c.in_ok-n.n net.takers c.relink.new.takers adds.2 n.takers c.in_ok-relink.ensures.takers;
       stamps = stamps_more old new c.args.key adds.0 net.made c.in_ok-n.n net.stamp adds.2 n.root.0 n.root.1 n.stamps;
       elements = subst (SameElements net.index) (sym e) n.elements;
       rising = subst IsRising (sym e) n.rising;
+      hear = c.in_ok-n.ensures.hear n.hear;
       holds = subst (AllHold new) (sym e) (c.in_ok-n.ensures.hold net.alpha.elements n.holds n.elements (rising_differ net.alpha.elements n.rising));
       root = root_more old new c.args.key adds.0 net.made c.in_ok-n.n adds.2 n.root;
     }

@@ -4,7 +4,7 @@ use Rattle.std.specs.BTreeMap as numbers_of
 use Rattle.slab.specs.Slab.{get}
 use Rattle.node_table.specs.Nodes.{key_cmp, one_more}
 use Rattle.node_table.proofs.DropLemmas.{cond_here, cond_others}
-use Rattle.rete_beta.proofs.NetworkLemmas.{node_keyed, asks_again, links_counted, takers_counted, stamps_counted, root_counted, whole_counted, numbered_counted, holds_counted}
+use Rattle.rete_beta.proofs.NetworkLemmas.{node_keyed, asks_again, links_counted, takers_counted, stamps_counted, root_counted, whole_counted, numbered_counted, hear_kept, holds_counted}
 use Rattle.rete_beta.proofs.asking.count.Goals as goal
 
 pub returns-clause-network : goal.returns-clause-network
@@ -29,6 +29,7 @@ returns-clause-network c =
       stamps = stamps_counted xs ys c.args.n x.0 now x.1 is refl others net.stamp n.stamps;
       elements = n.elements;
       rising = n.rising;
+      hear = hear_kept xs ys c.args.n x.0 now x.1 is refl others net.made net.alpha.elements n.whole.table some n.hear;
       holds = holds_counted xs ys c.args.n x.0 now x.1 is refl others net.made net.alpha.elements n.whole.table some n.holds;
       root = root_counted xs ys c.args.n x.0 now x.1 is refl others n.root;
     }

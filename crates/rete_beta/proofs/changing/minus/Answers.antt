@@ -32,6 +32,7 @@ react-requires-clause-behind c =
         stamps = n.stamps;
         elements = less_same net.index c.remove-2.new.self net.alpha.elements c.remove.new.self.elements c.args.tag c.in-Some.e n.rising at n.elements (c.remove.ensures.elements n.works) c.remove-2.ensures;
         rising = c.law.ensures.rising;
+        hear = n.hear;
         holds = n.holds;
         root = n.root;
       };

@@ -28,6 +28,7 @@ react-requires-clause-behind c =
         stamps = n.stamps;
         elements = more_same net.index c.add-2.new.self net.alpha.elements c.add.new.self.elements c.args.e n.elements c.in_ok-add.ensures.elements c.in_ok-add-2.ensures.ok;
         rising = c.law.ensures.rising;
+        hear = n.hear;
         holds = n.holds;
         root = n.root;
       };

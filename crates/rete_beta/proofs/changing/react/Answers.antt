@@ -2,23 +2,29 @@ use Rattle.std.proofs.Common.{◌≡◌, sym, ◌+◌, arith}
 use Rattle.std.specs.BTreeMap as numbers_of
 use Rattle.slab.specs.Slab.{get}
 use Rattle.node_table.specs.Nodes.{key_cmp, key_at}
-use Rattle.node_table.specs.Making.{seen_at}
 use Rattle.node_table.proofs.NumberLemmas.{numbered_same}
 use Rattle.node_table.proofs.AskedLemmas.{alike_asked}
 use Rattle.node_agenda.proofs.BeginLemmas.{stands_first, loop_first}
-use Rattle.rete_beta.specs.Networks.{links_of, takers_of}
 use Rattle.rete_beta.proofs.ElementLemmas.{rising_differ}
-use Rattle.rete_beta.proofs.SpreadLemmas.{spread_same, linked}
-use Rattle.rete_beta.proofs.SettleLemmas.{links_settled, takers_settled, keys_settled, askers_settled, asked_settled, stamps_settled, root_settled, first_turns, first_reached, unserved}
+use Rattle.node_agenda.proofs.SpreadLemmas.{linked}
+use Rattle.node_table.proofs.HearLemmas.{all_ask}
+use Rattle.rete_beta.proofs.SettleLemmas.{keys_settled, askers_settled, asked_settled, stamps_settled, root_settled, first_turns, first_reached, unserved}
 use Rattle.rete_beta.proofs.changing.react.Goals as goal
 
-pub settle-requires : goal.settle-requires
-settle-requires c =
+pub settle-requires-clause-loops : goal.settle-requires-clause-loops
+settle-requires-clause-loops c =
     let net = c.args.net.now in
     let n = c.requires.behind.network in
-    loop_first (get net.nodes) c.in_ok-agenda.agenda.keys net.below net.stamp net.made c.args.come c.args.goes n.whole.table (unserved (get net.nodes) net.stamp n.stamps)
+    loop_first (get net.nodes) c.requires.behind.before net.alpha.elements net.stamp c.args.come c.args.goes c.requires.behind.change (unserved (get net.nodes) net.stamp n.stamps) c.in_ok-agenda.agenda.keys net.below net.made n.whole.table
     (first_turns (get net.nodes) net.takers net.alpha c.args.e.now c.in_ok-agenda.agenda.keys n.takers c.in_ok-agenda.ensures)
-    (first_reached net.nodes.slots net.takers net.alpha c.args.e.now c.args.come c.args.goes c.in_ok-agenda.agenda.keys n.whole.asked n.takers c.in_ok-agenda.ensures c.requires.one) (linked (get net.nodes) net.below n.links)
+    (first_reached net.nodes.slots net.takers net.alpha c.args.e.now c.args.come c.args.goes c.in_ok-agenda.agenda.keys n.whole.asked n.takers c.in_ok-agenda.ensures c.requires.one)
+    n.hear (linked (get net.nodes) net.below n.links)
+
+pub settle-requires-clause-asked : goal.settle-requires-clause-asked
+settle-requires-clause-asked c = (let net = c.args.net.now in all_ask net.nodes.slots net.alpha c.requires.behind.network.whole.asked)
+
+pub settle-requires-clause-linked : goal.settle-requires-clause-linked
+settle-requires-clause-linked c = (let n = c.requires.behind.network in record { rows = n.links; elements = n.takers })
 
 pub returns-clause-network : goal.returns-clause-network
 returns-clause-network c =
@@ -35,11 +41,12 @@ returns-clause-network c =
         table = c.in_ok-served.ensures.table;
         asked = alike_asked net.nodes.slots c.settle.new.nodes.slots net.alpha n.whole.asked (askers_settled old new net.stamp s);
       };
-      links = spread_same links_of (seen_at old) (seen_at new) net.below (links_settled old new net.stamp s) n.links;
-      takers = spread_same takers_of (seen_at old) (seen_at new) net.takers (takers_settled old new net.stamp s) n.takers;
+      links = c.in_ok-served.ensures.linked.rows;
+      takers = c.in_ok-served.ensures.linked.elements;
       stamps = stamps_settled old new net.stamp c.in-Some.next s (sym next) n.stamps;
       elements = n.elements;
       rising = n.rising;
+      hear = c.in_ok-served.ensures.hear;
       holds = c.in_ok-served.ensures.hold c.requires.behind.before net.alpha.elements (stands_first old net.stamp c.requires.behind.before net.alpha.elements n.holds (unserved old net.stamp n.stamps)) c.requires.behind.change n.elements
           (rising_differ net.alpha.elements n.rising);
       root = root_settled old new net.stamp s n.root;

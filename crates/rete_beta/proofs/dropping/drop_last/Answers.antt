@@ -4,8 +4,9 @@ use Rattle.soar_wm.specs.WorkingMemory.{IsRising}
 use Rattle.node_memory.specs.Held.{SameElements}
 use Rattle.node_table.specs.Nodes.{one_less}
 use Rattle.node_table.specs.Content.{AllHold}
+use Rattle.node_table.specs.Hearing.{AllHear}
 use Rattle.node_table.proofs.DropLemmas.{cond_here, cond_others}
-use Rattle.rete_beta.proofs.NetworkLemmas.{drops_of, table_dropped, holds_dropped, links_dropped, takers_dropped, stamps_dropped, root_dropped}
+use Rattle.rete_beta.proofs.NetworkLemmas.{drops_of, table_dropped, hear_dropped, holds_dropped, links_dropped, takers_dropped, stamps_dropped, root_dropped}
 use Rattle.rete_beta.proofs.dropping.drop_last.Goals as goal
 
 pub returns-clause-network : goal.returns-clause-network
@@ -28,6 +29,7 @@ returns-clause-network c =
       stamps = stamps_dropped xs ys c.args.n net.made n.whole.table c.requires.can c.requires.last is others net.stamp n.stamps;
       elements = subst (SameElements net.index) (sym c.drop_node.ensures.elements) n.elements;
       rising = subst IsRising (sym c.drop_node.ensures.elements) n.rising;
+      hear = subst (AllHear (get c.drop_node.new.nodes)) (sym c.drop_node.ensures.elements) (hear_dropped xs ys c.args.n net.made n.whole.table c.requires.can c.requires.last is others net.alpha.elements n.hear);
       holds = subst (AllHold (get c.drop_node.new.nodes)) (sym c.drop_node.ensures.elements) (holds_dropped xs ys c.args.n net.made n.whole.table c.requires.can c.requires.last is others net.alpha.elements n.holds);
       root = root_dropped xs ys c.args.n net.made n.whole.table c.requires.can c.requires.last is others n.root;
     }

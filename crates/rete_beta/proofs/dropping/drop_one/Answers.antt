@@ -2,11 +2,12 @@ use Rattle.std.proofs.Common.{◌≡◌, ◌∙◌, ◌-◌, refl, sym, subst, S
 use Rattle.soar_wm.specs.WorkingMemory.{IsRising}
 use Rattle.node_memory.specs.Held.{SameElements}
 use Rattle.node_table.specs.Content.{AllHold}
+use Rattle.node_table.specs.Hearing.{AllHear}
 use Rattle.slab.specs.Slab.{get}
 use Rattle.node_table.specs.Nodes.{one_less}
 use Rattle.node_table.specs.declared.node.Node.{Node}
 use Rattle.node_table.proofs.DropLemmas.{cond_here, cond_others}
-use Rattle.rete_beta.proofs.NetworkLemmas.{node_asked, one_of_several, drops_of, links_counted, takers_counted, stamps_counted, root_counted, holds_counted}
+use Rattle.rete_beta.proofs.NetworkLemmas.{node_asked, one_of_several, drops_of, links_counted, takers_counted, stamps_counted, root_counted, hear_kept, holds_counted}
 use Rattle.node_table.proofs.CountLemmas.{table_counted}
 use Rattle.rete_beta.proofs.dropping.drop_one.Goals as goal
 
@@ -35,6 +36,7 @@ returns-clause-network c =
       stamps = stamps_counted xs ys c.args.n x.0 now x.1 is refl others net.stamp n.stamps;
       elements = subst (SameElements net.index) (sym c.drop_node.ensures.elements) n.elements;
       rising = subst IsRising (sym c.drop_node.ensures.elements) n.rising;
+      hear = subst (AllHear new) (sym c.drop_node.ensures.elements) (hear_kept xs ys c.args.n x.0 now x.1 is refl others net.made net.alpha.elements n.whole.table several.1 n.hear);
       holds = subst (AllHold new) (sym c.drop_node.ensures.elements) (holds_counted xs ys c.args.n x.0 now x.1 is refl others net.made net.alpha.elements n.whole.table several.1 n.holds);
       root = root_counted xs ys c.args.n x.0 now x.1 is refl others n.root;
     }

@@ -10,8 +10,8 @@ use Rattle.rete_alpha.specs.Alphas.{AlphaOf}
 use Rattle.node_table.specs.Nodes.{KeyOf, key_cmp}
 use Rattle.node_table.specs.Asked.{IsAsked}
 use Rattle.node_table.specs.Making.{seen_at}
-use Rattle.rete_beta.specs.Networks.{links_of, takers_of, IsSpread}
-use Rattle.rete_beta.proofs.StartLemmas.{start_table, start_numbered, start_asked, start_links, start_takers, start_stamps, start_holds, start_root, starts_with}
+use Rattle.node_agenda.specs.Links.{links_of, takers_of, IsSpread}
+use Rattle.rete_beta.proofs.StartLemmas.{start_table, start_numbered, start_asked, start_links, start_takers, start_stamps, start_hear, start_holds, start_root, starts_with}
 use Rattle.rete_beta.proofs.network.start.Goals as goal
 
 pub returns-clause-network : goal.returns-clause-network
@@ -31,6 +31,7 @@ returns-clause-network c =
       stamps = start_stamps slots r.root r.is r.here r.others;
       elements = λ e. ((λ i. absurd (subst (λ (l : List Element). IsIn e l) c.new-index.ensures i)), (λ i. absurd (subst (λ (l : List Element). IsIn e l) alpha i)));
       rising = subst IsRising (sym alpha) tt;
+      hear = start_hear slots r.root r.is r.here r.others c.in_ok-alpha.alpha.elements;
       holds = start_holds slots r.root r.is r.here r.others c.in_ok-alpha.alpha.elements;
       root = start_root slots r.root r.is r.here r.others;
     }

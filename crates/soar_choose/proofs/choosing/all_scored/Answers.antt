@@ -1,14 +1,11 @@
-use Rattle.std.proofs.Common.{get_or, ◌++◌, ◌∷◌, [], subst, sym, ◌∙◌, ap}
-use Rattle.std.proofs.lemmas.List.{map_more}
-use Rattle.soar_sym.specs.declared.symbol.Sym.TheVariants.{Ident}
-use Rattle.defs_soar.specs.Choice.{scored}
+use Rattle.std.proofs.Common.{List, subst, sym, ◌∙◌}
+use Rattle.defs_soar.specs.declared.choice.Scored.{Scored}
 use Rattle.soar_choose.specs.Rows.{AreSumsWithin}
-use Rattle.soar_choose.proofs.SumLemmas.{sums_with}
+use Rattle.soar_choose.proofs.RangeLemmas.{scored_same, scored_within}
 use Rattle.soar_choose.proofs.choosing.all_scored.Goals as goal
 
-pub values-preserved : goal.values-preserved
-values-preserved c = record {
-  scored = c.in_ok-push.ensures.ok ∙ ap (λ s. c.values.all ++ s ∷ []) c.scored.ensures.scored ∙ ap (λ all. all ++ scored c.args.rows.now (get_or c.args.values.now c.values.value-index (Ident 0 0)) ∷ []) c.values.invariant.scored
-      ∙ sym (map_more (scored c.args.rows.now) c.args.values.now c.values.value-index (Ident 0 0) c.values-test.true);
-  sums = subst AreSumsWithin (sym c.in_ok-push.ensures.ok) (sums_with c.values.all c.scored.result c.values.invariant.sums c.scored.ensures.within);
-}
+pub returns-clause-sums : goal.returns-clause-sums
+returns-clause-sums c =
+    let P : List Scored → Type 0 = AreSumsWithin in
+    subst P (sym (c.in_ok-all.ensures ∙ scored_same c.args.rows.now c.in_ok-numeric.numeric c.in_ok-sums.sums c.in_ok-numeric.ensures c.in_ok-sums.ensures c.args.values.now))
+    (scored_within c.args.rows.now c.args.values.now c.requires.few c.requires.range)

@@ -1,7 +1,7 @@
 use Rattle.std.proofs.Common.{◌∙◌, map, sym, ap, subst}
-use Rattle.soar_cmd.specs.Asked.{form_seen}
-use Rattle.soar_cmd.specs.Behind.{AreArgumentsKnown, argument_seen}
-use Rattle.soar_cmd.proofs.OrderLemmas.{order_behind}
+use Rattle.command_orders.specs.Asked.{form_seen}
+use Rattle.command_orders.specs.Behind.{AreArgumentsKnown, argument_seen}
+use Rattle.command_orders.proofs.OrderLemmas.{order_behind}
 use Rattle.soar_cmd.proofs.order.order_by.Goals as goal
 
 pub order_of-requires : goal.order_of-requires

@@ -1,6 +1,6 @@
 use Rattle.std.proofs.Common.{◌≡◌, ◌++◌, drop}
 use Rattle.std.specs.Prelude.{option_map}
-use Rattle.soar_cmd.specs.Asked.{all_numbers}
+use Rattle.command_orders.specs.Asked.{all_numbers}
 use Rattle.soar_cmd.proofs.random.all_numbers.Given as goal
 
 abbrev pub invariant-numbers : goal.invariant-numbers

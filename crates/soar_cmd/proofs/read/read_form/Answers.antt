@@ -5,8 +5,8 @@ use Rattle.defs_run.specs.WholeReading.{or_wrong}
 use Rattle.soar_sym.specs.Words.{Texts}
 use Rattle.soar_lex.specs.Answers.{CutWhole}
 use Rattle.soar_cmd.specs.Answers.{IsJudged}
-use Rattle.soar_cmd.specs.Asked.{form_seen, order_by, read_order}
-use Rattle.soar_cmd.proofs.CutLemmas.{cut_known, cut_spelled, fault_more, gained_more}
+use Rattle.command_orders.specs.Asked.{form_seen, order_by, read_order}
+use Rattle.soar_cmd.proofs.CutLemmas.{cut_known, cut_spelled, fault_grown, gained_grown}
 use Rattle.soar_cmd.proofs.ReadingLemmas.{judged_read, order_grows, whole_read}
 use Rattle.soar_cmd.proofs.read.read_form.Goals as goal
 
@@ -28,7 +28,7 @@ returns-in-Ok-clause-reading c =
 pub returns-in-Ok-clause-grown : goal.returns-in-Ok-clause-grown
 returns-in-Ok-clause-grown c =
     let cut : CutWhole c.args.table.now c.lex.new.table (lexed c.args.text.now) c.in-Ok.tokens = c.in-Ok.ensures in
-    gained_more c.args.table.now c.lex.new.table (lexed c.args.text.now) cut.gained
+    gained_grown c.args.table.now c.lex.new.table (lexed c.args.text.now) cut.gained
 
 pub returns-in-Err-clause-reading : goal.returns-in-Err-clause-reading
 returns-in-Err-clause-reading c =
@@ -36,4 +36,4 @@ returns-in-Err-clause-reading c =
     (order_grows (form_seen c.args.form) c.args.text.now)
 
 pub returns-in-Err-clause-grown : goal.returns-in-Err-clause-grown
-returns-in-Err-clause-grown c = fault_more c.args.table.now c.lex.new.table (lexed c.args.text.now) c.in-Err.fault c.in-Err.ensures
+returns-in-Err-clause-grown c = fault_grown c.args.table.now c.lex.new.table (lexed c.args.text.now) c.in-Err.fault c.in-Err.ensures

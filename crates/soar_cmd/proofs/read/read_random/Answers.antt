@@ -6,8 +6,8 @@ use Rattle.defs_run.specs.WholeReading.{or_wrong}
 use Rattle.defs_run.specs.RandomReading.{random_lexed, random_order}
 use Rattle.random_words.specs.Answers.{ReadWhole}
 use Rattle.soar_cmd.specs.Answers.{IsJudged}
-use Rattle.soar_cmd.specs.Asked.{numbers_order, order_by, read_order}
-use Rattle.soar_cmd.proofs.CutLemmas.{fault_more, gained_more}
+use Rattle.command_orders.specs.Asked.{numbers_order, order_by, read_order}
+use Rattle.soar_cmd.proofs.CutLemmas.{fault_grown, gained_grown}
 use Rattle.soar_cmd.proofs.RandomLemmas.{order_is}
 use Rattle.soar_cmd.proofs.ReadingLemmas.{judged_read, order_grows, whole_read}
 use Rattle.soar_cmd.proofs.read.read_random.Goals as goal
@@ -29,7 +29,7 @@ returns-in-Ok-clause-known c = c.random_or_refusal.ensures.known c.lex_random.ne
 pub returns-in-Ok-clause-grown : goal.returns-in-Ok-clause-grown
 returns-in-Ok-clause-grown c =
     let read : ReadWhole c.args.table.now c.lex_random.new.table c.args.text.now c.in-Ok.numbers = c.in-Ok.ensures in
-    gained_more c.args.table.now c.lex_random.new.table (random_lexed 0 0 c.args.text.now) read.gained
+    gained_grown c.args.table.now c.lex_random.new.table (random_lexed 0 0 c.args.text.now) read.gained
 
 pub returns-in-Err-clause-reading : goal.returns-in-Err-clause-reading
 returns-in-Err-clause-reading c =
@@ -37,4 +37,4 @@ returns-in-Err-clause-reading c =
     (order_grows (λ words. random_order) c.args.text.now)
 
 pub returns-in-Err-clause-grown : goal.returns-in-Err-clause-grown
-returns-in-Err-clause-grown c = fault_more c.args.table.now c.lex_random.new.table (random_lexed 0 0 c.args.text.now) c.in-Err.fault c.in-Err.ensures
+returns-in-Err-clause-grown c = fault_grown c.args.table.now c.lex_random.new.table (random_lexed 0 0 c.args.text.now) c.in-Err.fault c.in-Err.ensures

@@ -3,7 +3,8 @@ use Rattle.defs_text.specs.Lexing.{Lexed, lexed}
 use Rattle.defs_run.specs.WholeReading.{checked, read_tokens}
 use Rattle.soar_sym.specs.Words.{Texts}
 use Rattle.soar_lex.specs.Answers.{CutWhole}
-use Rattle.soar_cmd.proofs.CutLemmas.{cut_few, cut_known, cut_spelled, fault_more, gained_more}
+use Rattle.soar_lex.proofs.WordLemmas.{grown_then}
+use Rattle.soar_cmd.proofs.CutLemmas.{cut_few, cut_known, cut_spelled, fault_grown, gained_grown}
 use Rattle.soar_cmd.proofs.ReadingLemmas.{tokens_grow, whole_read}
 use Rattle.soar_cmd.proofs.read.read_sp.Goals as goal
 
@@ -27,10 +28,10 @@ returns-in-Ok-clause-reading c =
 pub returns-in-Ok-clause-grown : goal.returns-in-Ok-clause-grown
 returns-in-Ok-clause-grown c =
     let cut : CutWhole c.args.table.now c.lex.new.table (lexed c.args.text.now) c.in-Ok.tokens = c.in-Ok.ensures in
-    omega (arith, c.read_tokens.ensures.grown, gained_more c.args.table.now c.lex.new.table (lexed c.args.text.now) cut.gained)
+    grown_then c.args.table.now c.lex.new.table c.read_tokens.new.table (gained_grown c.args.table.now c.lex.new.table (lexed c.args.text.now) cut.gained) c.read_tokens.ensures.grown
 
 pub returns-in-Err-clause-reading : goal.returns-in-Err-clause-reading
 returns-in-Err-clause-reading c = c.of_lexing.ensures c.args.table.now c.lex.new.table (lexed c.args.text.now) (read_tokens checked) c.in-Err.ensures (tokens_grow checked)
 
 pub returns-in-Err-clause-grown : goal.returns-in-Err-clause-grown
-returns-in-Err-clause-grown c = fault_more c.args.table.now c.lex.new.table (lexed c.args.text.now) c.in-Err.fault c.in-Err.ensures
+returns-in-Err-clause-grown c = fault_grown c.args.table.now c.lex.new.table (lexed c.args.text.now) c.in-Err.fault c.in-Err.ensures

@@ -1,4 +1,4 @@
-use Rattle.std.proofs.Common.{◌≡◌, ◌+◌, ◌≤◌, ◌∙◌, arith, ap, sym, length, map, List}
+use Rattle.std.proofs.Common.{◌+◌, ◌∙◌, arith, ap, sym, length, map, List}
 use Rattle.defs_match.specs.Rules.{rule_seen}
 use Rattle.defs_match.specs.declared.rule.Rule.{Rule}
 use Rattle.soar_cycle.specs.Counting.{chunks_among}

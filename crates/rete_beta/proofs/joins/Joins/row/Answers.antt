@@ -1,4 +1,4 @@
-use Rattle.std.proofs.Common.{◌≡◌, ◌∙◌, sym, ap, subst, ℕ, List, Option}
+use Rattle.std.proofs.Common.{◌∙◌, sym, ap, subst, ℕ, List, Option}
 use Rattle.soar_wm.specs.declared.element.Element.{Element}
 use Rattle.defs_match.specs.Rows.{rows}
 use Rattle.node_table.specs.declared.node.NodeKey.{NodeKey}

@@ -2,7 +2,7 @@ use Rattle.std.proofs.Common.{◌≡◌, ◌∙◌, true, List, ℕ, Option, Som
 use Rattle.defs_run.specs.Inputs.{added, first_unknown, spelled, unless_unknown}
 use Rattle.defs_run.specs.Runs.{replied_by}
 use Rattle.defs_run.specs.Sessions.{Session}
-use Rattle.soar_cmd.specs.Asked.{operand_seen}
+use Rattle.command_orders.specs.Asked.{operand_seen}
 use Rattle.soar_agent.specs.States.{session_of}
 use Rattle.soar_agent.specs.Steps.{Obeys}
 use Rattle.soar_agent.proofs.state.Session.add.Goals as goal

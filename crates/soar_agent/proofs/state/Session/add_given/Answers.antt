@@ -3,8 +3,9 @@ use Rattle.soar_sym.specs.declared.symbol.Sym.{Sym}
 use Rattle.defs_run.specs.Runs.{replied_by}
 use Rattle.wave_parts.specs.Remembers.{Remembers}
 use Rattle.soar_agent.specs.Adding.{adds_at_top}
-use Rattle.soar_cmd.specs.Asked.{operand_seen}
-use Rattle.session_parts.specs.Labels.{label_seen, symbol_in}
+use Rattle.command_orders.specs.Asked.{operand_seen}
+use Rattle.command_labels.specs.Found.{label_seen}
+use Rattle.session_parts.specs.Labels.{symbol_in}
 use Rattle.soar_agent.specs.States.{session_of}
 use Rattle.soar_agent.specs.Steps.{Obeys}
 use Rattle.soar_agent.specs.declared.state.Session.{Session}

@@ -6,7 +6,7 @@ use Rattle.defs_run.specs.Orders.{reserved_attribute}
 use Rattle.defs_run.specs.Runs.{replied_by}
 use Rattle.defs_run.specs.Sessions.{Session}
 use Rattle.soar_agent.specs.Adding.{adds_by}
-use Rattle.soar_cmd.specs.Asked.{operand_seen}
+use Rattle.command_orders.specs.Asked.{operand_seen}
 use Rattle.soar_agent.specs.States.{session_of}
 use Rattle.soar_agent.specs.Steps.{Obeys}
 use Rattle.soar_agent.proofs.state.Session.add_unless_reserved.Goals as goal

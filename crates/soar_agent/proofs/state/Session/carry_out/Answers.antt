@@ -1,7 +1,7 @@
 use Rattle.std.proofs.Common.{Ok, refl, sym, subst}
 use Rattle.defs_run.specs.Sessions.{quits, sources}
 use Rattle.defs_run.specs.declared.form.Order.{Order}
-use Rattle.soar_cmd.specs.Asked.{order_seen}
+use Rattle.command_orders.specs.Asked.{order_seen}
 use Rattle.defs_run.specs.Carrying.{carried_out}
 use Rattle.soar_agent.specs.Running.{run_learning}
 use Rattle.soar_agent.specs.Commands.{CarriesOut}

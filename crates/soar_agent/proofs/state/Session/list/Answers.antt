@@ -1,7 +1,7 @@
 use Rattle.std.proofs.Common.{sym, subst}
 use Rattle.defs_run.specs.Carrying.{carried_out}
 use Rattle.defs_run.specs.declared.form.Order.{Order}
-use Rattle.soar_cmd.specs.Asked.{order_seen}
+use Rattle.command_orders.specs.Asked.{order_seen}
 use Rattle.soar_agent.specs.Carries.{Carries}
 use Rattle.soar_agent.specs.Running.{run_learning}
 use Rattle.soar_agent.proofs.state.Session.list.Goals as goal

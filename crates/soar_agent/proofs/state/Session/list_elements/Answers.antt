@@ -3,7 +3,7 @@ use Rattle.defs_run.specs.Carrying.{lists_elements}
 use Rattle.defs_run.specs.Inputs.{does, unless_unknown}
 use Rattle.defs_run.specs.Runs.{replied_by}
 use Rattle.defs_run.specs.Sessions.{Session, unknown_in}
-use Rattle.soar_cmd.specs.Asked.{operand_seen}
+use Rattle.command_orders.specs.Asked.{operand_seen}
 use Rattle.soar_agent.specs.States.{session_of}
 use Rattle.soar_agent.specs.Steps.{Obeys}
 use Rattle.soar_agent.proofs.state.Session.list_elements.Goals as goal

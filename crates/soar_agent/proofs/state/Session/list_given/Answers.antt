@@ -1,4 +1,4 @@
-use Rattle.soar_cmd.specs.Asked.{operand_seen}
+use Rattle.command_orders.specs.Asked.{operand_seen}
 use Rattle.soar_agent.proofs.LabelLemmas.{lists_made, lists_none}
 use Rattle.soar_agent.proofs.state.Session.list_given.Goals as goal
 

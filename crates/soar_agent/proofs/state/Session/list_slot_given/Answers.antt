@@ -1,6 +1,6 @@
 use Rattle.std.proofs.lemmas.Result.{err_from_is_err_and}
 use Rattle.std.proofs.Common.{◌∙◌}
-use Rattle.soar_cmd.specs.Asked.{operand_seen}
+use Rattle.command_orders.specs.Asked.{operand_seen}
 use Rattle.soar_agent.proofs.SlotLemmas.{slot_attr_none, slot_id_none, slot_made}
 use Rattle.soar_agent.proofs.state.Session.list_slot_given.Goals as goal
 

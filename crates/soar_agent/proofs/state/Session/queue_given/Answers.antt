@@ -4,7 +4,7 @@ use Rattle.defs_run.specs.Inputs.{Spelled, does, is_reserved, refuses, spelled, 
 use Rattle.defs_run.specs.Orders.{reserved_attribute}
 use Rattle.defs_run.specs.Runs.{replied_by}
 use Rattle.defs_run.specs.Sessions.{Session}
-use Rattle.soar_cmd.specs.Asked.{operand_seen}
+use Rattle.command_orders.specs.Asked.{operand_seen}
 use Rattle.soar_agent.specs.States.{session_of}
 use Rattle.soar_agent.specs.Steps.{Obeys}
 use Rattle.soar_agent.proofs.state.Session.queue_given.Goals as goal

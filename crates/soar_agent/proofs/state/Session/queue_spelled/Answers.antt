@@ -1,5 +1,5 @@
 use Rattle.defs_run.specs.Inputs.{Spelled, spelled}
-use Rattle.soar_cmd.specs.Asked.{operand_seen}
+use Rattle.command_orders.specs.Asked.{operand_seen}
 use Rattle.soar_agent.specs.States.{session_of}
 use Rattle.soar_agent.proofs.SpellingLemmas.{queues_none, queues_spelled}
 use Rattle.soar_agent.proofs.state.Session.queue_spelled.Goals as goal

@@ -2,7 +2,7 @@ use Rattle.std.proofs.Common.{Ok, sym, subst}
 use Rattle.std.proofs.lemmas.Result.{err_from_is_err_and}
 use Rattle.soar_sym.specs.declared.symbol.Triple.{Triple}
 use Rattle.defs_run.specs.Inputs.{spelled}
-use Rattle.soar_cmd.specs.Asked.{operand_seen}
+use Rattle.command_orders.specs.Asked.{operand_seen}
 use Rattle.letter_laws.proofs.GrowthLaws.{given_stay_given}
 use Rattle.soar_agent.specs.Labels.{Spells}
 use Rattle.soar_agent.specs.Numbered.{IsTripleNumbered}

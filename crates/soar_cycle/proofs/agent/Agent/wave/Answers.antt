@@ -14,4 +14,4 @@ returns-clause-step g c = λ standing s stands.
     (c.wave-answer.ensures.wave s (subst (λ (a : AgentSeen). Stands a.parts s) (sym c.self.view_is) stands)))
 
 pub returns-clause-chunks : goal.returns-clause-chunks
-returns-clause-chunks g c = λ standing. learns_well c.args.self.now c.args.phase c.requires.sound standing
+returns-clause-chunks g c = λ standing. learns_well c.args.self.now c.args.phase

@@ -16,8 +16,9 @@ use Rattle.wave_parts.specs.Seen.{pending_of}
 use Rattle.wave_parts.specs.Working.{standing_now}
 use Rattle.wave_parts.proofs.FiredKnownLemmas.{is_wave}
 use Rattle.wave_parts.proofs.FiringLemmas.{ids_known}
+use Rattle.wave_parts.proofs.RecordedLemmas.{recorded_alone}
 use Rattle.wave_parts.proofs.SoundLemmas.{levels_told}
-use Rattle.wave_parts.proofs.WorkedLemmas.{fires_so, has_fired, holds_wave, learns_here, stops_in_counting, stops_in_firing, stops_in_learning, to_learn}
+use Rattle.wave_parts.proofs.WorkedLemmas.{fires_so, has_fired, holds_wave, learns_here, stops_in_counting, stops_in_firing, stops_in_learning, to_learn, works_each}
 use Rattle.wave_parts.proofs.WorkedSoundLemmas.{WaveLaws, worked_out}
 use Rattle.wave_parts.proofs.parts.Parts.work_out.Goals as goal
 
@@ -63,17 +64,18 @@ returns-in_err-last-clause-answer c =
     all c.in_err-last.ensures.fits c.len.ensures c.in_err-last.ensures.count
 
 pub returns-in_err-hand-clause-answer : goal.returns-in_err-hand-clause-answer
-returns-in_err-hand-clause-answer c = λ history remembers w pend.
+returns-in_err-hand-clause-answer c =
     let old = c.args.self.now in
     let work = c.args.work.now in
     let same : standing c.in_ok-before.before ≡ standing_now old = λ k. record { goals = (c.in_ok-before.ensures.goals ∙ c.list.ensures.goals) k; rows = (c.in_ok-before.ensures.prefs k).rows; elements = (c.in_ok-before.ensures.memory k).elements } in
     let all = fires_so old (standing c.in_ok-before.before) (map rule_seen c.take_program-program.result.rules) work c.fire_all.new.table c.fire_all.new.letters (Ok c.in_ok-fired.fired) same
     (ap (λ p. map rule_seen p.rules) c.take_program-program.ensures) c.in_ok-fired.ensures.answer in
     let p = err_from_is_err_and c.from_residual-in_err-hand.result c.from_residual-in_err-hand.ensures.1 in
-    stops_in_learning old _ history w c.learn.new.table c.from_residual-in_err-hand.result c.in_err-hand.field-0.0 (p.1 ∙ ap Err p.2)
-    (learns_here c.agents_stay_lawful.ensures.firings old history work w (standing c.in_ok-before.before) c.fire_all.new.table c.fire_all.new.letters c.in_ok-fired.fired c.take_program-program.result c.in_ok-last.last c.learn.new.table
-    (Err c.in_err-hand.field-0.0) c.requires.lawful c.requires.pending remembers pend same all (ap program_seen c.take_program-program.ensures) (c.in_ok-last.ensures.count.0 ∙ ap (λ n. old.firings + n) c.len.ensures)
-    c.in_err-hand.ensures.learns)
+    works_each c.agents_stay_lawful.ensures.firings old _ work c.from_residual-in_err-hand.result c.requires.lawful c.requires.pending
+    (λ w pend. stops_in_learning old _ (recorded_alone old) w c.learn.new.table c.from_residual-in_err-hand.result c.in_err-hand.field-0.0 (p.1 ∙ ap Err p.2)
+    (learns_here c.agents_stay_lawful.ensures.firings old work w (standing c.in_ok-before.before) c.fire_all.new.table c.fire_all.new.letters c.in_ok-fired.fired c.take_program-program.result c.in_ok-last.last c.learn.new.table
+    (Err c.in_err-hand.field-0.0) c.requires.lawful c.requires.pending pend same all (ap program_seen c.take_program-program.ensures) (c.in_ok-last.ensures.count.0 ∙ ap (λ n. old.firings + n) c.len.ensures)
+    c.in_err-hand.ensures.learns))
 
 pub returns-in_err-hand-clause-from : goal.returns-in_err-hand-clause-from
 returns-in_err-hand-clause-from c = record {
@@ -90,24 +92,23 @@ returns-clause-from c = record {
 }
 
 pub returns-clause-answer : goal.returns-clause-answer
-returns-clause-answer c = λ history remembers w pend.
+returns-clause-answer c =
     let old = c.args.self.now in
     let work = c.args.work.now in
     let same : standing c.in_ok-before.before ≡ standing_now old = λ k. record { goals = (c.in_ok-before.ensures.goals ∙ c.list.ensures.goals) k; rows = (c.in_ok-before.ensures.prefs k).rows; elements = (c.in_ok-before.ensures.memory k).elements } in
     let all = fires_so old (standing c.in_ok-before.before) (map rule_seen c.take_program-program.result.rules) work c.fire_all.new.table c.fire_all.new.letters (Ok c.in_ok-fired.fired) same
     (ap (λ p. map rule_seen p.rules) c.take_program-program.ensures) c.in_ok-fired.ensures.answer in
-    holds_wave c.rules_join.ensures.teaches old history w _ c.fire_all.new.table c.fire_all.new.letters c.in_ok-fired.fired c.learn.new.table c.in_ok-hand.hand
-    (has_fired old history work w c.fire_all.new.table c.fire_all.new.letters c.in_ok-fired.fired pend all)
-    (learns_here c.agents_stay_lawful.ensures.firings old history work w (standing c.in_ok-before.before) c.fire_all.new.table c.fire_all.new.letters c.in_ok-fired.fired c.take_program-program.result c.in_ok-last.last c.learn.new.table
-    (Ok c.in_ok-hand.hand) c.requires.lawful c.requires.pending remembers pend same all (ap program_seen c.take_program-program.ensures) (c.in_ok-last.ensures.count.0 ∙ ap (λ n. old.firings + n) c.len.ensures)
-    c.in_ok-hand.ensures.learns)
+    works_each c.agents_stay_lawful.ensures.firings old _ work (Ok (record { entries = c.in_ok-hand.hand.entries; halted = c.in_ok-fired.fired.halted })) c.requires.lawful c.requires.pending
+    (λ w pend. holds_wave c.rules_join.ensures.teaches old (recorded_alone old) w _ c.fire_all.new.table c.fire_all.new.letters c.in_ok-fired.fired c.learn.new.table c.in_ok-hand.hand
+    (has_fired old (recorded_alone old) work w c.fire_all.new.table c.fire_all.new.letters c.in_ok-fired.fired pend all)
+    (learns_here c.agents_stay_lawful.ensures.firings old work w (standing c.in_ok-before.before) c.fire_all.new.table c.fire_all.new.letters c.in_ok-fired.fired c.take_program-program.result c.in_ok-last.last c.learn.new.table
+    (Ok c.in_ok-hand.hand) c.requires.lawful c.requires.pending pend same all (ap program_seen c.take_program-program.ensures) (c.in_ok-last.ensures.count.0 ∙ ap (λ n. old.firings + n) c.len.ensures)
+    c.in_ok-hand.ensures.learns))
 
 pub returns-clause-worked : goal.returns-clause-worked
 returns-clause-worked c =
     let old = c.args.self.now in
     let work = c.args.work.now in
-    let history = c.requires.lawful.agent.history in
-    let remembers = c.requires.lawful.stands.remembers in
     let w = pending_of c.requires.pending.0 old in
     let pend = c.requires.pending.1 in
     let laws : WaveLaws = record {
@@ -123,11 +124,11 @@ returns-clause-worked c =
     let same : standing c.in_ok-before.before ≡ standing_now old = λ k. record { goals = (c.in_ok-before.ensures.goals ∙ c.list.ensures.goals) k; rows = (c.in_ok-before.ensures.prefs k).rows; elements = (c.in_ok-before.ensures.memory k).elements } in
     let all = fires_so old (standing c.in_ok-before.before) (map rule_seen c.take_program-program.result.rules) work c.fire_all.new.table c.fire_all.new.letters (Ok c.in_ok-fired.fired) same
     (ap (λ p. map rule_seen p.rules) c.take_program-program.ensures) c.in_ok-fired.ensures.answer in
-    let at = learns_here c.agents_stay_lawful.ensures.firings old history work w (standing c.in_ok-before.before) c.fire_all.new.table c.fire_all.new.letters c.in_ok-fired.fired c.take_program-program.result c.in_ok-last.last
-    c.learn.new.table (Ok c.in_ok-hand.hand) c.requires.lawful c.requires.pending remembers pend same all (ap program_seen c.take_program-program.ensures)
+    let at = learns_here c.agents_stay_lawful.ensures.firings old work w (standing c.in_ok-before.before) c.fire_all.new.table c.fire_all.new.letters c.in_ok-fired.fired c.take_program-program.result c.in_ok-last.last
+    c.learn.new.table (Ok c.in_ok-hand.hand) c.requires.lawful c.requires.pending pend same all (ap program_seen c.take_program-program.ensures)
     (c.in_ok-last.ensures.count.0 ∙ ap (λ n. old.firings + n) c.len.ensures) c.in_ok-hand.ensures.learns in
-    worked_out laws old _ history w c.in_ok-hand.hand.entries c.in_ok-fired.fired.halted c.requires.sound
-    (is_wave laws old history work w c.fire_all.new.table c.fire_all.new.letters c.in_ok-fired.fired c.learn.new.table c.in_ok-hand.hand c.requires.sound c.requires.lawful c.requires.pending remembers pend all
+    worked_out laws old _ (recorded_alone old) w c.in_ok-hand.hand.entries c.in_ok-fired.fired.halted c.requires.sound
+    (is_wave laws old work w c.fire_all.new.table c.fire_all.new.letters c.in_ok-fired.fired c.learn.new.table c.in_ok-hand.hand c.requires.sound c.requires.lawful c.requires.pending pend all
     c.fire_all.ensures.words c.in_ok-fired.ensures.told_known
     (subst (λ goals. AreGoalsOf goals (recorded_in (map entry_seen c.in_ok-fired.fired.entries))) (c.in_ok-before.ensures.goals ∙ c.list.ensures.goals) c.in_ok-fired.ensures.goals) at
     (record {

@@ -1,0 +1,4 @@
+pub mod ArgumentLemmas
+pub mod OrderLemmas
+pub mod PrintLemmas
+pub mod WordLemmas

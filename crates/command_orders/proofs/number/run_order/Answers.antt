@@ -1,0 +1,8 @@
+use Rattle.defs_run.specs.Orders.{run_cycles}
+use Rattle.command_orders.proofs.number.run_order.Goals as goal
+
+pub returns-in-Some-clause-order : goal.returns-in-Some-clause-order
+returns-in-Some-clause-order c = c.in-Some.ensures.number c.args.table.now run_cycles
+
+pub returns-in-None-clause-order : goal.returns-in-None-clause-order
+returns-in-None-clause-order c = c.in-None.ensures.number c.args.table.now run_cycles

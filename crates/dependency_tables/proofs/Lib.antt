@@ -1,0 +1,3 @@
+pub mod FindingLemmas
+pub mod PlaceLemmas
+pub mod TableLemmas

@@ -1,0 +1,20 @@
+// The levels that are kept.
+ghost use Rattle.std.specs.Prelude.{◌≡◌, map};
+ghost use Rattle.soar_wm.specs.WorkingMemory.{triple_of};
+ghost use Rattle.firing_records.specs.Levels.{TellsLevels};
+ghost use Rattle.wave_parts.specs.Seen.{IsSound};
+
+use crate::agent::Agent;
+use defs_match::Matcher;
+use kept_triples::Kept;
+
+impl<M: Matcher> Agent<M> {
+    /// The levels of what the goals reach over working memory, as they are kept from step to step (Soar manual, chapter 2,
+    /// substates and levels).
+    pub fn levels(&self) -> &Kept
+        ensures kept { result.now ≡ self.now.parts.kept }
+        ensures told { IsSound self.now.parts → TellsLevels result.now self.now.parts.goals (map triple_of self.now.parts.memory.elements) }
+    {
+        &self.engine.parts.kept
+    }
+}
