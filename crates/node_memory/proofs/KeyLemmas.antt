@@ -1,7 +1,6 @@
 -- Keys of an identifier stand next to each other.
 use Rattle.std.proofs.Common.{◌≡◌, refl, sym, ap, ap₂, ◌∙◌, Bool, true, false, ◌&&◌, not, ℕ, zero, suc, List, filter, Option, Some, None, ◌⊎◌, inl, inr, arith}
 use Rattle.std.specs.Ordering.{nat_cmp, is_le, is_eq, ordering_then, ordering_reverse}
-use Rattle.std.specs.Option.{option_cmp}
 use Rattle.std.specs.declared.cmp.Ordering.{Ordering}
 use Rattle.std.specs.declared.cmp.Ordering.TheVariants.{Less, Equal, Greater}
 use Rattle.std.specs.Cmp.{IsTotalOrder, tied_itself, nat_cmp_is}
@@ -10,12 +9,13 @@ use Rattle.std.specs.List.Sorted.{IsStrictlySortedBy}
 use Rattle.std.proofs.lemmas.Bool.{and_parts}
 use Rattle.soar_sym.specs.Equality.{symbol_eq}
 use Rattle.soar_sym.specs.declared.symbol.Sym.{Sym}
+use Rattle.soar_sym.specs.declared.symbol.Sym.TheVariants.{Ident, Word, Int}
 use Rattle.soar_sym.specs.contracts.symbol.SymOrd.TheImpl as ord
 use Rattle.soar_sym.specs.contracts.symbol.SymOrd.TheImpl.Laws as laws
 use Rattle.soar_sym.proofs.KeyLemmas.{symbol_same, symbol_derived}
-use Rattle.soar_wm.specs.declared.element.Element.{Element}
 use Rattle.node_memory.specs.declared.index.ElementKey.{ElementKey}
-use Rattle.node_memory.specs.Keys.{key_cmp, is_other, value_beside, key_meets, least_key, entries_from}
+use Rattle.node_memory.specs.declared.index.Marks.{Marks}
+use Rattle.node_memory.specs.Keys.{key_cmp, is_other, value_beside, key_meets, or_least, least_key, entries_from}
 use Rattle.node_memory.specs.Runs.{front_while}
 use Rattle.node_memory.proofs.RunLemmas.{run_is_filter}
 
@@ -74,29 +74,36 @@ told : (b : Bool) → not b ≡ false → b ≡ true
 told true h = refl
 told false h = absurd (cc)
 
+both_le : (o q : Ordering) → is_le o ≡ true → is_le q ≡ true → is_le (ordering_then o q) ≡ true
+both_le Less q h low = refl
+both_le Equal q h low = low
+both_le Greater q h low = absurd (cc)
+
+-- no symbol is below the least
+least_le : (b : Sym) → is_le (sym_cmp (Ident 0 0) b) ≡ true
+least_le (Ident letter number) = both_le (nat_cmp 0 letter) (nat_cmp 0 number) (zero_below letter) (zero_below number)
+least_le (Word word) = refl
+least_le (Int value) = refl
+
 -- a field that is not another is not below the one that is asked for
-field_starts : (a b : Option Sym) (o : Ordering) → is_other a b ≡ false → is_le o ≡ true → is_le (ordering_then (option_cmp sym_cmp a b) o) ≡ true
-field_starts None None o h low = low
-field_starts None (Some s) o h low = refl
-field_starts (Some a) None o h low = absurd (cc)
-field_starts (Some a) (Some b) o h low = ap is_le (at_same a b o (told (symbol_eq a b) h)) ∙ low
+field_starts : (a : Option Sym) (b : Sym) (o : Ordering) → is_other a (Some b) ≡ false → is_le o ≡ true → is_le (ordering_then (sym_cmp (or_least a) b) o) ≡ true
+field_starts None b o h low = both_le (sym_cmp (Ident 0 0) b) o (least_le b) low
+field_starts (Some a) b o h low = ap is_le (at_same a b o (told (symbol_eq a b) h)) ∙ low
 
 -- a key that meets is not below the least
 starts : (id : Sym) (attr value : Option Sym) (k : ElementKey) → key_meets id attr value k ≡ true → is_le (key_cmp (least_key id attr value) k) ≡ true
 starts id attr value k h =
     let p = and_parts (symbol_eq id k.id) _ h in
-    let q = and_parts (not (is_other attr k.attr)) (not (is_other value k.value)) p.1 in
-    ap is_le (at_same id k.id (ordering_then (option_cmp sym_cmp attr k.attr) (ordering_then (option_cmp sym_cmp value k.value) (nat_cmp 0 k.tag))) p.0)
-    ∙ field_starts attr k.attr _ (not_not (is_other attr k.attr) q.0) (field_starts value k.value (nat_cmp 0 k.tag) (not_not (is_other value k.value) q.1) (zero_below k.tag))
+    let q = and_parts (not (is_other attr (Some k.attr))) (not (is_other value (Some k.value))) p.1 in
+    ap is_le (at_same id k.id (ordering_then (sym_cmp (or_least attr) k.attr) (ordering_then (sym_cmp (or_least value) k.value) (nat_cmp 0 k.tag))) p.0)
+    ∙ field_starts attr k.attr _ (not_not (is_other attr (Some k.attr)) q.0) (field_starts value k.value (nat_cmp 0 k.tag) (not_not (is_other value (Some k.value)) q.1) (zero_below k.tag))
 
 -- what lies between fields that are asked for is one of them
-field_between : (a : Sym) (b c : Option Sym) (o q : Ordering) → is_other (Some a) c ≡ false → is_le (ordering_then (option_cmp sym_cmp (Some a) b) o) ≡ true → ordering_then (option_cmp sym_cmp b c) q ≡ Less
-    → (is_other (Some a) b ≡ false) × (is_le o ≡ true) × (q ≡ Less)
-field_between a None c o q other low high = absurd (cc)
-field_between a (Some b) None o q other low high = absurd (cc)
-field_between a (Some b) (Some c) o q other low high = (let s = squeezed a b c o q (told (symbol_eq a c) other) low high in (ap not s.0, s.1, s.2))
+field_between : (a b c : Sym) (o q : Ordering) → is_other (Some a) (Some c) ≡ false → is_le (ordering_then (sym_cmp a b) o) ≡ true → ordering_then (sym_cmp b c) q ≡ Less
+    → (is_other (Some a) (Some b) ≡ false) × (is_le o ≡ true) × (q ≡ Less)
+field_between a b c o q other low high = (let s = squeezed a b c o q (told (symbol_eq a c) other) low high in (ap not s.0, s.1, s.2))
 
-field_no_gap : (a b c : Option Sym) (o q : Ordering) → is_other a c ≡ false → is_le (ordering_then (option_cmp sym_cmp a b) o) ≡ true → ordering_then (option_cmp sym_cmp b c) q ≡ Less → is_other a b ≡ false
+field_no_gap : (a : Option Sym) (b c : Sym) (o q : Ordering) → is_other a (Some c) ≡ false → is_le (ordering_then (sym_cmp (or_least a) b) o) ≡ true → ordering_then (sym_cmp b c) q ≡ Less → is_other a (Some b) ≡ false
 field_no_gap None b c o q other low high = refl
 field_no_gap (Some a) b c o q other low high = (field_between a b c o q other low high).0
 
@@ -107,18 +114,18 @@ no_gap id attr value h k low high meets =
     let s = squeezed id h.id k.id _ _ p.0 low high in
     ap₂ (λ x y. x && y) s.0 (by attr p.1 s.1 s.2)
   where
-    by : (a : Option Sym) → (not (is_other a k.attr) && not (is_other (value_beside a value) k.value)) ≡ true
-        → is_le (ordering_then (option_cmp sym_cmp a h.attr) (ordering_then (option_cmp sym_cmp (value_beside a value) h.value) (nat_cmp 0 h.tag))) ≡ true
-        → ordering_then (option_cmp sym_cmp h.attr k.attr) (ordering_then (option_cmp sym_cmp h.value k.value) (nat_cmp h.tag k.tag)) ≡ Less
-        → (not (is_other a h.attr) && not (is_other (value_beside a value) h.value)) ≡ true
+    by : (a : Option Sym) → (not (is_other a (Some k.attr)) && not (is_other (value_beside a value) (Some k.value))) ≡ true
+        → is_le (ordering_then (sym_cmp (or_least a) h.attr) (ordering_then (sym_cmp (or_least (value_beside a value)) h.value) (nat_cmp 0 h.tag))) ≡ true
+        → ordering_then (sym_cmp h.attr k.attr) (ordering_then (sym_cmp h.value k.value) (nat_cmp h.tag k.tag)) ≡ Less
+        → (not (is_other a (Some h.attr)) && not (is_other (value_beside a value) (Some h.value))) ≡ true
     by None both low high = refl
     by (Some a) both low high =
-        let q = and_parts (not (is_other (Some a) k.attr)) (not (is_other value k.value)) both in
-        let f = field_between a h.attr k.attr _ _ (not_not (is_other (Some a) k.attr) q.0) low high in
-        ap₂ (λ x y. not x && not y) f.0 (field_no_gap value h.value k.value _ _ (not_not (is_other value k.value) q.1) f.1 f.2)
+        let q = and_parts (not (is_other (Some a) (Some k.attr))) (not (is_other value (Some k.value))) both in
+        let f = field_between a h.attr k.attr _ _ (not_not (is_other (Some a) (Some k.attr)) q.0) low high in
+        ap₂ (λ x y. not x && not y) f.0 (field_no_gap value h.value k.value _ _ (not_not (is_other value (Some k.value)) q.1) f.1 f.2)
 
 -- the walk finds exactly the entries that meet
-pub run_of_id : (id : Sym) (attr value : Option Sym) (es : List (ElementKey × Element)) → IsStrictlySortedBy key_cmp (keys_of es)
-    → front_while (λ (e : ElementKey × Element). key_meets id attr (value_beside attr value) e.0) (entries_from (least_key id attr (value_beside attr value)) es)
-    ≡ filter (λ (e : ElementKey × Element). key_meets id attr (value_beside attr value) e.0) es
+pub run_of_id : (id : Sym) (attr value : Option Sym) (es : List (ElementKey × Marks)) → IsStrictlySortedBy key_cmp (keys_of es)
+    → front_while (λ (e : ElementKey × Marks). key_meets id attr (value_beside attr value) e.0) (entries_from (least_key id attr (value_beside attr value)) es)
+    ≡ filter (λ (e : ElementKey × Marks). key_meets id attr (value_beside attr value) e.0) es
 run_of_id id attr value es s = run_is_filter key_cmp (least_key id attr (value_beside attr value)) (key_meets id attr (value_beside attr value)) es (starts id attr (value_beside attr value)) (no_gap id attr value) s

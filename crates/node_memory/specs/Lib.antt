@@ -1,7 +1,7 @@
 pub mod Changes
+pub mod Entries
 pub mod Held
 pub mod Keys
 pub mod Memories
-pub mod OwnKeys
 pub mod Runs
 pub mod Symbols

@@ -1,7 +1,6 @@
 -- What the memory of a node holds.
 use Rattle.std.specs.Prelude.{◌≡◌, ◌↔◌, filter, unwrap_or, if◌then◌else◌, ℕ, Bool, List, [], ◌∷◌, map, Option, Some, None}
 use Rattle.std.specs.Ordering.{nat_cmp, is_le, is_eq}
-use Rattle.node_memory.specs.Changes.{below}
 use Rattle.std.specs.Cmp.Lexicographic.{slice_cmp}
 use Rattle.defs_match.specs.Laws.{IsIn}
 use Rattle.defs_match.specs.Rows.{Row}

@@ -1,12 +1,12 @@
 // The elements of working memory by identifier, attribute and value.
-ghost use Rattle.std.specs.Prelude.{◌≡◌, ◌↔◌, ◌⊎◌, ◌≢◌, [], false, filter, OnOk, OnErr, IfOk};
+ghost use Rattle.std.specs.Prelude.{◌≡◌, ◌↔◌, ◌⊎◌, ◌≢◌, [], false, Some, filter, OnOk, OnErr, IfOk};
 ghost use Rattle.std.specs.List.{list_any};
 ghost use Rattle.soar_wm.specs.WorkingMemory.{has_tag};
 ghost use Rattle.std.specs.BTreeMap.{IsOrdered};
-ghost use Rattle.std.specs.Map.{values_of};
 ghost use Rattle.defs_match.specs.Laws.{IsIn};
 ghost use Rattle.soar_wm.specs.declared.element.Element.{Element as ElementOf};
-ghost use Rattle.node_memory.specs.Keys.{key_cmp, key_of, is_other, value_beside, meets, key_meets, entries_from, least_key};
+ghost use Rattle.node_memory.specs.Entries.{marks_of, element_at, elements_in};
+ghost use Rattle.node_memory.specs.Keys.{key_cmp, key_of, is_other, value_beside, meets, key_meets, entries_from, or_least, least_key};
 ghost use Rattle.node_memory.specs.Runs.{front_while};
 
 use soar_sym::{NoMemory, Sym, is_symbol};
@@ -15,34 +15,37 @@ use std::alloc::Global;
 use std::collections::BTreeMap;
 use std::marker::Model;
 
-/// The key of an element: by identifier, then attribute, then value, then tag. A key without an attribute is before all of its
-/// identifier, and one without a value before all of its attribute.
+/// The key of an element: by identifier, then attribute, then value, then tag.
 #[derive(Clone, Copy, PartialEq, Eq, PartialOrd, Ord)]
 pub struct ElementKey {
     pub id: Sym,
-    pub attr: Option<Sym>,
-    pub value: Option<Sym>,
+    pub attr: Sym,
+    pub value: Sym,
     pub tag: u32,
+}
+
+/// What an element has beside its key: whether it is marked as an acceptable operator, and whether its identifier is a state.
+#[derive(Clone, Copy)]
+pub struct Marks {
+    pub accept: bool,
+    pub of_state: bool,
 }
 
 /// The elements of working memory by identifier, attribute and value. What one change costs grows with the logarithm of their number,
 /// and what a look-up costs with that and what it finds.
 #[derive(Drop)]
 pub struct ElementIndex {
-    by_key: BTreeMap<ElementKey, Element>,
+    by_key: BTreeMap<ElementKey, Marks>,
 }
 
 impl Model for ElementIndex {
     ghost use Rattle.std.specs.Prelude.{List as ListOf};
-    ghost use Rattle.std.specs.Map.{values_of};
     ghost use Rattle.soar_wm.specs.declared.element.Element.{Element as ElementOf};
-    ghost use Rattle.node_memory.specs.OwnKeys.{OwnKeys};
+    ghost use Rattle.node_memory.specs.Entries.{elements_in};
 
     ghost Value = { ListOf ElementOf };
 
-    ghost view = { λ a. values_of a.by_key.entries };
-
-    ghost invariant = { λ a. OwnKeys a.by_key.entries };
+    ghost view = { λ a. elements_in a.by_key.entries };
 }
 
 /// The key of an element.
@@ -51,19 +54,43 @@ fn key_of(e: &Element) -> ElementKey
 {
     ElementKey {
         id: e.id,
-        attr: Some(e.attr),
-        value: Some(e.value),
+        attr: e.attr,
+        value: e.value,
         tag: e.tag,
     }
 }
 
+/// What an element has beside its key.
+fn marks_of(e: &Element) -> Marks
+    ensures { result ≡ marks_of e.now }
+{
+    Marks {
+        accept: e.accept,
+        of_state: e.of_state,
+    }
+}
+
+/// The element of a key.
+fn element_at(key: &ElementKey, marks: &Marks) -> Element
+    ensures { result ≡ element_at (key.now, marks.now) }
+{
+    Element {
+        tag: key.tag,
+        id: key.id,
+        attr: key.attr,
+        value: key.value,
+        accept: marks.accept,
+        of_state: marks.of_state,
+    }
+}
+
 /// Copies of the elements of a map.
-fn copy_all(alloc: Global, by_key: &BTreeMap<ElementKey, Element>) -> Result<Vec<Element>, NoMemory>
-    ensures { IfOk result (λ v. v.items ≡ values_of by_key.now.entries) }
+fn copy_all(alloc: Global, by_key: &BTreeMap<ElementKey, Marks>) -> Result<Vec<Element>, NoMemory>
+    ensures { IfOk result (λ v. v.items ≡ elements_in by_key.now.entries) }
 {
     let mut out = Vec::new(alloc);
-    'elements: for element in by_key.values() {
-        out.push(*element)?;
+    'elements: for (key, marks) in by_key.iter() {
+        out.push(element_at(key, marks))?;
     }
     Ok(out)
 }
@@ -105,7 +132,7 @@ impl ElementIndex {
         ensures ok { OnOk result ((x : ElementOf) → IsIn x self.new ↔ ((e ≡ x) ⊎ IsIn x self.old)) }
         ensures err { OnErr result (self.new ≡ self.old) }
     {
-        self.by_key.insert(key_of(&e), e)?;
+        self.by_key.insert(key_of(&e), marks_of(&e))?;
         Ok(())
     }
 
@@ -120,13 +147,37 @@ impl ElementIndex {
 }
 
 /// Whether a symbol is asked for, and another.
-fn is_other(asked: Option<Sym>, symbol: Option<Sym>) -> bool
-    ensures { result ≡ is_other asked symbol }
+fn is_other(asked: Option<Sym>, symbol: Sym) -> bool
+    ensures { result ≡ is_other asked (Some symbol) }
 {
-    match (asked, symbol) {
-        (None, _) => false,
-        (Some(_), None) => true,
-        (Some(asked), Some(symbol)) => !is_symbol(asked, symbol),
+    match asked {
+        None => false,
+        Some(asked) => !is_symbol(asked, symbol),
+    }
+}
+
+/// The symbol that is asked for, or the least of all.
+fn or_least(asked: Option<Sym>) -> Sym
+    ensures { result ≡ or_least asked }
+{
+    match asked {
+        None => Sym::Ident {
+            letter: 0,
+            number: 0,
+        },
+        Some(asked) => asked,
+    }
+}
+
+/// The least key of an identifier, and of an attribute and of a value where they are asked for.
+fn least_key(id: Sym, attr: Option<Sym>, value: Option<Sym>) -> ElementKey
+    ensures { result ≡ least_key id attr value }
+{
+    ElementKey {
+        id,
+        attr: or_least(attr),
+        value: or_least(value),
+        tag: 0,
     }
 }
 
@@ -150,27 +201,22 @@ fn key_meets(key: &ElementKey, id: Sym, attr: Option<Sym>, value: Option<Sym>) -
 /// The elements of the keys that are not below the least, up to the first that does not meet.
 fn run_of(
     alloc: Global,
-    by_key: &BTreeMap<ElementKey, Element>,
+    by_key: &BTreeMap<ElementKey, Marks>,
     id: Sym,
     attr: Option<Sym>,
     value: Option<Sym>,
 ) -> Result<Vec<Element>, NoMemory>
-    ensures run { IfOk result (λ v. v.items ≡ values_of (front_while (λ e. key_meets id attr value e.0) (entries_from (least_key id attr value) by_key.now.entries))) }
+    ensures run { IfOk result (λ v. v.items ≡ elements_in (front_while (λ e. key_meets id attr value e.0) (entries_from (least_key id attr value) by_key.now.entries))) }
     ensures ordered { OnOk result (IsOrdered key_cmp by_key.now) }
 {
     let _count = by_key.len();
     let mut out = Vec::new(alloc);
-    let least = ElementKey {
-        id,
-        attr,
-        value,
-        tag: 0,
-    };
-    'run: for (key, element) in by_key.range(least..) {
+    let least = least_key(id, attr, value);
+    'run: for (key, marks) in by_key.range(least..) {
         if !key_meets(key, id, attr, value) {
             break 'run;
         }
-        out.push(*element)?;
+        out.push(element_at(key, marks))?;
     }
     Ok(out)
 }

@@ -6,7 +6,7 @@ mod indexing;
 mod memory;
 mod symbols;
 
-pub use index::{ElementIndex, ElementKey};
+pub use index::ElementIndex;
 pub use indexing::{all_rows, index_by};
 pub use memory::{Memory, add_found, change, empty, filled, rows_with};
 pub use symbols::{Joined, SymbolIndex, SymbolKey, Symbols};

@@ -1,35 +1,36 @@
 ghost use Rattle.std.specs.Prelude.{◌≡◌, ◌==◌, ℕ, false, true, Some, OnOk, OnErr, IfOk, if◌then◌else◌};
 ghost use Rattle.std.specs.List.{list_any};
-ghost use Rattle.std.specs.HashMap as numbers_of;
 ghost use Rattle.slab.specs.Slab.{get};
 ghost use Rattle.soar_wm.specs.WorkingMemory.{IsRising, element_of, has_tag, without_tag};
 ghost use Rattle.defs_match.specs.Contents.{with_element, HasTag, Works};
 ghost use Rattle.rete_alpha.specs.Alphas.{no_patterns, asked_at, IsLive, SamePatterns, Asked, Asks, Releases, Accepts, ArePatterns};
 ghost use Rattle.rete_alpha.specs.Members.{HasMembers, SameAsked, asked_slot, IsNumberFor};
 ghost use Rattle.rete_alpha.specs.Numbers.{IsIncreasing, with_found, found_numbers};
-ghost use Rattle.rete_alpha.specs.Slots.{pattern_eq, IsSound};
+ghost use Rattle.rete_alpha.specs.Shapes.{number_at};
+ghost use Rattle.rete_alpha.specs.Slots.{IsSound};
 ghost use Rattle.rete_alpha.specs.Taking.{tags_taken, masks};
 
 use crate::elements::Elements;
 use crate::numbers::insert_number;
 use crate::pattern::{ConstPattern, all_masks, masks};
 use crate::requests::{ask_again, ask_first, release_at};
+use crate::shapes::PatternNumbers;
 use crate::slots::{Slot, forget_all, note_all};
 use slab::Slab;
 use soar_sym::{List, NoMemory};
 use soar_wm::Element;
 use std::alloc::Global;
-use std::collections::HashMap;
 use std::marker::Model;
 
 /// The memories of patterns: for each the tags of the elements that it takes.
 ///
-/// An element finds its patterns by the hashes of at most sixteen masks, however many patterns there are.
+/// An element finds its patterns by the hashes of at most sixteen masks, and of those alone in whose shape a pattern
+/// was ever asked for, however many patterns there are.
 /// Where a call was refused memory, it tells no contents any more, and each later call that can says that
 /// there is no memory.
 #[derive(Drop)]
 pub struct Alpha {
-    numbers: HashMap<ConstPattern, usize>,
+    numbers: PatternNumbers,
     slots: Slab<Slot>,
     elements: Elements,
     none: List<u32>,
@@ -52,18 +53,17 @@ impl Model for Alpha {
 /// One request more for a pattern.
 fn ask(
     alloc: Global,
-    numbers: &mut HashMap<ConstPattern, usize>,
+    numbers: &mut PatternNumbers,
     slots: &mut Slab<Slot>,
     elements: &Elements,
     p: &ConstPattern,
 ) -> Result<usize, NoMemory>
-    requires { IsSound (numbers_of.get pattern_eq numbers.old) (get slots.old) }
-    ensures number { IfOk result (λ n. IsNumberFor (numbers_of.get pattern_eq numbers.old p.now) (get slots.old) n) }
+    requires { IsSound (number_at numbers.old) (get slots.old) }
+    ensures number { IfOk result (λ n. IsNumberFor (number_at numbers.old p.now) (get slots.old) n) }
     ensures slots { IfOk result (λ n. (k : ℕ) → get slots.new k ≡ (if k == n then Some (asked_slot p.now elements.now (get slots.old k)) else get slots.old k)) }
-    ensures sound { OnOk result (IsSound (numbers_of.get pattern_eq numbers.new) (get slots.new)) }
+    ensures sound { OnOk result (IsSound (number_at numbers.new) (get slots.new)) }
 {
     if let Some(n) = numbers.get(p) {
-        let n = *n;
         ask_again(slots, n)?;
         return Ok(n);
     }
@@ -78,16 +78,16 @@ fn ask(
 
 /// Puts the number of a pattern at its place, where it has one.
 fn add_found(
-    numbers: &HashMap<ConstPattern, usize>,
+    numbers: &PatternNumbers,
     p: &ConstPattern,
     found: &mut List<usize>,
 ) -> Result<(), NoMemory>
     requires { IsIncreasing found.old }
-    ensures found { OnOk result (found.new ≡ with_found (numbers_of.get pattern_eq numbers.now p.now) found.old) }
+    ensures found { OnOk result (found.new ≡ with_found (number_at numbers.now p.now) found.old) }
     ensures rising { OnOk result (IsIncreasing found.new) }
 {
     if let Some(n) = numbers.get(p) {
-        insert_number(found, *n)?;
+        insert_number(found, n)?;
     }
     Ok(())
 }
@@ -95,10 +95,10 @@ fn add_found(
 /// The numbers of patterns that have one, in order.
 fn numbers_of(
     alloc: Global,
-    numbers: &HashMap<ConstPattern, usize>,
+    numbers: &PatternNumbers,
     patterns: &[ConstPattern],
 ) -> Result<List<usize>, NoMemory>
-    ensures { IfOk result (λ found. found ≡ found_numbers (numbers_of.get pattern_eq numbers.now) patterns.now) }
+    ensures { IfOk result (λ found. found ≡ found_numbers (number_at numbers.now) patterns.now) }
 {
     let mut found = List::new(alloc);
     'patterns: for p in patterns {
@@ -109,18 +109,18 @@ fn numbers_of(
 
 /// Takes in an element.
 fn note_element(
-    numbers: &HashMap<ConstPattern, usize>,
+    numbers: &PatternNumbers,
     slots: &mut Slab<Slot>,
     elements: &mut Elements,
     e: Element,
 ) -> Result<(), NoMemory>
-    requires sound { IsSound (numbers_of.get pattern_eq numbers.now) (get slots.old) }
+    requires sound { IsSound (number_at numbers.now) (get slots.old) }
     requires new { list_any (has_tag e.tag) elements.old ≡ false }
     requires members { HasMembers (get slots.old) elements.old }
     ensures elements { OnOk result (elements.new ≡ with_element elements.old e) }
     ensures members { OnOk result (HasMembers (get slots.new) elements.new) }
     ensures asked { OnOk result (SameAsked (get slots.old) (get slots.new)) }
-    ensures sound { OnOk result (IsSound (numbers_of.get pattern_eq numbers.now) (get slots.new)) }
+    ensures sound { OnOk result (IsSound (number_at numbers.now) (get slots.new)) }
 {
     elements.insert(e)?;
     let all = all_masks(&e);
@@ -130,18 +130,18 @@ fn note_element(
 
 /// Takes the element of a tag out.
 fn forget_element(
-    numbers: &HashMap<ConstPattern, usize>,
+    numbers: &PatternNumbers,
     slots: &mut Slab<Slot>,
     elements: &mut Elements,
     tag: u32,
 )
-    requires sound { IsSound (numbers_of.get pattern_eq numbers.now) (get slots.old) }
+    requires sound { IsSound (number_at numbers.now) (get slots.old) }
     requires there { HasTag elements.old tag }
     requires members { HasMembers (get slots.old) elements.old }
     ensures elements { elements.new ≡ without_tag tag elements.old }
     ensures members { HasMembers (get slots.new) elements.new }
     ensures asked { SameAsked (get slots.old) (get slots.new) }
-    ensures sound { IsSound (numbers_of.get pattern_eq numbers.now) (get slots.new) }
+    ensures sound { IsSound (number_at numbers.now) (get slots.new) }
 {
     let Some(e) = elements.remove(tag) else {
         unreachable!();
@@ -156,7 +156,7 @@ impl Alpha {
         ensures { IfOk result (λ a. a ≡ no_patterns) }
     {
         Ok(Alpha {
-            numbers: HashMap::new(alloc),
+            numbers: PatternNumbers::new(alloc),
             slots: Slab::new(alloc),
             elements: Elements::new(alloc),
             none: List::new(alloc),

@@ -6,6 +6,7 @@ mod elements;
 mod numbers;
 mod pattern;
 mod requests;
+mod shapes;
 mod slots;
 
 pub use alpha::Alpha;

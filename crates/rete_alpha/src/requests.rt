@@ -1,16 +1,15 @@
 // Requests for patterns: the first makes a slot, and with the last it goes.
 ghost use Rattle.std.specs.Prelude.{◌≡◌, ◌-◌, OnOk, OnErr, IfOk, ℕ, ◌==◌, if◌then◌else◌, Some, None, ◌<◌};
 ghost use Rattle.std.specs.Option.{option_map};
-ghost use Rattle.std.specs.HashMap as numbers_of;
 ghost use Rattle.slab.specs.Slab.{get};
 ghost use Rattle.rete_alpha.specs.Numbers.{IsIncreasing};
-ghost use Rattle.rete_alpha.specs.Slots.{pattern_eq, IsSound, with_requests, one_more, one_less};
+ghost use Rattle.rete_alpha.specs.Shapes.{number_at};
+ghost use Rattle.rete_alpha.specs.Slots.{IsSound, with_requests, one_more, one_less};
 
-use crate::pattern::ConstPattern;
+use crate::shapes::PatternNumbers;
 use crate::slots::Slot;
 use slab::Slab;
 use soar_sym::NoMemory;
-use std::collections::HashMap;
 
 /// Writes the count of requests of a number.
 fn set_requests(slots: &mut Slab<Slot>, n: usize, requests: u64)
@@ -38,17 +37,17 @@ pub fn ask_again(slots: &mut Slab<Slot>, n: usize) -> Result<(), NoMemory>
 
 /// The first request for a pattern, which gets a number. Want of memory changes nothing.
 pub fn ask_first(
-    numbers: &mut HashMap<ConstPattern, usize>,
+    numbers: &mut PatternNumbers,
     slots: &mut Slab<Slot>,
     slot: Slot,
 ) -> Result<usize, NoMemory>
-    requires sound { IsSound (numbers_of.get pattern_eq numbers.old) (get slots.old) }
-    requires new { numbers_of.get pattern_eq numbers.old slot.pattern ≡ None }
+    requires sound { IsSound (number_at numbers.old) (get slots.old) }
+    requires new { number_at numbers.old slot.pattern ≡ None }
     requires rising { IsIncreasing slot.members }
     ensures vacant { IfOk result (λ n. get slots.old n ≡ None) }
     ensures slots { IfOk result (λ n. (k : ℕ) → get slots.new k ≡ (if k == n then Some slot else get slots.old k)) }
     ensures err { OnErr result ((k : ℕ) → get slots.new k ≡ get slots.old k) }
-    ensures sound { IsSound (numbers_of.get pattern_eq numbers.new) (get slots.new) }
+    ensures sound { IsSound (number_at numbers.new) (get slots.new) }
 {
     let pattern = slot.pattern;
     let n = slots.insert(slot)?;
@@ -62,10 +61,10 @@ pub fn ask_first(
 }
 
 /// One request less; with the last the pattern goes.
-pub fn release_at(numbers: &mut HashMap<ConstPattern, usize>, slots: &mut Slab<Slot>, n: usize)
-    requires sound { IsSound (numbers_of.get pattern_eq numbers.old) (get slots.old) }
+pub fn release_at(numbers: &mut PatternNumbers, slots: &mut Slab<Slot>, n: usize)
+    requires sound { IsSound (number_at numbers.old) (get slots.old) }
     ensures slots { (k : ℕ) → get slots.new k ≡ (if k == n then one_less (get slots.old k) else get slots.old k) }
-    ensures sound { IsSound (numbers_of.get pattern_eq numbers.new) (get slots.new) }
+    ensures sound { IsSound (number_at numbers.new) (get slots.new) }
 {
     let Some(slot) = slots.get(n) else {
         return;

@@ -1,5 +1,5 @@
 -- Where the code stands is where the wave of the definitions stands; where the code stops, the wave notes the same limit first. One explanation.
-use Rattle.std.proofs.Common.{◌≡◌, refl, sym, ◌∙◌, ap, subst, ℕ, suc, nat_lt, Bool, List, [], ◌∷◌, ◌++◌, length, map, Option, Some, None, append_assoc, append-nil}
+use Rattle.std.proofs.Common.{◌≡◌, ◌<◌, refl, sym, ◌∙◌, ap, subst, ℕ, suc, nat_lt, arith, Bool, List, [], ◌∷◌, ◌++◌, length, map, Option, Some, None, append_assoc, append-nil}
 use Rattle.soar_sym.specs.Words.{with_text}
 use Rattle.soar_rule.specs.Productions.{ProductionOf}
 use Rattle.defs_text.specs.Numbered.{word_in}
@@ -18,7 +18,9 @@ use Rattle.learned_firings.specs.Flags.{with_flags}
 use Rattle.learned_firings.specs.NameTotals.{totals_of_name}
 use Rattle.wave_learning.specs.Course.{Course, ExplainedBy, NewRuleOf, Progress, by_outcome_of, chunk_made, course_seen, event_of, front_of, joined, joined_as, joined_fresh, justification_made, learned, name_of, named, named_as, next_if, joined_firing, noted_by, number_of, outcome_in, plain, reached, read, stopped, taught, then_on, totals_of_words, with_name, with_rule, within_limits}
 use Rattle.wave_learning.specs.Held.{AreHeld}
+use Rattle.wave_learning.specs.Rising.{AreRising}
 use Rattle.wave_learning.proofs.FlagLemmas.{held_fired, held_noted, held_supported, held_with}
+use Rattle.wave_learning.proofs.RisingLemmas.{AreWithin, rising_fired, rising_noted}
 
 abbrev pub Agrees : Progress → Wave → Type 0
 Agrees (reached c) w = (c ≡ course_seen w) × (first_passed w.totals ≡ None)
@@ -198,6 +200,31 @@ module _ (m : BeforeWave) (l : ExplainedFiring) (flags : List Bool) where
       let text = learned_name chunk_front (chunk_number w) in
       held_joined (with_name (chunk_made e o (named_form w.names.words (general_form w.names.words l.chain l.explained.depth))) (word_in (with_text w.names.words text) text)) (chunk_named w) h
 
+  -- ---- the numbers of firings rise
+
+  rising_without : (learning_event : LearningEvent) (w : Wave) → AreRising w.entries → AreRising (without_rule l learning_event w).entries
+  rising_without learning_event w h = rising_noted l.explained.number l.takes_over by_instance w.entries learning_event h
+
+  rising_joined : (r : NewRuleOf) (w : Wave) → AreRising w.entries → AreWithin w.last_firing w.entries → AreRising (with_rule_joined r w).entries
+  rising_joined r w h within =
+      let x = joined_fresh (plain m) e r w.names.words (suc w.program.last_rule) (suc w.last_firing) in
+      let above : w.last_firing < suc w.last_firing = omega arith in
+      rising_fired l.explained.number l.takes_over by_learned w.entries x w.last_firing h within above
+
+  rising_outcome : (w : Wave) (o : Outcome) → AreRising w.entries → AreWithin w.last_firing w.entries → AreRising (by_outcome m l w o).entries
+  rising_outcome w (lost tag) h within = rising_without (has_lost l.explained.number tag) w h
+  rising_outcome w (blocked b) h within = rising_without (is_blocked l.explained.number b.negation b.tag) w h
+  rising_outcome w groundless h within = rising_without (has_no_grounds l.explained.number) w h
+  rising_outcome w (reused name) h within = rising_without (reuses name l.explained.number) w h
+  rising_outcome w (justified why) h within =
+      let o = ordered_grounds w.names.words l.chain.grounds in
+      let text = learned_name justification_front (justification_number w) in
+      rising_joined (with_name (justification_made e o (named_form w.names.words (literal_form w.names.words l.chain l.explained.depth)) why) (word_in (with_text w.names.words text) text)) (justification_named w) h within
+  rising_outcome w chunked h within =
+      let o = ordered_grounds w.names.words l.chain.grounds in
+      let text = learned_name chunk_front (chunk_number w) in
+      rising_joined (with_name (chunk_made e o (named_form w.names.words (general_form w.names.words l.chain l.explained.depth))) (word_in (with_text w.names.words text) text)) (chunk_named w) h within
+
 -- ---- names that join
 
 pub read_course : (texts : List (List ℕ)) (w : Wave) → course_seen (with_names texts w) ≡ record (course_seen w) { words = words_after w.names.words texts }
@@ -238,3 +265,9 @@ module _ (m : BeforeWave) (l : ExplainedFiring) (w : Wave) where
 
   pub held_taught : AreHeld w.entries → AreHeld (after_explanation m l w).entries
   held_taught h = held_outcome m l [] named_now becomes (subst AreHeld (sym entries_named) h)
+
+  pub rising_taught : AreRising w.entries → AreWithin w.last_firing w.entries → AreRising (after_explanation m l w).entries
+  rising_taught h within =
+      let last_named : named_now.last_firing ≡ w.last_firing = ap (λ (c : Course). c.last) (read_course joining w) in
+      rising_outcome m l [] named_now becomes (subst AreRising (sym entries_named) h)
+      (subst (λ (es : List Entry). AreWithin named_now.last_firing es) (sym entries_named) (subst (λ (n : ℕ). AreWithin n w.entries) (sym last_named) within))

@@ -28,13 +28,14 @@ use Rattle.learning_laws.specs.LawfulWaves.{IsLawfulWave, explained_in}
 use Rattle.learning_laws.specs.LearningSteps.{named_wave}
 use Rattle.learning_laws.proofs.NamingLaws.{known_later}
 use Rattle.wave_learning.specs.Course.{Course, ExplainedBy, Progress, course_seen, explained_by, from_each, from_first, from_firing, from_number, moment, plain, reached, round_of, stopped, taught, teaches_in, then_on}
-use Rattle.wave_learning.specs.Found.{first_firing, or_firing}
+use Rattle.wave_learning.specs.Found.{AreTold, first_firing, or_firing}
 use Rattle.wave_learning.specs.Hands.{IsBefore}
 use Rattle.wave_learning.specs.Lawful.{ArePartsKnown, IsExplainedIn, IsLawfulCourse, MatchesAs}
+use Rattle.wave_learning.specs.Rising.{AreRising}
 use Rattle.wave_learning.proofs.Agreement.{Agrees, read_course}
 use Rattle.wave_learning.proofs.CandidateLemmas.{after_grown, candidate_still}
 use Rattle.wave_learning.proofs.LawfulFacts.{can_be_explained, elements_known, ends, goals_known, matches, parts_known}
-use Rattle.wave_learning.proofs.RoundAgreement.{after_found, agrees_number, found_in, none_next, number_goes_on}
+use Rattle.wave_learning.proofs.RoundAgreement.{after_found, agrees_number, found_in, none_next, number_goes_on, number_tells}
 
 -- ---- what is before the wave
 
@@ -113,6 +114,10 @@ module _ (s : Standing) (past : List FiringOf) (on local_negations : Bool) (c : 
 
     same_moment : plain (before_wave h.agent) ≡ m
     same_moment = moment_is s past on local_negations h.agent h.before
+
+    -- numbers tell firings
+    pub told_apart : AreTold c.entries
+    told_apart = subst (λ (d : Course). AreTold d.entries) h.course_is (number_tells h.agent h.wave h.goes_on.lawful)
 
     -- each firing can be explained
     pub explainable : (n : ℕ) (f : FiringOf) → first_firing n c.entries ≡ Some f → CanBeExplained c.words s past f
@@ -193,6 +198,9 @@ module _ (s : Standing) (past : List FiringOf) (on local_negations : Bool) (c : 
 
   depth_is : x.firing.depth ≡ e.depth
   depth_is = ap (λ (y : ExplainedBy). y.depth) (sym h.is)
+
+  pub rising_in : AreRising c.entries
+  rising_in = subst (λ (d : Course). AreRising d.entries) h.course.course_is h.course.goes_on.rising
 
   pub parts_in : ArePartsKnown c.words e.chain
   parts_in =

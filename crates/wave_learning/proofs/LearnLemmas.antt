@@ -1,5 +1,5 @@
 -- All of learning: where it begins, and what it leaves.
-use Rattle.std.proofs.Common.{◌≡◌, refl, sym, ◌∙◌, ap, ap₂, subst, ℕ, Bool, List, [], ◌∷◌, length, map, flat_map, Ok, Err}
+use Rattle.std.proofs.Common.{◌≡◌, refl, sym, ◌∙◌, ap, ap₂, subst, ℕ, Bool, true, List, [], ◌∷◌, ◌++◌, length, map, flat_map, Ok, Err}
 use Rattle.soar_sym.specs.Words.{Texts}
 use Rattle.defs_soar.specs.declared.goal.Goal.{Goal}
 use Rattle.defs_soar.specs.Agents.{Agent}
@@ -21,6 +21,7 @@ use Rattle.wave_learning.specs.Found.{number_in}
 use Rattle.wave_learning.specs.Hands.{IsAtHand, IsBefore, IsToLearn, LearnsAll, numbers_of_entries}
 use Rattle.wave_learning.specs.Held.{AreHeld}
 use Rattle.wave_learning.specs.Lawful.{GoesOn, IsLawfulCourse}
+use Rattle.wave_learning.specs.Rising.{AreRising, numbers_in, rises_from}
 use Rattle.wave_learning.specs.Seen.{Leaves, course_of}
 use Rattle.wave_learning.specs.declared.going.Going.{Going}
 use Rattle.wave_learning.specs.declared.hand.AtHand.{AtHand}
@@ -48,24 +49,35 @@ all_held (entry.Noted l ∷ entries) = all_held entries
 
 -- a wave at hand as a course
 start_is : (words : Texts) (hand : AtHand) (numbers : List ℕ) (w : Wave) → IsAtHand words hand w → w.next ≡ numbers_of_entries w → numbers ≡ numbers_of hand.entries
-    → course_seen w ≡ course_of words (record { hand = hand; next = numbers })
+    → course_seen w ≡ course_of words (record { hand = hand; next = numbers; place = 0 })
 start_is words hand numbers w at next is =
     let same_next : w.next ≡ numbers = next ∙ ap (λ (es : List EntryOf). map (λ x. x.firing.number) (all_fresh es)) at.entries_are ∙ numbers_are hand.entries ∙ sym is in
     λ i. record { words = at.words_are i; program = at.program_is i; last = at.last_is i; learned = at.learned_is i; entries = at.entries_are i; next = same_next i }
 
-goes_on : (words : Texts) (hand : AtHand) (a : Agent) (w : Wave) → IsLawfulWave a w → IsAtHand words hand w → GoesOn a w
-goes_on words hand a w k at = record { lawful = k; held = subst AreHeld (sym at.entries_are) (all_held hand.entries) }
+seen_numbers : (entries : List Entry) → numbers_in (map entry_seen entries) ≡ numbers_of entries
+seen_numbers [] = refl
+seen_numbers (e ∷ entries) = ap (λ l. number_in (entry_seen e) ++ l) (seen_numbers entries)
 
-module _ (words : Texts) (s : Standing) (past : List FiringOf) (on local_negations : Bool) (hand : AtHand) (numbers : List ℕ) (is : numbers ≡ numbers_of hand.entries) where
+goes_on : (words : Texts) (hand : AtHand) → rises_from 0 (numbers_of hand.entries) ≡ true → (a : Agent) (w : Wave) → IsLawfulWave a w → IsAtHand words hand w → GoesOn a w
+goes_on words hand rising a w k at = record {
+  lawful = k;
+  held = subst AreHeld (sym at.entries_are) (all_held hand.entries);
+  rising = subst AreRising (sym at.entries_are) (subst (λ (ns : List ℕ). rises_from 0 ns ≡ true) (sym (seen_numbers hand.entries)) rising);
+}
+
+module _ (words : Texts) (s : Standing) (past : List FiringOf) (on local_negations : Bool) (hand : AtHand) (numbers : List ℕ) (is : numbers ≡ numbers_of hand.entries) (rising : rises_from 0 numbers ≡ true) where
   abbrev start : Course
-  start = course_of words (record { hand = hand; next = numbers })
+  start = course_of words (record { hand = hand; next = numbers; place = 0 })
+
+  rise : rises_from 0 (numbers_of hand.entries) ≡ true
+  rise = subst (λ (ns : List ℕ). rises_from 0 ns ≡ true) is rising
 
   pub starts : IsToLearn words s past on local_negations hand → IsLawfulCourse s past on local_negations start
   starts h = record {
     agent = h.agent;
     wave = h.wave;
     lawful = h.lawful;
-    goes_on = goes_on words hand h.agent h.wave h.lawful_wave h.at_hand;
+    goes_on = goes_on words hand rise h.agent h.wave h.lawful_wave h.at_hand;
     before = h.before;
     course_is = start_is words hand numbers h.wave h.at_hand h.next is;
     within = h.at_hand.within;
@@ -78,7 +90,7 @@ module _ (words : Texts) (s : Standing) (past : List FiringOf) (on local_negatio
       (ap (λ (m : BeforeWave). rounds_of m (length a.holding.goals) (course_seen w)) (moment_is s past on local_negations a before)
       ∙ ap₂ (λ (goals : List Goal) (c : Course). rounds_of (moment s past on local_negations) (length goals) c) before.goals_are (start_is words hand numbers w at next is)
       ∙ q)
-      (agrees_learning a h w (goes_on words hand a w k at) at.within)
+      (agrees_learning a h w (goes_on words hand rise a w k at) at.within)
 
   pub learns_all : (new_words : Texts) (after : Going) → rounds_of (moment s past on local_negations) (length s.goals) start ≡ reached (course_of new_words after)
       → LearnsAll words s past on local_negations hand new_words (Ok after.hand)

@@ -5,11 +5,14 @@ pub mod CountLemmas
 pub mod CourseLemmas
 pub mod ExplainedLemmas
 pub mod FlagLemmas
+pub mod FoundLemmas
+pub mod HoldingLemmas
 pub mod JoinLemmas
 pub mod LawfulFacts
 pub mod LearnLemmas
 pub mod MatchLemmas
 pub mod NamedLemmas
+pub mod RisingLemmas
 pub mod RoundAgreement
 pub mod StepLemmas
 pub mod StopLemmas

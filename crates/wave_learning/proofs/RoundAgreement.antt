@@ -1,5 +1,5 @@
 -- Firings in turn, and rounds: where the code stands, and that the wave stays lawful.
-use Rattle.std.proofs.Common.{◌≡◌, refl, ℕ, zero, suc, Bool, true, false, ◌==◌, cond, inl, List, [], ◌∷◌, ◌++◌, length, map, filter, None}
+use Rattle.std.proofs.Common.{◌≡◌, ◌≤◌, refl, subst, ℕ, zero, suc, Bool, true, false, ◌==◌, cond, inl, inr, List, [], ◌∷◌, ◌++◌, length, map, filter, None}
 use Rattle.soar_rule.specs.Repeat.{repeated}
 use Rattle.defs_soar.specs.Agents.{Agent}
 use Rattle.defs_soar.specs.Laws.{IsIn}
@@ -8,25 +8,39 @@ use Rattle.defs_soar.specs.LearnedFirings.{ExplainedFiring}
 use Rattle.defs_soar.specs.LearnedRules.{after_explanation}
 use Rattle.defs_soar.specs.Limits.{first_passed}
 use Rattle.defs_soar.specs.Results.{goes_over}
-use Rattle.defs_soar.specs.WaveAtHand.{BeforeWave, Fresh, Wave, all_fresh}
+use Rattle.defs_soar.specs.WaveAtHand.{BeforeWave, Entry, Fresh, Wave, all_fresh, fired, noted}
 use Rattle.defs_soar.specs.WaveFirings.{before_wave}
 use Rattle.learning_laws.specs.LawfulAgents.{IsLawfulAgent, firings_of_agent}
 use Rattle.learning_laws.specs.LawfulWaves.{IsLawfulWave, explained_in, fresh_firings}
 use Rattle.learning_laws.proofs.ChunkJoins.{learning_steps_keep}
 use Rattle.learning_laws.proofs.Lists.{filter_within, in_mapped, in_right}
 use Rattle.wave_learning.specs.Course.{course_seen, from_each, from_first, from_firing, from_number, plain, reached, round_of, rounds_of, taught, teaches_in}
-use Rattle.wave_learning.proofs.Agreement.{Agrees, Appends, SameFlags, agrees_taught, agrees_then, appends_none, appends_taught, appends_then, held_taught, told_of}
+use Rattle.wave_learning.proofs.Agreement.{Agrees, Appends, SameFlags, agrees_taught, agrees_then, appends_none, appends_taught, appends_then, held_taught, rising_taught, told_of}
 use Rattle.wave_learning.specs.Lawful.{GoesOn}
+use Rattle.wave_learning.specs.Rising.{numbers_in}
 use Rattle.wave_learning.proofs.FlagLemmas.{flags_are}
+use Rattle.wave_learning.proofs.RisingLemmas.{AreWithin}
 
 others_same : (a : Agent) (w : Wave) (next : List ℕ) → IsLawfulWave a w → IsLawfulWave a (record w { next = next })
 others_same a w next k = record { founded = k.founded; wishes = k.wishes; counted = k.counted; later = k.later; explains = k.explains; can = k.can }
 
+there : (a : Agent) (w : Wave) (x : Fresh) → IsIn x (all_fresh w.entries) → IsIn x.firing (firings_of_agent a ++ fresh_firings w)
+there a w x i = in_right x.firing (firings_of_agent a) (fresh_firings w) (in_mapped (λ (v : Fresh). v.firing) x (all_fresh w.entries) i)
+
 pub number_tells : (a : Agent) (w : Wave) → IsLawfulWave a w → (x y : Fresh) → IsIn x (all_fresh w.entries) → IsIn y (all_fresh w.entries) → x.firing.number ≡ y.firing.number → x.firing ≡ y.firing
-number_tells a w k x y i j q = k.founded.history.numbers x.firing y.firing (there x i) (there y j) q
-  where
-    there : (z : Fresh) → IsIn z (all_fresh w.entries) → IsIn z.firing (firings_of_agent a ++ fresh_firings w)
-    there z l = in_right z.firing (firings_of_agent a) (fresh_firings w) (in_mapped (λ (v : Fresh). v.firing) z (all_fresh w.entries) l)
+number_tells a w k x y i j q = k.founded.history.numbers x.firing y.firing (there a w x i) (there a w y j) q
+
+-- no number is above the last that was given
+firing_of : (n : ℕ) (entries : List Entry) → IsIn n (numbers_in entries) → (x : Fresh) × IsIn x (all_fresh entries) × (x.firing.number ≡ n)
+firing_of n [] i = absurd i
+firing_of n (noted l ∷ entries) i = firing_of n entries i
+firing_of n (fired x ∷ entries) (inl q) = (x, inl refl, q)
+firing_of n (fired x ∷ entries) (inr i) = let found = firing_of n entries i in (found.0, inr found.1, found.2)
+
+are_within : (a : Agent) (w : Wave) → IsLawfulWave a w → AreWithin w.last_firing w.entries
+are_within a w k n i =
+    let found = firing_of n w.entries i in
+    subst (λ (number : ℕ). number ≤ w.last_firing) found.2 (k.founded.history.last_is found.0.firing (there a w found.0 found.1))
 
 module _ (a : Agent) (h : IsLawfulAgent a) where
   abbrev m : BeforeWave
@@ -55,7 +69,7 @@ module _ (a : Agent) (h : IsLawfulAgent a) where
     firing_goes_on = go (teaches_in m x.firing)
       where
         go : (b : Bool) → GoesOn a (cond b (after_explanation m l w) w)
-        go true = record { lawful = learning_steps_keep a w x h k.lawful i; held = held_taught m l w k.held }
+        go true = record { lawful = learning_steps_keep a w x h k.lawful i; held = held_taught m l w k.held; rising = rising_taught m l w k.rising (are_within a w k.lawful) }
         go false = k
 
   appends_firing : (w : Wave) (x : Fresh) → Appends w (learned_from m x.firing w)
@@ -117,7 +131,7 @@ module _ (a : Agent) (h : IsLawfulAgent a) where
   -- ---- rounds
 
   pub none_next : (w : Wave) → GoesOn a w → GoesOn a (record w { next = [] })
-  none_next w k = record { lawful = others_same a w [] k.lawful; held = k.held }
+  none_next w k = record { lawful = others_same a w [] k.lawful; held = k.held; rising = k.rising }
 
   appends_rounds : (n : ℕ) (w : Wave) → Appends w (repeated n (one_round m) w)
   appends_rounds zero w = appends_none w w refl

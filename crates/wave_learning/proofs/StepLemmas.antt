@@ -2,12 +2,14 @@
 use Rattle.std.proofs.Common.{◌≡◌, ◌<◌, refl, sym, ◌∙◌, ap, ℕ, suc, ◌+◌, List, [], ◌∷◌, length, drop, get_or, Option, Some, None, add-one, drop-cons}
 use Rattle.soar_sym.specs.Words.{Texts}
 use Rattle.defs_text.specs.Numbered.{word_in}
+use Rattle.defs_soar.specs.declared.learning.Cause.{Cause}
 use Rattle.defs_soar.specs.declared.limit.Which.{Which}
 use Rattle.defs_soar.specs.CandidateOf.{LearnedOf, learned_by, words_of_candidate}
 use Rattle.defs_soar.specs.Limits.{Total, counts_to, first_passed, or_limit, passed_by}
 use Rattle.defs_soar.specs.Outcome.{Outcome, blocked, chunked, groundless, justified, lost, reused}
 use Rattle.defs_soar.specs.WaveAtHand.{BeforeWave}
-use Rattle.wave_learning.specs.Course.{Course, ExplainedBy, NewRuleOf, by_learned_of, by_outcome_of, from_each, from_number, joined, joined_as, joining_of, learned, name_of, named, outcome_in, reached, rounds_of, round_of, stopped, taught, then_on, totals_of_words, with_name, within_limits}
+use Rattle.learned_firings.specs.NameTotals.{totals_of_name}
+use Rattle.wave_learning.specs.Course.{Course, ExplainedBy, NewRuleOf, by_learned_of, by_outcome_of, counted, from_each, from_number, front_of, joined, joined_as, joining_of, learned, name_of, named, named_as, number_of, outcome_in, reached, rounds_of, round_of, stopped, taught, then_on, totals_of_words, with_name, within_limits}
 
 -- ---- numbers in turn
 
@@ -61,6 +63,21 @@ module _ (m : BeforeWave) (e : ExplainedBy) (r : NewRuleOf) (c : Course) where
 
   pub learned_stops : (limit : Which) → named r.why c ≡ stopped limit → learned m e r c ≡ stopped limit
   learned_stops limit q = ap (λ p. then_on p (λ d. joined m e (with_name r (word_in d.words (name_of r.why c))) d)) q
+
+-- a name leaves the entries as they are
+pub named_keeps : (why : Option Cause) (c d : Course) → named why c ≡ reached d → c.entries ≡ d.entries
+named_keeps why c d q = go (first_passed (totals_of_name c.words (front_of why) (number_of why c))) q
+  where
+    same : reached (named_as why c) ≡ reached d → named_as why c ≡ d
+    same r = cc
+
+    kept : (w : Option Cause) (n : ℕ) → c.entries ≡ (counted w n c).entries
+    kept None n = refl
+    kept (Some cause) n = refl
+
+    go : (o : Option Which) → within_limits o (named_as why c) ≡ reached d → c.entries ≡ d.entries
+    go None r = kept why (number_of why c) ∙ ap (λ (x : Course). x.entries) (same r)
+    go (Some limit) r = absurd (cc)
 
 -- ---- limits
 

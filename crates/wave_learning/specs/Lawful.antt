@@ -28,11 +28,13 @@ use Rattle.learning_laws.specs.LawfulWaves.{IsLawfulWave}
 use Rattle.wave_learning.specs.Course.{Course, ExplainedBy, course_seen, explained_by, plain}
 use Rattle.wave_learning.specs.Hands.{IsBefore}
 use Rattle.wave_learning.specs.Held.{AreHeld}
+use Rattle.wave_learning.specs.Rising.{AreRising}
 
 -- a wave that learning goes on from
 pub record GoesOn (a : Agent) (w : Wave) : Type 0 where
   pub lawful : IsLawfulWave a w
   pub held : AreHeld w.entries
+  pub rising : AreRising w.entries
 
 -- some lawful wave of a lawful agent stands there
 pub record IsLawfulCourse (s : Standing) (past : List FiringOf) (on local_negations : Bool) (c : Course) : Type 0 where

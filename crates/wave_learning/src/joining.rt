@@ -8,27 +8,27 @@ ghost use Rattle.defs_soar.specs.History.{chain_seen};
 ghost use Rattle.firing_records.specs.Recorded.{standing};
 ghost use Rattle.learned_firings.specs.Flags.{with_flags};
 ghost use Rattle.soar_record.specs.Recorded.{recorded as kept_in};
-ghost use Rattle.trace_details.specs.Details.{support_of};
 ghost use Rattle.trace_details.specs.Lessons.{lesson_seen};
 ghost use Rattle.wave_entries.specs.Entries.{entry_seen};
 ghost use Rattle.defs_soar.specs.Events.{by_learned};
 ghost use Rattle.wave_learning.specs.Course.{event_of, joined, moment, next_if, with_rule};
 ghost use Rattle.wave_learning.specs.Hands.{program_seen};
 ghost use Rattle.wave_learning.specs.Lawful.{IsMatched};
+ghost use Rattle.wave_learning.specs.Rising.{AreRising};
 ghost use Rattle.wave_learning.specs.Seen.{IsJoining, Leaves, course_of, explained_seen, rule_made};
 
 use crate::going::Going;
+use crate::holding::add_entry;
 use crate::program::{LearnedRule, Program};
 use crate::rules::NewRule;
 use crate::scene::Scene;
 use defs_match::Rule;
 use defs_soar::{Cause, Chain, Firing};
 use explained_firings::Explained;
-use learned_firings::{hold_flagged, learned_entry, learned_firing, next_count};
+use learned_firings::{learned_entry, learned_firing, next_count};
 use soar_settle::Stop;
 use soar_sym::{List, NoMemory, SymTable};
 use std::alloc::{AllocError, Global};
-use std::mem::replace;
 use trace_details::{HeldBy, LearnedFiring, Lesson};
 use wave_entries::Entry;
 
@@ -52,6 +52,7 @@ pub(crate) fn join(
     requires few { length scene.now.before.now.goals.now ≤ 100 }
     requires goals { AreKnown table.now (goal_ids scene.now.before.now.goals.now) }
     requires matched { IsMatched (standing scene.now.before.now) (production_seen rule.production) rule.elements rule.binds }
+    requires rising { AreRising (map entry_seen going.old.hand.entries) }
     ensures { Leaves
         (joined (moment (standing scene.now.before.now) (kept_in scene.now.past.now) scene.now.on scene.now.local_negations) (explained_seen explained) (rule_made rule) (course_of table.now going.old))
         (course_of table.now going.new) result }
@@ -138,6 +139,7 @@ fn take_over(
     joining: Joining,
     last: u64,
 ) -> Result<(), NoMemory>
+    requires { AreRising (map entry_seen going.old.hand.entries) }
     ensures program { OnOk result (program_seen going.new.hand.program ≡ with_rule (program_seen going.old.hand.program) (rule_seen joining.rule) (chain_seen explained.chain)) }
     ensures last { OnOk result (going.new.hand.last ≡ last) }
     ensures learned { OnOk result (going.new.hand.learned ≡ going.old.hand.learned) }
@@ -159,6 +161,7 @@ fn take_over(
     add_entry(
         alloc,
         &mut going.hand.entries,
+        going.place,
         number,
         goes_over.as_slice(),
         HeldBy::Learned,
@@ -193,23 +196,5 @@ fn add_rule(program: &mut Program, rule: Rule, chain: Chain) -> Result<(), NoMem
         chain,
     })?;
     program.last_rule = number;
-    Ok(())
-}
-
-/// Adds an entry, and holds the flagged preferences of the firing of a number in this way.
-pub(crate) fn add_entry(
-    alloc: Global,
-    entries: &mut List<Entry>,
-    number: u64,
-    flags: &[bool],
-    by: HeldBy,
-    entry: Entry,
-) -> Result<(), AllocError>
-    ensures { OnOk result (map entry_seen entries.new ≡ map (with_flags number flags.now (support_of by)) (map entry_seen entries.old) ++ entry_seen entry ∷ []) }
-{
-    let all = replace(entries, List::new(alloc));
-    let mut held = hold_flagged(alloc, all, number, flags, by)?;
-    held.push(entry)?;
-    *entries = held;
     Ok(())
 }

@@ -3,7 +3,7 @@ ghost use Rattle.soar_record.specs.Recorded.{recorded as kept_in};
 ghost use Rattle.soar_fire.specs.Growth.{Grown};
 ghost use Rattle.wave_learning.specs.Hands.{IsToLearn, LearnsAll};
 
-use crate::firings::numbers_of;
+use crate::firings::rising_numbers;
 use crate::going::Going;
 use crate::hand::AtHand;
 use crate::rounds::learn_in_rounds;
@@ -36,8 +36,12 @@ pub fn learn(
     if MOST_GOALS < goals {
         return Err(Stop::NoMemory);
     }
-    let next = numbers_of(before.alloc, hand.entries.as_slice())?;
-    let mut going = Going { hand, next };
+    let next = rising_numbers(before.alloc, hand.entries.as_slice())?;
+    let mut going = Going {
+        hand,
+        next,
+        place: 0,
+    };
     let scene = Scene {
         before,
         past,

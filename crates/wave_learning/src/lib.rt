@@ -5,6 +5,7 @@ mod candidates;
 mod firings;
 mod going;
 mod hand;
+mod holding;
 mod joining;
 mod learning;
 mod named;

@@ -8,7 +8,7 @@ ghost use Rattle.wave_learning.specs.Course.{from_each, from_number, moment, rou
 ghost use Rattle.wave_learning.specs.Lawful.{IsLawfulCourse};
 ghost use Rattle.wave_learning.specs.Seen.{Leaves, TellsExplained, course_of};
 
-use crate::firings::firing_numbered;
+use crate::firings::{firing_numbered, place_from};
 use crate::going::Going;
 use crate::scene::Scene;
 use crate::teaching::learn_from;
@@ -93,6 +93,7 @@ fn learn_from_number(
         (course_of table.new going.new) result }
     ensures words { OnlyGrows table.old table.new }
 {
+    going.place = place_from(going.hand.entries.as_slice(), going.place, number);
     let found = explained_at(scene, table, going, number)?;
     match found {
         Some(explained) => learn_from(scene, table, going, explained),
@@ -111,7 +112,7 @@ fn explained_at(
     requires lawful { IsLawfulCourse (standing scene.now.before.now) (kept_in scene.now.past.now) scene.now.on scene.now.local_negations (course_of table.now going.now) }
     ensures { IfOk result (λ found. TellsExplained (standing scene.now.before.now) (kept_in scene.now.past.now) scene.now.on scene.now.local_negations number (course_of table.now going.now) found) }
 {
-    match firing_numbered(going.hand.entries.as_slice(), number) {
+    match firing_numbered(&going.hand.entries, going.place, number) {
         Some(firing) => explain(table, scene.before, scene.past, firing),
         None => Ok(None),
     }

@@ -1,5 +1,5 @@
 // Rules that are learned.
-ghost use Rattle.std.specs.Prelude.{◌≡◌, ◌≤◌, length};
+ghost use Rattle.std.specs.Prelude.{◌≡◌, ◌≤◌, length, map};
 ghost use Rattle.soar_rule.specs.Productions.{production_seen};
 ghost use Rattle.soar_rule.specs.Symbols.{AreKnown};
 ghost use Rattle.defs_soar.specs.Goals.{goal_ids};
@@ -7,7 +7,9 @@ ghost use Rattle.firing_records.specs.Recorded.{standing};
 ghost use Rattle.soar_record.specs.Recorded.{recorded as kept_in};
 ghost use Rattle.soar_fire.specs.Growth.{OnlyGrows};
 ghost use Rattle.wave_learning.specs.Course.{learned, moment};
+ghost use Rattle.wave_entries.specs.Entries.{entry_seen};
 ghost use Rattle.wave_learning.specs.Lawful.{IsMatched};
+ghost use Rattle.wave_learning.specs.Rising.{AreRising};
 ghost use Rattle.wave_learning.specs.Seen.{Leaves, course_of, explained_seen, rule_made};
 
 use crate::going::Going;
@@ -41,6 +43,7 @@ pub(crate) fn learn_rule(
     requires few { length scene.now.before.now.goals.now ≤ 100 }
     requires goals { AreKnown table.old (goal_ids scene.now.before.now.goals.now) }
     requires matched { IsMatched (standing scene.now.before.now) (production_seen rule.production) rule.elements rule.binds }
+    requires rising { AreRising (map entry_seen going.old.hand.entries) }
     ensures answer { Leaves
         (learned (moment (standing scene.now.before.now) (kept_in scene.now.past.now) scene.now.on scene.now.local_negations) (explained_seen explained) (rule_made rule) (course_of table.old going.old))
         (course_of table.new going.new) result }

@@ -1,6 +1,6 @@
 // What becomes of an explanation.
 ghost use Rattle.std.specs.Option.{option_map};
-ghost use Rattle.std.specs.Prelude.{◌≡◌, ◌≤◌, Some, length, IfOk};
+ghost use Rattle.std.specs.Prelude.{◌≡◌, ◌≤◌, Some, length, map, IfOk};
 ghost use Rattle.soar_rule.specs.Symbols.{AreKnown};
 ghost use Rattle.soar_sym.specs.Words.{Texts};
 ghost use Rattle.condition_order.specs.Orders.{AreElementsKnown};
@@ -12,14 +12,16 @@ ghost use Rattle.firing_records.specs.Recorded.{standing};
 ghost use Rattle.soar_record.specs.Recorded.{recorded as kept_in};
 ghost use Rattle.soar_fire.specs.Growth.{OnlyGrows};
 ghost use Rattle.trace_details.specs.Lessons.{lesson_seen};
+ghost use Rattle.wave_entries.specs.Entries.{entry_seen};
 ghost use Rattle.wave_learning.specs.Course.{by_learned_of, chunk_made, justification_made, moment, noted_by, reached, taught};
 ghost use Rattle.wave_learning.specs.Lawful.{IsExplainedIn, MatchesAs};
+ghost use Rattle.wave_learning.specs.Rising.{AreRising};
 ghost use Rattle.wave_learning.specs.Seen.{Leaves, course_of, explained_seen, rule_made};
 ghost use Rattle.soar_rule.specs.Productions.{production_seen};
 
 use crate::candidates::candidate_of;
 use crate::going::Going;
-use crate::joining::add_entry;
+use crate::holding::add_entry;
 use crate::rules::{NewRule, learn_rule};
 use crate::scene::Scene;
 use chunk_learn::outcome;
@@ -80,6 +82,7 @@ fn take_in(
     requires goals { AreKnown table.old (goal_ids scene.now.before.now.goals.now) }
     requires grounds { AreElementsKnown table.old explained.chain.grounds }
     requires matches { MatchesAs (standing scene.now.before.now) table.old (chain_seen explained.chain) (learned_seen learned) }
+    requires rising { AreRising (map entry_seen going.old.hand.entries) }
     ensures answer { Leaves
         (by_learned_of (moment (standing scene.now.before.now) (kept_in scene.now.past.now) scene.now.on scene.now.local_negations) (explained_seen explained) (course_of table.old going.old) (learned_seen learned))
         (course_of table.new going.new) result }
@@ -136,6 +139,7 @@ fn learn_chunk(
     requires goals { AreKnown table.old (goal_ids scene.now.before.now.goals.now) }
     requires grounds { AreElementsKnown table.old explained.chain.grounds }
     requires matches { MatchesAs (standing scene.now.before.now) table.old (chain_seen explained.chain) (as_chunk (production_seen production)) }
+    requires rising { AreRising (map entry_seen going.old.hand.entries) }
     ensures answer { Leaves
         (by_learned_of (moment (standing scene.now.before.now) (kept_in scene.now.past.now) scene.now.on scene.now.local_negations) (explained_seen explained) (course_of table.old going.old) (as_chunk (production_seen production)))
         (course_of table.new going.new) result }
@@ -159,6 +163,7 @@ fn learn_justified(
     requires goals { AreKnown table.old (goal_ids scene.now.before.now.goals.now) }
     requires grounds { AreElementsKnown table.old explained.chain.grounds }
     requires matches { MatchesAs (standing scene.now.before.now) table.old (chain_seen explained.chain) (as_justified (option_map production_seen found) why) }
+    requires rising { AreRising (map entry_seen going.old.hand.entries) }
     ensures answer { Leaves
         (by_learned_of (moment (standing scene.now.before.now) (kept_in scene.now.past.now) scene.now.on scene.now.local_negations) (explained_seen explained) (course_of table.old going.old) (as_justified (option_map production_seen found) why))
         (course_of table.new going.new) result }
@@ -188,6 +193,7 @@ fn justify(
     requires goals { AreKnown table.old (goal_ids scene.now.before.now.goals.now) }
     requires grounds { AreElementsKnown table.old explained.chain.grounds }
     requires matches { MatchesAs (standing scene.now.before.now) table.old (chain_seen explained.chain) (as_justified (Some (production_seen production)) why) }
+    requires rising { AreRising (map entry_seen going.old.hand.entries) }
     ensures answer { Leaves
         (by_learned_of (moment (standing scene.now.before.now) (kept_in scene.now.past.now) scene.now.on scene.now.local_negations) (explained_seen explained) (course_of table.old going.old) (as_justified (Some (production_seen production)) why))
         (course_of table.new going.new) result }
@@ -199,11 +205,13 @@ fn justify(
 
 /// Notes what became of an explanation without a rule. Its results stay with their firing, and have instance support.
 fn note(alloc: Global, going: &mut Going, explained: &Explained, lesson: Lesson) -> Result<(), Stop>
+    requires { AreRising (map entry_seen going.old.hand.entries) }
     ensures { (words : Texts) → Leaves (reached (noted_by (explained_seen explained.now) (lesson_seen lesson) (course_of words going.old))) (course_of words going.new) result }
 {
     add_entry(
         alloc,
         &mut going.hand.entries,
+        going.place,
         explained.number,
         explained.goes_over.as_slice(),
         HeldBy::Instance,

@@ -1,4 +1,4 @@
-use Rattle.std.proofs.Common.{◌↔◌, sym, subst, List, ℕ}
+use Rattle.std.proofs.Common.{◌↔◌, sym, subst, List}
 use Rattle.std.specs.Ordering.{nat_cmp}
 use Rattle.std.specs.Cmp.Lexicographic.{slice_cmp}
 use Rattle.std.specs.BTreeMap.{get}

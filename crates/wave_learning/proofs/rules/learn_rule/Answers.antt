@@ -1,11 +1,13 @@
+use Rattle.std.proofs.Common.{subst}
 use Rattle.std.proofs.lemmas.Result.{err_from_is_err_and}
 use Rattle.defs_soar.specs.Goals.{goal_ids}
 use Rattle.firing_records.specs.Recorded.{standing}
 use Rattle.soar_record.specs.Recorded.{recorded as kept_in}
 use Rattle.wave_learning.specs.Course.{learned, moment}
+use Rattle.wave_learning.specs.Rising.{AreRising}
 use Rattle.wave_learning.specs.Seen.{course_of, explained_seen, rule_made}
 use Rattle.wave_learning.proofs.ExplainedLemmas.{known_grown, leaves_same, named_matched}
-use Rattle.wave_learning.proofs.StepLemmas.{learned_on}
+use Rattle.wave_learning.proofs.StepLemmas.{learned_on, named_keeps}
 use Rattle.wave_learning.proofs.StopLemmas.{learned_ends}
 use Rattle.wave_learning.proofs.rules.learn_rule.Goals as goal
 
@@ -14,6 +16,11 @@ join-requires-clause-goals c = known_grown c.args.table.now c.named.new.table (g
 
 pub join-requires-clause-matched : goal.join-requires-clause-matched
 join-requires-clause-matched c = named_matched (standing c.args.scene.now.before.now) c.args.rule c.in_ok-rule.rule _ c.in_ok-rule.ensures.answer.1 c.requires.matched
+
+pub join-requires-clause-rising : goal.join-requires-clause-rising
+join-requires-clause-rising c =
+    let now = course_of c.args.table.now c.args.going.now in
+    subst AreRising (named_keeps (rule_made c.args.rule).why now _ c.in_ok-rule.ensures.answer.0) c.requires.rising
 
 pub returns-clause-answer : goal.returns-clause-answer
 returns-clause-answer c =

@@ -11,7 +11,7 @@ use Rattle.wave_learning.specs.Course.{moment, outcome_in, taught}
 use Rattle.wave_learning.specs.Lawful.{MatchesAs}
 use Rattle.wave_learning.specs.Seen.{course_of, explained_seen}
 use Rattle.wave_learning.proofs.CandidateLemmas.{after_grown}
-use Rattle.wave_learning.proofs.CourseLemmas.{candidate_in, depth_in, goals_in, grounds_in, matches_in, parts_in}
+use Rattle.wave_learning.proofs.CourseLemmas.{candidate_in, depth_in, goals_in, grounds_in, matches_in, parts_in, rising_in}
 use Rattle.wave_learning.proofs.ExplainedLemmas.{known_grown, leaves_same}
 use Rattle.wave_learning.proofs.StepLemmas.{taught_on}
 use Rattle.wave_learning.proofs.StopLemmas.{taught_ends}
@@ -38,6 +38,11 @@ take_in-requires-clause-grounds c =
     let sc = c.args.scene.now in
     grounds_in (standing sc.before.now) (kept_in sc.past.now) sc.on sc.local_negations (course_of c.args.table.now c.args.going.now) (explained_seen c.args.explained) c.requires.explained
     c.candidate_of.new.table c.in_ok-candidate.ensures.answer.1
+
+pub take_in-requires-clause-rising : goal.take_in-requires-clause-rising
+take_in-requires-clause-rising c =
+    let sc = c.args.scene.now in
+    rising_in (standing sc.before.now) (kept_in sc.past.now) sc.on sc.local_negations (course_of c.args.table.now c.args.going.now) (explained_seen c.args.explained) c.requires.explained
 
 pub take_in-requires-clause-matches : goal.take_in-requires-clause-matches
 take_in-requires-clause-matches c =

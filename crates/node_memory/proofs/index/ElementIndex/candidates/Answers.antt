@@ -1,5 +1,5 @@
 use Rattle.std.proofs.Common.{◌∙◌, ap, filter, Result, Ok, Err, IfOk}
-use Rattle.std.specs.Map.{values_of}
+use Rattle.node_memory.specs.Entries.{elements_in}
 use Rattle.node_memory.specs.Keys.{value_beside, meets, key_meets, entries_from, least_key}
 use Rattle.node_memory.specs.Runs.{front_while}
 use Rattle.node_memory.proofs.KeyLemmas.{run_of_id}
@@ -10,7 +10,7 @@ pub returns : goal.returns
 returns c =
     let es = c.self.inside.by_key.entries in
     both (λ v run ordered.
-    run ∙ ap (λ w. values_of (front_while (λ e. key_meets c.args.id c.args.attr w e.0) (entries_from (least_key c.args.id c.args.attr w) es))) c.value_beside-value.ensures ∙ ap values_of (run_of_id c.args.id c.args.attr c.args.value es ordered) ∙ found_meets c.args.id c.args.attr (value_beside c.args.attr c.args.value) es c.self.invariant
+    run ∙ ap (λ w. elements_in (front_while (λ e. key_meets c.args.id c.args.attr w e.0) (entries_from (least_key c.args.id c.args.attr w) es))) c.value_beside-value.ensures ∙ ap elements_in (run_of_id c.args.id c.args.attr c.args.value es ordered) ∙ found_meets c.args.id c.args.attr (value_beside c.args.attr c.args.value) es
     ∙ ap (filter (meets c.args.id c.args.attr (value_beside c.args.attr c.args.value))) c.self.view_is) c.run_of.result c.run_of.ensures.run c.run_of.ensures.ordered
   where
     both : {T E : Type 0} {P Q R : T → Type 0} → ((x : T) → P x → Q x → R x) → (r : Result T E) → IfOk r P → IfOk r Q → IfOk r R
