@@ -4,14 +4,15 @@
     python3 bench/measure.py PROGRAM [--big]
 
 PROGRAM is the built program (crates/soar_app/out/soar_app). The cost of a change is the difference of two runs, with
-a block of changes and without; each run is the least of three, as processor time of the program.
+a block of changes and without; each run is the least of three, as processor time of the program. With --big there are
+also 100,000 productions and 200,000 elements, and the blocks are larger, so that less of a figure is noise.
 """
 import os
 import resource
 import subprocess
 import sys
 
-CHANGES = 1000
+CHANGES = 40_000 if "--big" in sys.argv else 1000
 
 
 def rules(count):
@@ -59,7 +60,7 @@ def main():
     print("|---|---|---|---|")
     for count in [100, 1000, 10000] + ([100000] if big else []):
         row(program, f"{count}, 1,000", rules(count) + task + elements(1000), 7 + 1000)
-    for count in [5000] + ([20000] if big else []):
+    for count in [5000] + ([200000] if big else []):
         row(program, f"100, {count}", rules(100) + task + elements(count), 7 + count)
     print(f"`--generate 2000`: {run(program, ['--generate', '2000'], ''):.2f} s")
 
