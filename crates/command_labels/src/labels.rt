@@ -1,10 +1,9 @@
-ghost use Rattle.std.specs.Prelude.{◌≡◌, ℕ, [], ◌∷◌, ◌++◌, List as ListOf, map, string_bytes, IfSome, OnOk, OnErr};
+ghost use Rattle.std.specs.Prelude.{◌≡◌, true, [], ◌∷◌, ◌++◌, None, is_some, map, IfSome, OnOk, OnErr};
 ghost use Rattle.soar_sym.specs.Words.{IsKnown, Texts};
-ghost use Rattle.defs_run.specs.Inputs.{or_else};
 ghost use Rattle.defs_run.specs.Sessions.{label_in};
-ghost use Rattle.command_labels.specs.Found.{label_seen, symbol_of, symbol_under};
+ghost use Rattle.command_labels.specs.Found.{all_of, label_seen, symbol_of, IsAdded, IsKept, IsNoted};
 
-use crate::label::Label;
+use crate::label::{Again, Label, Meant};
 use indexmap::IndexMap;
 use soar_sym::{List, NoMemory, Sym};
 use std::alloc::Global;
@@ -13,10 +12,10 @@ use std::marker::Model;
 /// The labels of commands, in the order in which they were made, found by name. Of two labels of a name the first counts.
 #[derive(Drop)]
 pub struct Labels {
-    all: List<Label>,
-    /// The symbol of the first label of each name.
-    first: IndexMap<String, Sym>,
-    alloc: Global,
+    /// What the first label of each name stands for, in the order of those labels.
+    first: IndexMap<String, Meant>,
+    /// The other labels, in their order.
+    again: List<Again>,
 }
 
 impl Model for Labels {
@@ -24,15 +23,15 @@ impl Model for Labels {
     ghost use Rattle.std.specs.Coded.{coded_list};
     ghost use Rattle.command_labels.specs.contracts.label.Label as label;
     ghost use Rattle.command_labels.specs.declared.label.Label.{Label as LabelKept};
-    ghost use Rattle.command_labels.specs.Found.{FindsFirst};
+    ghost use Rattle.command_labels.specs.Found.{all_of, IsKept};
 
     ghost Value = { ListOf LabelKept };
 
     ghost coded = { coded_list label.the_row.coded };
 
-    ghost view = { λ l. l.all };
+    ghost view = { λ l. all_of l.first.entries l.again };
 
-    ghost invariant = { λ l. FindsFirst l.all l.first.entries };
+    ghost invariant = { λ l. IsKept l.first.entries l.again };
 }
 
 impl Labels {
@@ -41,9 +40,8 @@ impl Labels {
         ensures { result ≡ [] }
     {
         Labels {
-            all: List::new(alloc),
             first: IndexMap::new(alloc),
-            alloc,
+            again: List::new(alloc),
         }
     }
 
@@ -60,34 +58,63 @@ impl Labels {
         ensures ok { OnOk result (self.new ≡ self.old ++ label ∷ []) }
         ensures err { OnErr result (self.new ≡ self.old) }
     {
-        let symbol = label.symbol;
-        let name = String::from_str(self.alloc, label.name.as_str())?;
-        self.all.push(label)?;
-        match note(&mut self.first, name, symbol) {
-            Ok(()) => Ok(()),
-            Err(_) => {
-                self.all.pop();
-                Err(NoMemory)
-            }
-        }
+        put_last(&mut self.first, &mut self.again, label)
     }
+}
+
+/// Adds a label behind all others. Where memory is refused all stays as it was.
+fn put_last(
+    first: &mut IndexMap<String, Meant>,
+    again: &mut List<Again>,
+    label: Label,
+) -> Result<(), NoMemory>
+    requires { IsKept first.old.entries again.old }
+    ensures kept { IsKept first.new.entries again.new }
+    ensures ok { OnOk result (all_of first.new.entries again.new ≡ all_of first.old.entries again.old ++ label ∷ []) }
+    ensures err { OnErr result (all_of first.new.entries again.new ≡ all_of first.old.entries again.old) }
+{
+    if found(first, label.name.as_str()).is_some() {
+        place(first, again, label)
+    } else {
+        note(first, label)
+    }
+}
+
+/// Adds a label of a name that had come before.
+fn place(
+    first: &IndexMap<String, Meant>,
+    again: &mut List<Again>,
+    label: Label,
+) -> Result<(), NoMemory>
+    requires kept { IsKept first.now.entries again.old }
+    requires known { is_some (symbol_of first.now.entries label.name) ≡ true }
+    ensures ok { OnOk result (IsAdded first.now.entries again.new (all_of first.now.entries again.old) label) }
+    ensures err { OnErr result (again.new ≡ again.old) }
+{
+    let Some(place) = first.len().checked_add(again.len()) else {
+        return Err(NoMemory);
+    };
+    again.push(Again { place, label })?;
+    Ok(())
 }
 
 /// The symbol that is noted of a name.
-fn found(first: &IndexMap<String, Sym>, name: &str) -> Option<Sym>
+fn found(first: &IndexMap<String, Meant>, name: &str) -> Option<Sym>
     ensures { result ≡ symbol_of first.now.entries name.now }
 {
-    first.get(name).copied()
+    match first.get(name) {
+        Some(meant) => Some(meant.symbol),
+        None => None,
+    }
 }
 
-/// Notes the symbol of a name, unless one is noted of it.
-fn note(first: &mut IndexMap<String, Sym>, name: String, symbol: Sym) -> Result<(), NoMemory>
-    ensures ok { OnOk result ((other : ListOf ℕ) → symbol_of first.new.entries other ≡ or_else (symbol_of first.old.entries other) (symbol_under (string_bytes name) symbol other)) }
+/// Notes a label of a name of which none is noted.
+fn note(first: &mut IndexMap<String, Meant>, label: Label) -> Result<(), NoMemory>
+    requires { symbol_of first.old.entries label.name ≡ None }
+    ensures ok { OnOk result (IsNoted first.old.entries first.new.entries label) }
     ensures err { OnErr result (first.new.entries ≡ first.old.entries) }
 {
-    if first.contains_key(name.as_str()) {
-        return Ok(());
-    }
-    first.insert(name, symbol)?;
+    let (name, meant) = label.into_parts();
+    first.insert(name, meant)?;
     Ok(())
 }

@@ -45,7 +45,7 @@ pub trait Carrier {
     /// Whether it can take a command.
     ghost ready: { Self → Type 0 };
 
-    /// Carries a command of a source out, and writes what it says; what each of its cycles says before the next begins.
+    /// Carries a command of a source out, and writes what it says.
     fn answer<O: Sink>(
         &mut self,
         alloc: Global,

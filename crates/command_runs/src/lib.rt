@@ -2,11 +2,14 @@
 #![tactic(auto)]
 
 mod carrier;
+mod course;
 mod ends;
 mod fault;
 mod files;
+mod gathered;
 mod input;
 mod opening;
+mod passing;
 mod progress;
 mod reading;
 mod step;

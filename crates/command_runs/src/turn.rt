@@ -5,6 +5,7 @@ ghost use Rattle.soar_edge.specs.declared.filed.Filed.{Filed};
 ghost use Rattle.defs_run.specs.Runs.{Run};
 ghost use Rattle.command_runs.specs.Causes.{Fetched, ShelfCause, SinkCause};
 ghost use Rattle.command_runs.specs.Following.{Comes, IsAt, inner_of};
+ghost use Rattle.command_runs.specs.Holding.{IsQuiet};
 ghost use Rattle.command_runs.specs.Turning.{IsReadyTurn, IsTurn, TakesCommand, Turns, WaitsBehind};
 
 use crate::carrier::{Carrier, Unread};
@@ -13,7 +14,8 @@ use crate::fault::Fault;
 use crate::opening::refuse;
 use crate::progress::Progress;
 use crate::step::obey_command;
-use soar_edge::{Cut, Cutter, Shelf, Sink};
+use gathered_output::Gather;
+use soar_edge::{Cut, Cutter, Shelf};
 use soar_sym::Text;
 use std::alloc::Global;
 
@@ -25,7 +27,7 @@ pub enum Turn {
 }
 
 /// Takes the next command of a source off and carries it out.
-pub fn next_turn<C: Carrier + Drop, F: Shelf, O: Sink>(
+pub fn next_turn<C: Carrier + Drop, F: Shelf, O: Gather>(
     alloc: Global,
     depth: u32,
     cutter: &mut Cutter,
@@ -50,6 +52,7 @@ pub fn next_turn<C: Carrier + Drop, F: Shelf, O: Sink>(
     ensures stock { F.files files.new ≡ F.files files.old }
     ensures shelf { ShelfCause (F.faults files.old) (F.faults files.new) result }
     ensures sink { SinkCause (O.faults out.old) (O.faults out.new) result }
+    ensures quiet { IsQuiet (O.held out.new) result }
 {
     let cut = cutter.next_command();
     match cut {

@@ -1,20 +1,17 @@
 // A whole run, and how it ends.
-ghost use Rattle.std.specs.Prelude.{◌≡◌, ◌≢◌, ◌⊎◌, ◌-◌, ◌^◌, ◌<◌, false, List as ListOf, ℕ, Option, Some, None, IfSome};
+ghost use Rattle.std.specs.Prelude.{◌≡◌, ◌≢◌, ◌⊎◌, ◌-◌, ◌^◌, ◌<◌, List as ListOf, ℕ, Some, None, IfSome};
 ghost use Rattle.soar_edge.specs.Outside.{AppendsSome, Rose};
 ghost use Rattle.soar_edge.specs.declared.filed.Filed.{Filed};
 ghost use Rattle.defs_run.specs.CommandLine.{Options};
-ghost use Rattle.defs_run.specs.Runs.{Run, then_run};
-ghost use Rattle.command_runs.specs.Answers.{Answers, EndsAtFetch, EndsAtRead, IsComplete, IsLeft, IsLeftAs, IsTranscript, LeavesBy, StopsAtRead, fault_status, told_status};
-ghost use Rattle.command_runs.specs.Causes.{Caused, Fetched};
-ghost use Rattle.command_runs.specs.Following.{Comes, IsAt, RunsWhole, status_of_end};
+ghost use Rattle.command_runs.specs.Answers.{Answers, EndsAtFetch, EndsAtRead, IsComplete, IsLeft, IsTranscript, fault_status, told_status};
+ghost use Rattle.command_runs.specs.Following.{status_of_end};
 ghost use Rattle.command_runs.specs.Lengths.{IsTooLong};
-ghost use Rattle.command_runs.specs.Whole.{IsAsked, comes_along, commands_of, files_of, front_run, input_of, is_open, whole_run, whole_transcript};
+ghost use Rattle.command_runs.specs.Whole.{IsAsked, front_run, whole_transcript};
 
 use crate::carrier::Carrier;
 use crate::ends::{End, Flow, ended_by};
 use crate::fault::{Broken, Fault};
-use crate::files::obey_files;
-use crate::input::{obey_input, obey_script};
+use crate::gathered::run_gathered;
 use crate::progress::Progress;
 use soar_edge::{Shelf, Sink, Source, Status};
 use soar_sym::Text;
@@ -70,7 +67,7 @@ pub fn run_whole<C: Carrier + Drop, I: Source, F: Shelf, O: Sink>(
         refused: false,
         fetched: 0,
     };
-    let flow = obey_whole(alloc, generate, names, &mut progress, input, files, out);
+    let flow = run_gathered(alloc, generate, names, &mut progress, input, files, out);
     status_of(flow, progress.refused)
 }
 
@@ -105,68 +102,5 @@ fn fault_status(fault: Broken) -> Status
         Broken::Run(Fault::Shelf) => Status::FileFault,
         Broken::Run(Fault::Sink) => Status::WriteFault,
         Broken::Run(Fault::NoMemory) => Status::NoMemory,
-    }
-}
-
-/// Carries out a script of so many items, or else files and then standard input.
-fn obey_whole<C: Carrier + Drop, I: Source, F: Shelf, O: Sink>(
-    alloc: Global,
-    generate: Option<u32>,
-    names: &[Text],
-    progress: &mut Progress<C>,
-    input: &mut I,
-    files: &mut F,
-    out: &mut O,
-) -> Result<Flow, Broken>
-    requires ready { C.ready progress.old.carrier }
-    requires source { I.faults input.old < 2 ^ 64 - 1 }
-    requires shelf { F.faults files.old < 2 ^ 64 - 1 }
-    requires sink { O.faults out.old < 2 ^ 64 - 1 }
-    ensures flow { IfSome (I.left input.old) (λ bytes. (stock : ListOf Filed) → F.files files.old ≡ Some stock → (fails : Option ℕ) → Comes fails progress.new.fetched → (r : Run) → IsAt (C.stands progress.old.carrier) progress.old r →
-        RunsWhole (C.stands progress.new.carrier) progress.new (O.written out.old) (O.written out.new) fails (whole_run fails stock bytes generate names.now r) result) }
-    ensures left { IfSome (I.left input.old) (λ bytes. (stock : ListOf Filed) → F.files files.old ≡ Some stock → (r : Run) → IsAt (C.stands progress.old.carrier) progress.old r →
-        LeavesBy (IsLeftAs (comes_along stock generate names.now r) (is_open (whole_run None stock bytes generate names.now r)) (λ taken. then_run (files_of None stock names.now r) (commands_of None stock false taken)) bytes (I.left input.new)) result) }
-    ensures before_read { IfSome (I.left input.old) (λ bytes. (stock : ListOf Filed) → F.files files.old ≡ Some stock → (r : Run) → IsAt (C.stands progress.old.carrier) progress.old r →
-        StopsAtRead generate (O.written out.old) (O.written out.new) bytes (I.left input.new) (λ taken. then_run (files_of None stock names.now r) (commands_of None stock false taken)) result) }
-    ensures fetched { Fetched progress.old.fetched progress.new.fetched (F.fetched files.old) (F.fetched files.new) }
-    ensures cause { Caused (record { source = I.faults input.old; shelf = F.faults files.old; sink = O.faults out.old })
-        (record { source = I.faults input.new; shelf = F.faults files.new; sink = O.faults out.new }) result }
-{
-    match generate {
-        Some(items) => match obey_script(alloc, items, progress, files, out) {
-            Ok(flow) => Ok(flow),
-            Err(fault) => Err(Broken::Run(fault)),
-        },
-        None => obey_all(alloc, names, progress, input, files, out),
-    }
-}
-
-/// Carries out the commands of files, and then those of standard input.
-fn obey_all<C: Carrier + Drop, I: Source, F: Shelf, O: Sink>(
-    alloc: Global,
-    names: &[Text],
-    progress: &mut Progress<C>,
-    input: &mut I,
-    files: &mut F,
-    out: &mut O,
-) -> Result<Flow, Broken>
-    requires ready { C.ready progress.old.carrier }
-    requires source { I.faults input.old < 2 ^ 64 - 1 }
-    requires shelf { F.faults files.old < 2 ^ 64 - 1 }
-    requires sink { O.faults out.old < 2 ^ 64 - 1 }
-    ensures flow { IfSome (I.left input.old) (λ bytes. (stock : ListOf Filed) → F.files files.old ≡ Some stock → (fails : Option ℕ) → Comes fails progress.new.fetched → (r : Run) → IsAt (C.stands progress.old.carrier) progress.old r →
-        RunsWhole (C.stands progress.new.carrier) progress.new (O.written out.old) (O.written out.new) fails (then_run (files_of fails stock names.now r) (input_of fails stock bytes)) result) }
-    ensures left { IfSome (I.left input.old) (λ bytes. (stock : ListOf Filed) → F.files files.old ≡ Some stock → (r : Run) → IsAt (C.stands progress.old.carrier) progress.old r →
-        LeavesBy (IsLeftAs (is_open (files_of None stock names.now r)) (is_open (then_run (files_of None stock names.now r) (input_of None stock bytes))) (λ taken. then_run (files_of None stock names.now r) (commands_of None stock false taken)) bytes (I.left input.new)) result) }
-    ensures before_read { IfSome (I.left input.old) (λ bytes. (stock : ListOf Filed) → F.files files.old ≡ Some stock → (r : Run) → IsAt (C.stands progress.old.carrier) progress.old r →
-        StopsAtRead None (O.written out.old) (O.written out.new) bytes (I.left input.new) (λ taken. then_run (files_of None stock names.now r) (commands_of None stock false taken)) result) }
-    ensures fetched { Fetched progress.old.fetched progress.new.fetched (F.fetched files.old) (F.fetched files.new) }
-    ensures cause { Caused (record { source = I.faults input.old; shelf = F.faults files.old; sink = O.faults out.old })
-        (record { source = I.faults input.new; shelf = F.faults files.new; sink = O.faults out.new }) result }
-{
-    match obey_files(alloc, names, progress, files, out) {
-        Ok(Flow::Goes) => obey_input(alloc, progress, input, files, out),
-        Ok(Flow::Ends(end)) => Ok(Flow::Ends(end)),
-        Err(fault) => Err(Broken::Run(fault)),
     }
 }

@@ -30,3 +30,7 @@ excises a new name dropped s stands =
 -- working memory stays
 pub elements_stay : (a new : PartsKept) (name : Sym) → AreDropped a new name → a.memory.elements ≡ new.memory.elements
 elements_stay a new name dropped = ap (λ (p : PartsKept). p.memory.elements) (sym dropped.same)
+
+-- and the live firings that were told
+pub told_stays : (a new : PartsKept) (name : Sym) → AreDropped a new name → a.live.told ≡ new.live.told
+told_stays a new name dropped = ap (λ (p : PartsKept). p.live.told) (sym dropped.same)

@@ -15,4 +15,5 @@ pub mod SoundLemmas
 pub mod SteppingLemmas
 pub mod TakingLemmas
 pub mod TellingLemmas
+pub mod ToldLemmas
 pub mod WavingLemmas

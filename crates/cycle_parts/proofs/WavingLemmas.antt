@@ -15,10 +15,10 @@ use Rattle.wave_parts.specs.declared.carrying.Done.{Done}
 use Rattle.wave_parts.specs.declared.parts.Parts.{Parts as PartsKept}
 use Rattle.pending_work.specs.declared.work.Work.{Work}
 use Rattle.wave_parts.proofs.StandsLemmas.{of_each_state, stands_at}
-use Rattle.cycle_parts.specs.Waving.{Rested, TellsWork, WavesFrom, Worked, wave_at, waved_by}
+use Rattle.cycle_parts.specs.Waving.{Rested, TellsWork, WavesFrom, Worked, wave_at, waved_by, with_told}
 use Rattle.cycle_parts.proofs.SteppingLemmas.{went_by}
 
-pub rests : (proposing : Bool) (old new : PartsKept) (mid : Bool) (text : List ℕ) → is_none (pending_of proposing old) ≡ true → new ≡ old
+pub rests : (proposing : Bool) (old new : PartsKept) (mid : Bool) (text : List ℕ) → is_none (pending_of proposing old) ≡ true → new ≡ with_told old new.live.told
     → (s : Agent) → Stands old s → Rested proposing s old new mid mid text text
 rests proposing old new mid text none same s stands = record {
   none = of_each_state (λ (t : Agent). is_none (pending proposing t) ≡ true) old (λ history remembers. none) s stands;

@@ -2,10 +2,12 @@
 use Rattle.std.specs.Prelude.{◌≡◌, Bool, false, List, map}
 use Rattle.soar_wm.specs.declared.element.Element.{Element}
 use Rattle.defs_match.specs.Rules.{RuleOf, rule_seen}
+use Rattle.live_firings.specs.declared.live.Live.{Live}
 use Rattle.wave_parts.specs.declared.parts.Parts.{Parts as PartsKept}
 
--- it works, and holds the rules and working memory
-pub record Bond (rules : List RuleOf) (elements : List Element) (failed : Bool) (a : PartsKept) : Type 0 where
+-- it works, holds the rules and working memory, and knows the live firings that were told
+pub record Bond (rules : List RuleOf) (elements : List Element) (failed : Bool) (knows : List Live → Type 0) (a : PartsKept) : Type 0 where
   pub works : failed ≡ false
   pub rules_are : rules ≡ map rule_seen a.rules
   pub elements_are : elements ≡ a.memory.elements
+  pub known : knows a.live.told

@@ -5,6 +5,7 @@ use Rattle.defs_soar.specs.Learning.{with_learning}
 use Rattle.defs_soar.specs.Pending.{pending, is_none}
 use Rattle.defs_soar.specs.Resettling.{AgentStep}
 use Rattle.defs_soar.specs.Waves.{wave_of}
+use Rattle.live_firings.specs.declared.live.Live.{Live}
 use Rattle.soar_settle.specs.declared.stop.Stop.{Stop}
 use Rattle.soar_settle.specs.declared.stop.Stop.TheVariants as stop
 use Rattle.trace_lines.specs.declared.halting.Phase.{Phase}
@@ -28,10 +29,14 @@ waved_by false = waved.Went
 abbrev pub wave_at : Bool → Agent → AgentStep
 wave_at proposing s = wave_of with_learning s (pending proposing s)
 
--- nothing was pending, and nothing changed
+-- the parts, of which these live firings were told
+abbrev pub with_told : PartsKept → List Live → PartsKept
+with_told a told = record a { live = record a.live { told = told } }
+
+-- nothing was pending, and nothing changed but what was told
 pub record Rested (proposing : Bool) (s : Agent) (old new : PartsKept) (mid new_mid : Bool) (before after : List ℕ) : Type 0 where
   pub none : is_none (pending proposing s) ≡ true
-  pub same : new ≡ old
+  pub same : new ≡ with_told old new.live.told
   pub text : after ≡ before
   pub mid_line : new_mid ≡ mid
 

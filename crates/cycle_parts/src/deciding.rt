@@ -11,12 +11,12 @@ ghost use Rattle.wave_parts.specs.Stands.{Stands};
 use crate::engine::Engine;
 use crate::telling::tell;
 use decision_parts::decide;
-use defs_match::Matcher;
+use outstanding::Outstanding;
 use soar_sym::Text;
 use std::alloc::Global;
 use wave_parts::Stop;
 
-impl<M: Matcher> Engine<M> {
+impl<M: Outstanding> Engine<M> {
     /// Decides, from the top goal down: a selected operator that is left stays, else one that is left is selected; an
     /// impasse makes a substate, unless the goal below is there for it (Soar manual, chapter 2, decision procedure).
     /// Tells whether the limit of goals halts the agent.
@@ -28,13 +28,13 @@ impl<M: Matcher> Engine<M> {
     ) -> Result<bool, Stop>
         requires sound { IsSound self.old.parts }
         requires lawful { IsOfLawful self.old.parts }
-        requires bond { Bond (M.rules self.old.matcher) (M.elements self.old.matcher) (M.failed self.old.matcher) self.old.parts }
+        requires bond { Bond (M.rules self.old.matcher) (M.elements self.old.matcher) (M.failed self.old.matcher) (M.knows self.old.matcher) self.old.parts }
         ensures step { (s : AgentOf) → Stands self.old.parts s → GoesStep self.old.parts.settings.watch mid_line.old (decided_by s) self.new.parts mid_line.new out.old out.new result }
         ensures limit { (s : AgentOf) → Stands self.old.parts s → IfOk result (λ halted. halted ≡ (decided_by s).halted) }
         ensures settings { self.new.parts.settings ≡ self.old.parts.settings }
         ensures sound { OnOk result (IsSound self.new.parts) }
         ensures lawful { OnOk result (IsOfLawful self.new.parts) }
-        ensures bond { OnOk result (Bond (M.rules self.new.matcher) (M.elements self.new.matcher) (M.failed self.new.matcher) self.new.parts) }
+        ensures bond { OnOk result (Bond (M.rules self.new.matcher) (M.elements self.new.matcher) (M.failed self.new.matcher) (M.knows self.new.matcher) self.new.parts) }
     {
         let decision = decide(alloc, &mut self.parts, out, mid_line)?;
         tell(&mut self.matcher, &decision.changes)?;

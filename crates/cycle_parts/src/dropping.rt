@@ -1,25 +1,27 @@
 // Rules that go from an agent and from its matcher, with their explanations.
-ghost use Rattle.std.specs.Prelude.{◌≡◌, false, map};
+ghost use Rattle.std.specs.Prelude.{◌≡◌, false, map, List as ListOf};
 ghost use Rattle.defs_match.specs.Contents.{HasRule, without_rule};
 ghost use Rattle.defs_match.specs.Rules.{rule_seen};
+ghost use Rattle.live_firings.specs.declared.live.Live.{Live as LiveOf};
 ghost use Rattle.cycle_parts.specs.Dropping.{AreDropped, is_of_name, unnamed, unnamed_chains};
 ghost use Rattle.pending_work.specs.Firables.{AreNumbered};
 ghost use Rattle.wave_learning.specs.Hands.{learned_rule_seen};
 
-use defs_match::Matcher;
+use outstanding::Outstanding;
 use rule_shelf::Rules;
 use soar_sym::{List, Sym, is_symbol};
 use wave_learning::LearnedRule;
 use wave_parts::Parts;
 
 /// Takes the rules of a name away, and their explanations.
-pub fn drop_named<M: Matcher>(parts: &mut Parts, matcher: &mut M, name: Sym)
+pub fn drop_named<M: Outstanding>(parts: &mut Parts, matcher: &mut M, name: Sym)
     requires works { M.failed matcher.old ≡ false }
     requires held { M.rules matcher.old ≡ map rule_seen parts.old.rules }
     requires numbered { AreNumbered (map rule_seen parts.old.rules) }
     ensures works { M.failed matcher.new ≡ false }
     ensures held { M.rules matcher.new ≡ map rule_seen parts.new.rules }
     ensures elements { M.elements matcher.new ≡ M.elements matcher.old }
+    ensures knows { (live : ListOf LiveOf) → M.knows matcher.old live → M.knows matcher.new live }
     ensures dropped { AreDropped parts.old parts.new name }
     ensures table { parts.new.table ≡ parts.old.table }
     ensures settings { parts.new.settings ≡ parts.old.settings }
@@ -29,13 +31,14 @@ pub fn drop_named<M: Matcher>(parts: &mut Parts, matcher: &mut M, name: Sym)
 }
 
 /// Takes the rules of a name away.
-fn drop_rules<M: Matcher>(rules: &mut Rules, matcher: &mut M, name: Sym)
+fn drop_rules<M: Outstanding>(rules: &mut Rules, matcher: &mut M, name: Sym)
     requires works { M.failed matcher.old ≡ false }
     requires held { M.rules matcher.old ≡ map rule_seen rules.old }
     requires numbered { AreNumbered (map rule_seen rules.old) }
     ensures works { M.failed matcher.new ≡ false }
     ensures held { M.rules matcher.new ≡ map rule_seen rules.new }
     ensures elements { M.elements matcher.new ≡ M.elements matcher.old }
+    ensures knows { (live : ListOf LiveOf) → M.knows matcher.old live → M.knows matcher.new live }
     ensures dropped { map rule_seen rules.new ≡ unnamed name (map rule_seen rules.old) }
 {
     'rules: loop {
@@ -47,17 +50,18 @@ fn drop_rules<M: Matcher>(rules: &mut Rules, matcher: &mut M, name: Sym)
 }
 
 /// Takes the rule of a number away.
-fn drop_numbered<M: Matcher>(rules: &mut Rules, matcher: &mut M, number: u64)
+fn drop_numbered<M: Outstanding>(rules: &mut Rules, matcher: &mut M, number: u64)
     requires there { HasRule (map rule_seen rules.old) number }
     requires works { M.failed matcher.old ≡ false }
     requires held { M.rules matcher.old ≡ map rule_seen rules.old }
     ensures works { M.failed matcher.new ≡ false }
     ensures held { M.rules matcher.new ≡ map rule_seen rules.new }
     ensures elements { M.elements matcher.new ≡ M.elements matcher.old }
+    ensures knows { (live : ListOf LiveOf) → M.knows matcher.old live → M.knows matcher.new live }
     ensures dropped { map rule_seen rules.new ≡ without_rule (map rule_seen rules.old) number }
 {
     let _ = rules.remove(number);
-    matcher.remove_rule(number);
+    matcher.rule_goes(number);
 }
 
 /// Takes the explanations of the rules of a name away.

@@ -7,8 +7,9 @@ ghost use Rattle.wave_parts.specs.Lawful.{IsOfLawful};
 ghost use Rattle.wave_parts.specs.Seen.{IsSound};
 ghost use Rattle.wave_parts.specs.Stands.{Stands};
 
-use crate::taking::take_in;
+use crate::taking::take_first;
 use defs_match::{Instance, Matcher};
+use outstanding::Outstanding;
 use soar_sym::{List, NoMemory};
 use std::alloc::Global;
 use wave_parts::Parts;
@@ -20,7 +21,7 @@ pub struct Engine<M: Matcher> {
     pub matcher: M,
 }
 
-impl<M: Matcher + Drop> Engine<M> {
+impl<M: Outstanding + Drop> Engine<M> {
     /// The top state with its input and output links, and no rule, told at a watch level.
     pub fn new(alloc: Global, mut matcher: M, watch: u8) -> Result<Engine<M>, NoMemory>
         requires works { M.failed matcher ≡ false }
@@ -29,24 +30,26 @@ impl<M: Matcher + Drop> Engine<M> {
         ensures stands { IfOk result (λ engine. Stands engine.parts (first_agent watch)) }
         ensures sound { IfOk result (λ engine. IsSound engine.parts) }
         ensures lawful { IfOk result (λ engine. IsOfLawful engine.parts) }
-        ensures bond { IfOk result (λ engine. Bond (M.rules engine.matcher) (M.elements engine.matcher) (M.failed engine.matcher) engine.parts) }
+        ensures bond { IfOk result (λ engine. Bond (M.rules engine.matcher) (M.elements engine.matcher) (M.failed engine.matcher) (M.knows engine.matcher) engine.parts) }
     {
-        let parts = Parts::new(alloc, watch)?;
-        let elements = parts.memory.all(alloc)?;
-        take_in(&mut matcher, elements.as_slice())?;
-        Ok(Engine { parts, matcher })
+        matcher.begin();
+        take_first(&mut matcher)?;
+        match Parts::new(alloc, watch) {
+            Ok(parts) => Ok(Engine { parts, matcher }),
+            Err(fault) => Err(fault),
+        }
     }
 }
 
-impl<M: Matcher> Engine<M> {
+impl<M: Outstanding> Engine<M> {
     /// The conflict set.
     pub fn conflict(&mut self, alloc: Global) -> Result<List<Instance>, NoMemory>
-        requires bond { Bond (M.rules self.old.matcher) (M.elements self.old.matcher) (M.failed self.old.matcher) self.old.parts }
+        requires bond { Bond (M.rules self.old.matcher) (M.elements self.old.matcher) (M.failed self.old.matcher) (M.knows self.old.matcher) self.old.parts }
         ensures conflict { IfOk result (λ instances. instances ≡ conflict (map rule_seen self.old.parts.rules) self.old.parts.memory.elements) }
         ensures parts { self.new.parts ≡ self.old.parts }
         ensures settings { self.new.parts.settings ≡ self.old.parts.settings }
-        ensures bond { OnOk result (Bond (M.rules self.new.matcher) (M.elements self.new.matcher) (M.failed self.new.matcher) self.new.parts) }
+        ensures bond { OnOk result (Bond (M.rules self.new.matcher) (M.elements self.new.matcher) (M.failed self.new.matcher) (M.knows self.new.matcher) self.new.parts) }
     {
-        self.matcher.conflict(alloc)
+        self.matcher.instances(alloc)
     }
 }

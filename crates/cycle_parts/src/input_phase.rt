@@ -15,15 +15,15 @@ ghost use Rattle.wave_parts.specs.Stands.{Stands};
 
 use crate::engine::Engine;
 use crate::triples::note_queued;
-use defs_match::Matcher;
 use input_queue::make_changes;
+use outstanding::Outstanding;
 use soar_sym::{List, NoMemory, SymTable, Text};
 use std::alloc::Global;
 use step_report::{Settled, begin_part, say_settled, says_in_turn};
 use trace_details::CyclePart;
 use wave_parts::{Stop, count_more};
 
-impl<M: Matcher> Engine<M> {
+impl<M: Outstanding> Engine<M> {
     /// Runs the input phase: one cycle more, and the queued changes of the inputs in order (Soar manual, chapter 2,
     /// execution cycle).
     pub fn take_input(
@@ -34,12 +34,12 @@ impl<M: Matcher> Engine<M> {
     ) -> Result<(), Stop>
         requires sound { IsSound self.old.parts }
         requires lawful { IsOfLawful self.old.parts }
-        requires bond { Bond (M.rules self.old.matcher) (M.elements self.old.matcher) (M.failed self.old.matcher) self.old.parts }
+        requires bond { Bond (M.rules self.old.matcher) (M.elements self.old.matcher) (M.failed self.old.matcher) (M.knows self.old.matcher) self.old.parts }
         ensures step { (s : AgentOf) → Stands self.old.parts s → GoesStep self.old.parts.settings.watch mid_line.old (after_input s) self.new.parts mid_line.new out.old out.new result }
         ensures settings { self.new.parts.settings ≡ self.old.parts.settings }
         ensures sound { OnOk result (IsSound self.new.parts) }
         ensures lawful { OnOk result (IsOfLawful self.new.parts) }
-        ensures bond { OnOk result (Bond (M.rules self.new.matcher) (M.elements self.new.matcher) (M.failed self.new.matcher) self.new.parts) }
+        ensures bond { OnOk result (Bond (M.rules self.new.matcher) (M.elements self.new.matcher) (M.failed self.new.matcher) (M.knows self.new.matcher) self.new.parts) }
     {
         let settled = self.settle_queued(alloc)?;
         say_input(
@@ -55,12 +55,12 @@ impl<M: Matcher> Engine<M> {
     /// Counts the cycle, in which nothing was learned yet, applies the queued changes of the inputs, and settles.
     fn settle_queued(&mut self, alloc: Global) -> Result<Settled, Stop>
         requires sound { IsSound self.old.parts }
-        requires bond { Bond (M.rules self.old.matcher) (M.elements self.old.matcher) (M.failed self.old.matcher) self.old.parts }
+        requires bond { Bond (M.rules self.old.matcher) (M.elements self.old.matcher) (M.failed self.old.matcher) (M.knows self.old.matcher) self.old.parts }
         ensures step { (s : AgentOf) → Stands self.old.parts s → Settles (begins input_phase ∷ []) (after_input s) self.new.parts result }
         ensures known { IfOk result (λ settled. AreEventsKnown self.new.parts.table (settled_events settled)) }
         ensures settings { self.new.parts.settings ≡ self.old.parts.settings }
         ensures sound { OnOk result (IsSound self.new.parts) }
-        ensures bond { OnOk result (Bond (M.rules self.new.matcher) (M.elements self.new.matcher) (M.failed self.new.matcher) self.new.parts) }
+        ensures bond { OnOk result (Bond (M.rules self.new.matcher) (M.elements self.new.matcher) (M.failed self.new.matcher) (M.knows self.new.matcher) self.new.parts) }
     {
         let cycles = count_more(self.parts.cycles, 1)?;
         make_changes(&mut self.parts.inputs, self.parts.queue.as_slice())?;

@@ -14,16 +14,17 @@ ghost use Rattle.wave_parts.specs.Stands.{Stands};
 
 use crate::dropping::drop_named;
 use crate::engine::Engine;
-use defs_match::{Matcher, Rule};
+use defs_match::Rule;
+use outstanding::Outstanding;
 use soar_rule::Production;
 use wave_parts::{Stop, count_more};
 
-impl<M: Matcher> Engine<M> {
+impl<M: Outstanding> Engine<M> {
     /// Loads a production under the next rule number, in the place of that of its name, whose explanation goes too.
     pub fn load(&mut self, production: Production) -> Result<(), Stop>
         requires sound { IsSound self.old.parts }
         requires lawful { IsOfLawful self.old.parts }
-        requires bond { Bond (M.rules self.old.matcher) (M.elements self.old.matcher) (M.failed self.old.matcher) self.old.parts }
+        requires bond { Bond (M.rules self.old.matcher) (M.elements self.old.matcher) (M.failed self.old.matcher) (M.knows self.old.matcher) self.old.parts }
         requires known { AreKnown self.old.parts.table (symbols_of (production_seen production)) }
         requires unlearned { is_justification production.kind ≡ false }
         requires matchable { can_be_matched (production_seen production) ≡ true }
@@ -32,12 +33,12 @@ impl<M: Matcher> Engine<M> {
         ensures settings { self.new.parts.settings ≡ self.old.parts.settings }
         ensures sound { OnOk result (IsSound self.new.parts) }
         ensures lawful { OnOk result (IsOfLawful self.new.parts) }
-        ensures bond { OnOk result (Bond (M.rules self.new.matcher) (M.elements self.new.matcher) (M.failed self.new.matcher) self.new.parts) }
+        ensures bond { OnOk result (Bond (M.rules self.new.matcher) (M.elements self.new.matcher) (M.failed self.new.matcher) (M.knows self.new.matcher) self.new.parts) }
     {
         let number = count_more(self.parts.last_rule, 1)?;
         drop_named(&mut self.parts, &mut self.matcher, production.name);
         let rule = Rule { number, production };
-        self.matcher.add_rule(&rule)?;
+        self.matcher.rule_comes(&rule)?;
         self.parts.rules.push(rule)?;
         self.parts.last_rule = number;
         Ok(())

@@ -12,15 +12,15 @@ ghost use Rattle.wave_parts.specs.Seen.{IsSound};
 ghost use Rattle.wave_parts.specs.Stands.{Stands};
 
 use crate::engine::Engine;
-use defs_match::Matcher;
 use output_link::{OutputChanges, output_changes, output_of};
+use outstanding::Outstanding;
 use soar_sym::{NoMemory, SymTable, Text};
 use std::alloc::Global;
 use step_report::{begin_part, say_halt_at, say_outputs_at, says_in_turn};
 use trace_details::CyclePart;
 use wave_parts::Stop;
 
-impl<M: Matcher> Engine<M> {
+impl<M: Outstanding> Engine<M> {
     /// Runs the output phase: what the output link shows no longer, then what is new there, and a halt (Soar manual,
     /// chapter 2, execution cycle).
     pub fn give_output(
@@ -31,12 +31,12 @@ impl<M: Matcher> Engine<M> {
     ) -> Result<(), Stop>
         requires sound { IsSound self.old.parts }
         requires lawful { IsOfLawful self.old.parts }
-        requires bond { Bond (M.rules self.old.matcher) (M.elements self.old.matcher) (M.failed self.old.matcher) self.old.parts }
+        requires bond { Bond (M.rules self.old.matcher) (M.elements self.old.matcher) (M.failed self.old.matcher) (M.knows self.old.matcher) self.old.parts }
         ensures step { (s : AgentOf) → Stands self.old.parts s → GoesStep self.old.parts.settings.watch mid_line.old (after_output s) self.new.parts mid_line.new out.old out.new result }
         ensures settings { self.new.parts.settings ≡ self.old.parts.settings }
         ensures sound { OnOk result (IsSound self.new.parts) }
         ensures lawful { OnOk result (IsOfLawful self.new.parts) }
-        ensures bond { OnOk result (Bond (M.rules self.new.matcher) (M.elements self.new.matcher) (M.failed self.new.matcher) self.new.parts) }
+        ensures bond { OnOk result (Bond (M.rules self.new.matcher) (M.elements self.new.matcher) (M.failed self.new.matcher) (M.knows self.new.matcher) self.new.parts) }
     {
         let now = output_of(alloc, &self.parts.memory, self.parts.goals.list())?;
         let changes = output_changes(alloc, &self.parts.table, &self.parts.output, &now)?;

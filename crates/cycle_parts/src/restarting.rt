@@ -11,23 +11,23 @@ ghost use Rattle.wave_parts.specs.Stands.{Stands};
 use crate::engine::Engine;
 use crate::retelling::forget;
 use crate::telling::tell_anew;
-use defs_match::Matcher;
+use outstanding::Outstanding;
 use std::alloc::Global;
 use wave_parts::Stop;
 
-impl<M: Matcher> Engine<M> {
+impl<M: Outstanding> Engine<M> {
     /// Starts anew: all is as at the start but words, settings and all rules but justifications (Soar manual, chapter 9,
     /// init-soar).
     pub fn restart(&mut self, alloc: Global) -> Result<(), Stop>
         requires sound { IsSound self.old.parts }
         requires lawful { IsOfLawful self.old.parts }
-        requires bond { Bond (M.rules self.old.matcher) (M.elements self.old.matcher) (M.failed self.old.matcher) self.old.parts }
+        requires bond { Bond (M.rules self.old.matcher) (M.elements self.old.matcher) (M.failed self.old.matcher) (M.knows self.old.matcher) self.old.parts }
         ensures step { (s : AgentOf) → Stands self.old.parts s → QuietStep (restart_step s) self.new.parts result }
         ensures table { self.new.parts.table ≡ self.old.parts.table }
         ensures settings { self.new.parts.settings ≡ self.old.parts.settings }
         ensures sound { OnOk result (IsSound self.new.parts) }
         ensures lawful { OnOk result (IsOfLawful self.new.parts) }
-        ensures bond { OnOk result (Bond (M.rules self.new.matcher) (M.elements self.new.matcher) (M.failed self.new.matcher) self.new.parts) }
+        ensures bond { OnOk result (Bond (M.rules self.new.matcher) (M.elements self.new.matcher) (M.failed self.new.matcher) (M.knows self.new.matcher) self.new.parts) }
     {
         let gone = self.parts.memory.all(alloc)?;
         let spent = self.parts.restart(alloc)?;

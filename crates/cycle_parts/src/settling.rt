@@ -11,22 +11,22 @@ ghost use Rattle.wave_parts.specs.Stands.{Stands};
 
 use crate::engine::Engine;
 use crate::telling::tell;
-use defs_match::Matcher;
+use outstanding::Outstanding;
 use std::alloc::Global;
 use step_report::Settled;
 use wave_parts::Stop;
 
-impl<M: Matcher> Engine<M> {
+impl<M: Outstanding> Engine<M> {
     /// Settles what is held, makes working memory of it, and tells the matcher what went and what came.
     pub(crate) fn resettle(&mut self, alloc: Global) -> Result<Settled, Stop>
         requires sound { IsSound self.old.parts }
-        requires bond { Bond (M.rules self.old.matcher) (M.elements self.old.matcher) (M.failed self.old.matcher) self.old.parts }
+        requires bond { Bond (M.rules self.old.matcher) (M.elements self.old.matcher) (M.failed self.old.matcher) (M.knows self.old.matcher) self.old.parts }
         ensures settled { (s : AgentOf) → Stands self.old.parts s → Settles [] (resettled_now s) self.new.parts result }
         ensures known { IfOk result (λ settled. AreEventsKnown self.new.parts.table (settled_events settled)) }
         ensures table { self.new.parts.table ≡ self.old.parts.table }
         ensures settings { self.new.parts.settings ≡ self.old.parts.settings }
         ensures sound { OnOk result (IsSound self.new.parts) }
-        ensures bond { OnOk result (Bond (M.rules self.new.matcher) (M.elements self.new.matcher) (M.failed self.new.matcher) self.new.parts) }
+        ensures bond { OnOk result (Bond (M.rules self.new.matcher) (M.elements self.new.matcher) (M.failed self.new.matcher) (M.knows self.new.matcher) self.new.parts) }
     {
         let settled = self.parts.resettle(alloc)?;
         tell(&mut self.matcher, &settled.changes)?;

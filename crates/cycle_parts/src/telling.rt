@@ -1,30 +1,32 @@
 // What a matcher is told of a step.
-ghost use Rattle.std.specs.Prelude.{◌≡◌, false, OnOk};
+ghost use Rattle.std.specs.Prelude.{◌≡◌, false, OnOk, List as ListOf};
 ghost use Rattle.defs_soar.specs.Start.{first_elements};
+ghost use Rattle.live_firings.specs.declared.live.Live.{Live as LiveOf};
 ghost use Rattle.matching_laws.specs.Telling.{AreInsertable, AreRemovable, with_each};
 ghost use Rattle.soar_settle.specs.Tagging.{without_each};
 
 use crate::taking::take_in;
-use defs_match::Matcher;
+use outstanding::Outstanding;
 use soar_sym::NoMemory;
 use soar_wm::Element;
 use wave_parts::Changes;
 
 /// Tells a matcher what a step changed: it lets go of what went, then takes in what came.
-pub fn tell<M: Matcher>(matcher: &mut M, changes: &Changes) -> Result<(), NoMemory>
+pub fn tell<M: Outstanding>(matcher: &mut M, changes: &Changes) -> Result<(), NoMemory>
     requires works { M.failed matcher.old ≡ false }
     requires removable { AreRemovable (M.elements matcher.old) changes.now.gone }
     requires insertable { AreInsertable (without_each (M.elements matcher.old) changes.now.gone) changes.now.new }
     ensures works { OnOk result (M.failed matcher.new ≡ false) }
     ensures rules { OnOk result (M.rules matcher.new ≡ M.rules matcher.old) }
     ensures elements { OnOk result (M.elements matcher.new ≡ with_each (without_each (M.elements matcher.old) changes.now.gone) changes.now.new) }
+    ensures knows { OnOk result ((live : ListOf LiveOf) → M.knows matcher.old live → M.knows matcher.new live) }
 {
     let_go(matcher, changes.gone.as_slice())?;
     take_in(matcher, changes.new.as_slice())
 }
 
 /// Tells a matcher that all starts anew: it lets go of its elements, then takes in those of the start.
-pub fn tell_anew<M: Matcher>(
+pub fn tell_anew<M: Outstanding>(
     matcher: &mut M,
     gone: &[Element],
     first: &[Element],
@@ -35,6 +37,7 @@ pub fn tell_anew<M: Matcher>(
     ensures works { OnOk result (M.failed matcher.new ≡ false) }
     ensures rules { OnOk result (M.rules matcher.new ≡ M.rules matcher.old) }
     ensures elements { OnOk result (M.elements matcher.new ≡ first.now) }
+    ensures knows { OnOk result ((live : ListOf LiveOf) → M.knows matcher.old live → M.knows matcher.new live) }
 {
     let_go(matcher, gone)?;
     take_in(matcher, first)?;
@@ -42,15 +45,16 @@ pub fn tell_anew<M: Matcher>(
 }
 
 /// Lets go of elements, one after the other.
-fn let_go<M: Matcher>(matcher: &mut M, gone: &[Element]) -> Result<(), NoMemory>
+fn let_go<M: Outstanding>(matcher: &mut M, gone: &[Element]) -> Result<(), NoMemory>
     requires works { M.failed matcher.old ≡ false }
     requires removable { AreRemovable (M.elements matcher.old) gone.now }
     ensures works { OnOk result (M.failed matcher.new ≡ false) }
     ensures rules { OnOk result (M.rules matcher.new ≡ M.rules matcher.old) }
     ensures elements { OnOk result (M.elements matcher.new ≡ without_each (M.elements matcher.old) gone.now) }
+    ensures knows { OnOk result ((live : ListOf LiveOf) → M.knows matcher.old live → M.knows matcher.new live) }
 {
     'gone: for element in gone {
-        matcher.remove_element(element.tag)?;
+        matcher.element_goes(element.tag)?;
     }
     Ok(())
 }

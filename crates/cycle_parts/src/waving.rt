@@ -7,7 +7,7 @@ ghost use Rattle.soar_settle.specs.Known.{AreInstancesKnown};
 ghost use Rattle.trace_laws.specs.Events.{AreEventsKnown};
 ghost use Rattle.step_report.specs.Reports.{report_events};
 ghost use Rattle.cycle_parts.specs.Bonds.{Bond};
-ghost use Rattle.cycle_parts.specs.Waving.{TellsWork, WavesFrom, is_proposing, waved_by};
+ghost use Rattle.cycle_parts.specs.Waving.{TellsWork, WavesFrom, is_proposing, waved_by, with_told};
 ghost use Rattle.live_firings.specs.Living.{live_seen};
 ghost use Rattle.pending_work.specs.Working.{is_nothing};
 ghost use Rattle.wave_parts.specs.Carrying.{CarriesOut, IsPendingIn};
@@ -19,7 +19,6 @@ ghost use Rattle.wave_parts.specs.Stands.{Stands};
 use crate::engine::Engine;
 use crate::retelling::{forget, take_up};
 use crate::telling::tell;
-use defs_match::Matcher;
 use outstanding::Outstanding;
 use soar_sym::{NoMemory, Text};
 use std::alloc::Global;
@@ -47,13 +46,13 @@ impl<M: Outstanding> Engine<M> {
     ) -> Result<Waved, Stop>
         requires sound { IsSound self.old.parts }
         requires lawful { IsOfLawful self.old.parts }
-        requires bond { Bond (M.rules self.old.matcher) (M.elements self.old.matcher) (M.failed self.old.matcher) self.old.parts }
+        requires bond { Bond (M.rules self.old.matcher) (M.elements self.old.matcher) (M.failed self.old.matcher) (M.knows self.old.matcher) self.old.parts }
         ensures wave { (s : AgentOf) → Stands self.old.parts s
             → WavesFrom self.old.parts.settings.watch (is_proposing phase) s self.old.parts self.new.parts mid_line.old mid_line.new out.old out.new result }
         ensures settings { self.new.parts.settings ≡ self.old.parts.settings }
         ensures sound { OnOk result (IsSound self.new.parts) }
         ensures lawful { OnOk result (IsOfLawful self.new.parts) }
-        ensures bond { OnOk result (Bond (M.rules self.new.matcher) (M.elements self.new.matcher) (M.failed self.new.matcher) self.new.parts) }
+        ensures bond { OnOk result (Bond (M.rules self.new.matcher) (M.elements self.new.matcher) (M.failed self.new.matcher) (M.knows self.new.matcher) self.new.parts) }
     {
         let work = self.pending(alloc, phase)?;
         if work.is_nothing() {
@@ -73,11 +72,11 @@ impl<M: Outstanding> Engine<M> {
     /// Whether something is pending.
     pub fn has_work(&mut self, alloc: Global, phase: Phase) -> Result<bool, Stop>
         requires sound { IsSound self.old.parts }
-        requires bond { Bond (M.rules self.old.matcher) (M.elements self.old.matcher) (M.failed self.old.matcher) self.old.parts }
+        requires bond { Bond (M.rules self.old.matcher) (M.elements self.old.matcher) (M.failed self.old.matcher) (M.knows self.old.matcher) self.old.parts }
         ensures work { (s : AgentOf) → Stands self.old.parts s → TellsWork (is_proposing phase) s result }
-        ensures parts { self.new.parts ≡ self.old.parts }
+        ensures parts { self.new.parts ≡ with_told self.old.parts self.new.parts.live.told }
         ensures settings { self.new.parts.settings ≡ self.old.parts.settings }
-        ensures bond { OnOk result (Bond (M.rules self.new.matcher) (M.elements self.new.matcher) (M.failed self.new.matcher) self.new.parts) }
+        ensures bond { OnOk result (Bond (M.rules self.new.matcher) (M.elements self.new.matcher) (M.failed self.new.matcher) (M.knows self.new.matcher) self.new.parts) }
     {
         let work = self.pending(alloc, phase)?;
         Ok(!work.is_nothing())
@@ -86,26 +85,25 @@ impl<M: Outstanding> Engine<M> {
     /// The work of a wave, from what is outstanding.
     fn pending(&mut self, alloc: Global, phase: Phase) -> Result<Work, NoMemory>
         requires sound { IsSound self.old.parts }
-        requires bond { Bond (M.rules self.old.matcher) (M.elements self.old.matcher) (M.failed self.old.matcher) self.old.parts }
+        requires bond { Bond (M.rules self.old.matcher) (M.elements self.old.matcher) (M.failed self.old.matcher) (M.knows self.old.matcher) self.old.parts }
         ensures work { IfOk result (λ work. IsPending (map rule_seen self.old.parts.rules) self.old.parts.memory.elements work (pending_of (is_proposing phase) self.old.parts)) }
         ensures none { IfOk result (λ work. is_nothing work ≡ is_none (pending_of (is_proposing phase) self.old.parts)) }
         ensures bound { IfOk result (λ work. AreBound (map rule_seen self.old.parts.rules) work.fired) }
         ensures known { IfOk result (λ work. AreInstancesKnown self.old.parts.table work.fired) }
         ensures names { IfOk result (λ work. AreLiveKnown self.old.parts.table (map live_seen work.retracted)) }
-        ensures parts { self.new.parts ≡ self.old.parts }
-        ensures bond { OnOk result (Bond (M.rules self.new.matcher) (M.elements self.new.matcher) (M.failed self.new.matcher) self.new.parts) }
+        ensures parts { self.new.parts ≡ with_told self.old.parts self.new.parts.live.told }
+        ensures settings { self.new.parts.settings ≡ self.old.parts.settings }
+        ensures bond { OnOk result (Bond (M.rules self.new.matcher) (M.elements self.new.matcher) (M.failed self.new.matcher) (M.knows self.new.matcher) self.new.parts) }
     {
-        let left = self.matcher.outstanding(alloc, &self.parts.live)?;
+        let left = self.matcher.outstanding(alloc, &mut self.parts.live)?;
         self.parts.pending(alloc, is_proposing(phase), left)
     }
-}
 
-impl<M: Matcher> Engine<M> {
     /// Carries the work of a wave out, and tells the matcher which elements and rules went and which came.
     fn carry_out(&mut self, alloc: Global, work: Work) -> Result<Done, Stop>
         requires sound { IsSound self.old.parts }
         requires lawful { IsOfLawful self.old.parts }
-        requires bond { Bond (M.rules self.old.matcher) (M.elements self.old.matcher) (M.failed self.old.matcher) self.old.parts }
+        requires bond { Bond (M.rules self.old.matcher) (M.elements self.old.matcher) (M.failed self.old.matcher) (M.knows self.old.matcher) self.old.parts }
         requires pending { IsPendingIn self.old.parts work }
         requires bound { AreBound (map rule_seen self.old.parts.rules) work.fired }
         requires known { AreInstancesKnown self.old.parts.table work.fired }
@@ -115,7 +113,7 @@ impl<M: Matcher> Engine<M> {
         ensures settings { self.new.parts.settings ≡ self.old.parts.settings }
         ensures sound { OnOk result (IsSound self.new.parts) }
         ensures lawful { OnOk result (IsOfLawful self.new.parts) }
-        ensures bond { OnOk result (Bond (M.rules self.new.matcher) (M.elements self.new.matcher) (M.failed self.new.matcher) self.new.parts) }
+        ensures bond { OnOk result (Bond (M.rules self.new.matcher) (M.elements self.new.matcher) (M.failed self.new.matcher) (M.knows self.new.matcher) self.new.parts) }
     {
         let last = self.parts.last_rule;
         let done = self.parts.carry_out(alloc, work)?;

@@ -10,8 +10,9 @@ use Rattle.soar_settle.specs.declared.stop.Stop.TheVariants as stop
 use Rattle.wave_parts.specs.Stands.{Stands}
 use Rattle.wave_parts.specs.declared.parts.Parts.{Parts as PartsKept}
 use Rattle.wave_parts.specs.declared.settings.Settings.{Settings}
-use Rattle.cycle_parts.specs.Waving.{Rested, TellsWork, WavesFrom, Worked}
+use Rattle.cycle_parts.specs.Waving.{Rested, TellsWork, WavesFrom, Worked, with_told}
 use Rattle.cycle_parts.specs.declared.waving.Waved.{Waved}
+use Rattle.cycle_parts.proofs.ToldLemmas.{told_stands}
 use Rattle.cycle_phases.specs.Courses.{Went}
 use Rattle.cycle_phases.specs.Going.{GoesPhase, Going}
 use Rattle.cycle_phases.proofs.CourseLemmas.{course_by, none_went, passed_more, step_stops, step_went, went_stops, went_then}
@@ -76,7 +77,7 @@ rests watch proposing now new left s mid now_mid new_mid before between after g 
     ends_so watch proposing s (ends g.course) new mid new_mid before after false
     (sym g.is_left ∙ turns_by proposing left g.course (ends g.course) (at_rest proposing g.course rest.none))
     (record {
-      stands = subst (λ (a : PartsKept). Stands a g.course.agent) (sym rest.same) w.stands;
+      stands = subst (λ (a : PartsKept). Stands a g.course.agent) (sym rest.same) (told_stands now new.live.told g.course.agent w.stands);
       within = w.within;
       text = rest.text ∙ w.text;
       mid_line = rest.mid_line ∙ w.mid_line;
@@ -121,12 +122,19 @@ negated false none is = ap not (sym is)
 
 -- no wave is left
 pub is_over : (watch : ℕ) (proposing : Bool) (now new : PartsKept) (left : ℕ) (s : Agent) (mid now_mid : Bool) (before after : List ℕ) (result : Result Bool Stop) → left ≤ 0
-    → (g : Going watch proposing now left s mid now_mid before after) → new ≡ now → TellsWork proposing g.course.agent result
+    → (g : Going watch proposing now left s mid now_mid before after) → new ≡ with_told now new.live.told → TellsWork proposing g.course.agent result
     → GoesPhase watch mid (phase with_learning proposing s) new now_mid before after result
 is_over watch proposing now new left s mid now_mid before after (Ok some) h g same tells =
     let none : left ≡ 0 = omega (arith, h) in
+    let w = g.went in
     ends_so watch proposing s (goes_on g.course) new mid now_mid before after some
     (sym g.is_left ∙ ap (λ n. turns n (one_wave with_learning proposing) g.course) none)
-    (subst (λ (a : PartsKept). Went watch mid g.course a now_mid before after) (sym same) g.went) (negated some (is_none (pending proposing g.course.agent)) tells)
+    (record {
+      stands = subst (λ (a : PartsKept). Stands a g.course.agent) (sym same) (told_stands now new.live.told g.course.agent w.stands);
+      within = w.within;
+      text = w.text;
+      mid_line = w.mid_line;
+    })
+    (negated some (is_none (pending proposing g.course.agent)) tells)
 is_over watch proposing now new left s mid now_mid before after (Err (stop.Limit limit)) h g same tells = absurd tells
 is_over watch proposing now new left s mid now_mid before after (Err stop.NoMemory) h g same tells = tt

@@ -28,13 +28,13 @@ pub fn run_cycle<M: Outstanding>(
 ) -> Result<bool, Stop>
     requires sound { IsSound engine.old.parts }
     requires lawful { IsOfLawful engine.old.parts }
-    requires bond { Bond (M.rules engine.old.matcher) (M.elements engine.old.matcher) (M.failed engine.old.matcher) engine.old.parts }
+    requires bond { Bond (M.rules engine.old.matcher) (M.elements engine.old.matcher) (M.failed engine.old.matcher) (M.knows engine.old.matcher) engine.old.parts }
     ensures cycle { (s : AgentOf) → Stands engine.old.parts s → Goes engine.old.parts.settings.watch mid_line.old (cycle decided_by with_learning s) engine.new.parts mid_line.new out.old out.new result }
     ensures halted { IfOk result (λ halted. halted ≡ engine.new.parts.halted) }
     ensures settings { engine.new.parts.settings ≡ engine.old.parts.settings }
     ensures sound { OnOk result (IsSound engine.new.parts) }
     ensures lawful { OnOk result (IsOfLawful engine.new.parts) }
-    ensures bond { OnOk result (Bond (M.rules engine.new.matcher) (M.elements engine.new.matcher) (M.failed engine.new.matcher) engine.new.parts) }
+    ensures bond { OnOk result (Bond (M.rules engine.new.matcher) (M.elements engine.new.matcher) (M.failed engine.new.matcher) (M.knows engine.new.matcher) engine.new.parts) }
 {
     take_input(engine, alloc, out, mid_line)?;
     propose(engine, alloc, out, mid_line)?;
@@ -52,12 +52,12 @@ fn take_input<M: Outstanding>(
 ) -> Result<(), Stop>
     requires sound { IsSound engine.old.parts }
     requires lawful { IsOfLawful engine.old.parts }
-    requires bond { Bond (M.rules engine.old.matcher) (M.elements engine.old.matcher) (M.failed engine.old.matcher) engine.old.parts }
+    requires bond { Bond (M.rules engine.old.matcher) (M.elements engine.old.matcher) (M.failed engine.old.matcher) (M.knows engine.old.matcher) engine.old.parts }
     ensures course { (watch : ℕ) → GoesOn watch with_input engine.old.parts engine.new.parts mid_line.old mid_line.new out.old out.new result }
     ensures settings { engine.new.parts.settings ≡ engine.old.parts.settings }
     ensures sound { OnOk result (IsSound engine.new.parts) }
     ensures lawful { OnOk result (IsOfLawful engine.new.parts) }
-    ensures bond { OnOk result (Bond (M.rules engine.new.matcher) (M.elements engine.new.matcher) (M.failed engine.new.matcher) engine.new.parts) }
+    ensures bond { OnOk result (Bond (M.rules engine.new.matcher) (M.elements engine.new.matcher) (M.failed engine.new.matcher) (M.knows engine.new.matcher) engine.new.parts) }
 {
     engine.take_input(alloc, out, mid_line)
 }
@@ -70,12 +70,12 @@ fn propose<M: Outstanding>(
 ) -> Result<(), Stop>
     requires sound { IsSound engine.old.parts }
     requires lawful { IsOfLawful engine.old.parts }
-    requires bond { Bond (M.rules engine.old.matcher) (M.elements engine.old.matcher) (M.failed engine.old.matcher) engine.old.parts }
+    requires bond { Bond (M.rules engine.old.matcher) (M.elements engine.old.matcher) (M.failed engine.old.matcher) (M.knows engine.old.matcher) engine.old.parts }
     ensures course { (watch : ℕ) → GoesOn watch with_proposals engine.old.parts engine.new.parts mid_line.old mid_line.new out.old out.new result }
     ensures settings { engine.new.parts.settings ≡ engine.old.parts.settings }
     ensures sound { OnOk result (IsSound engine.new.parts) }
     ensures lawful { OnOk result (IsOfLawful engine.new.parts) }
-    ensures bond { OnOk result (Bond (M.rules engine.new.matcher) (M.elements engine.new.matcher) (M.failed engine.new.matcher) engine.new.parts) }
+    ensures bond { OnOk result (Bond (M.rules engine.new.matcher) (M.elements engine.new.matcher) (M.failed engine.new.matcher) (M.knows engine.new.matcher) engine.new.parts) }
 {
     run_phase(engine, alloc, Phase::Proposal, out, mid_line)?;
     Ok(())
@@ -89,12 +89,12 @@ fn decide<M: Outstanding>(
 ) -> Result<(), Stop>
     requires sound { IsSound engine.old.parts }
     requires lawful { IsOfLawful engine.old.parts }
-    requires bond { Bond (M.rules engine.old.matcher) (M.elements engine.old.matcher) (M.failed engine.old.matcher) engine.old.parts }
+    requires bond { Bond (M.rules engine.old.matcher) (M.elements engine.old.matcher) (M.failed engine.old.matcher) (M.knows engine.old.matcher) engine.old.parts }
     ensures course { (watch : ℕ) → GoesOn watch with_decision engine.old.parts engine.new.parts mid_line.old mid_line.new out.old out.new result }
     ensures settings { engine.new.parts.settings ≡ engine.old.parts.settings }
     ensures sound { OnOk result (IsSound engine.new.parts) }
     ensures lawful { OnOk result (IsOfLawful engine.new.parts) }
-    ensures bond { OnOk result (Bond (M.rules engine.new.matcher) (M.elements engine.new.matcher) (M.failed engine.new.matcher) engine.new.parts) }
+    ensures bond { OnOk result (Bond (M.rules engine.new.matcher) (M.elements engine.new.matcher) (M.failed engine.new.matcher) (M.knows engine.new.matcher) engine.new.parts) }
 {
     if engine.parts.halted {
         return Ok(());
@@ -111,12 +111,12 @@ fn apply<M: Outstanding>(
 ) -> Result<(), Stop>
     requires sound { IsSound engine.old.parts }
     requires lawful { IsOfLawful engine.old.parts }
-    requires bond { Bond (M.rules engine.old.matcher) (M.elements engine.old.matcher) (M.failed engine.old.matcher) engine.old.parts }
+    requires bond { Bond (M.rules engine.old.matcher) (M.elements engine.old.matcher) (M.failed engine.old.matcher) (M.knows engine.old.matcher) engine.old.parts }
     ensures course { (watch : ℕ) → GoesOn watch with_application engine.old.parts engine.new.parts mid_line.old mid_line.new out.old out.new result }
     ensures settings { engine.new.parts.settings ≡ engine.old.parts.settings }
     ensures sound { OnOk result (IsSound engine.new.parts) }
     ensures lawful { OnOk result (IsOfLawful engine.new.parts) }
-    ensures bond { OnOk result (Bond (M.rules engine.new.matcher) (M.elements engine.new.matcher) (M.failed engine.new.matcher) engine.new.parts) }
+    ensures bond { OnOk result (Bond (M.rules engine.new.matcher) (M.elements engine.new.matcher) (M.failed engine.new.matcher) (M.knows engine.new.matcher) engine.new.parts) }
 {
     if engine.parts.halted {
         return Ok(());
@@ -133,12 +133,12 @@ fn give_output<M: Outstanding>(
 ) -> Result<(), Stop>
     requires sound { IsSound engine.old.parts }
     requires lawful { IsOfLawful engine.old.parts }
-    requires bond { Bond (M.rules engine.old.matcher) (M.elements engine.old.matcher) (M.failed engine.old.matcher) engine.old.parts }
+    requires bond { Bond (M.rules engine.old.matcher) (M.elements engine.old.matcher) (M.failed engine.old.matcher) (M.knows engine.old.matcher) engine.old.parts }
     ensures course { (watch : ℕ) → GoesOn watch then_output engine.old.parts engine.new.parts mid_line.old mid_line.new out.old out.new result }
     ensures settings { engine.new.parts.settings ≡ engine.old.parts.settings }
     ensures sound { OnOk result (IsSound engine.new.parts) }
     ensures lawful { OnOk result (IsOfLawful engine.new.parts) }
-    ensures bond { OnOk result (Bond (M.rules engine.new.matcher) (M.elements engine.new.matcher) (M.failed engine.new.matcher) engine.new.parts) }
+    ensures bond { OnOk result (Bond (M.rules engine.new.matcher) (M.elements engine.new.matcher) (M.failed engine.new.matcher) (M.knows engine.new.matcher) engine.new.parts) }
 {
     engine.give_output(alloc, out, mid_line)
 }

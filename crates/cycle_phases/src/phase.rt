@@ -39,13 +39,13 @@ pub fn run_phase<M: Outstanding>(
 ) -> Result<Ended, Stop>
     requires sound { IsSound engine.old.parts }
     requires lawful { IsOfLawful engine.old.parts }
-    requires bond { Bond (M.rules engine.old.matcher) (M.elements engine.old.matcher) (M.failed engine.old.matcher) engine.old.parts }
+    requires bond { Bond (M.rules engine.old.matcher) (M.elements engine.old.matcher) (M.failed engine.old.matcher) (M.knows engine.old.matcher) engine.old.parts }
     ensures phase { (s : AgentOf) → Stands engine.old.parts s → Goes engine.old.parts.settings.watch mid_line.old (phase_course phase s) engine.new.parts mid_line.new out.old out.new result }
     ensures end { (s : AgentOf) → Stands engine.old.parts s → IsEndOf (phased phase s) result }
     ensures settings { engine.new.parts.settings ≡ engine.old.parts.settings }
     ensures sound { OnOk result (IsSound engine.new.parts) }
     ensures lawful { OnOk result (IsOfLawful engine.new.parts) }
-    ensures bond { OnOk result (Bond (M.rules engine.new.matcher) (M.elements engine.new.matcher) (M.failed engine.new.matcher) engine.new.parts) }
+    ensures bond { OnOk result (Bond (M.rules engine.new.matcher) (M.elements engine.new.matcher) (M.failed engine.new.matcher) (M.knows engine.new.matcher) engine.new.parts) }
 {
     begin_phase(&engine.parts, phase, out, mid_line)?;
     let cut = run_waves(engine, alloc, phase, out, mid_line)?;
@@ -76,12 +76,12 @@ fn run_waves<M: Outstanding>(
 ) -> Result<bool, Stop>
     requires sound { IsSound engine.old.parts }
     requires lawful { IsOfLawful engine.old.parts }
-    requires bond { Bond (M.rules engine.old.matcher) (M.elements engine.old.matcher) (M.failed engine.old.matcher) engine.old.parts }
+    requires bond { Bond (M.rules engine.old.matcher) (M.elements engine.old.matcher) (M.failed engine.old.matcher) (M.knows engine.old.matcher) engine.old.parts }
     ensures waves { (s : AgentOf) → Stands engine.old.parts s → GoesPhase engine.old.parts.settings.watch mid_line.old (phased phase s) engine.new.parts mid_line.new out.old out.new result }
     ensures settings { engine.new.parts.settings ≡ engine.old.parts.settings }
     ensures sound { OnOk result (IsSound engine.new.parts) }
     ensures lawful { OnOk result (IsOfLawful engine.new.parts) }
-    ensures bond { OnOk result (Bond (M.rules engine.new.matcher) (M.elements engine.new.matcher) (M.failed engine.new.matcher) engine.new.parts) }
+    ensures bond { OnOk result (Bond (M.rules engine.new.matcher) (M.elements engine.new.matcher) (M.failed engine.new.matcher) (M.knows engine.new.matcher) engine.new.parts) }
 {
     let mut left = engine.parts.settings.max_elaborations;
     'waves: while left > 0 {

@@ -81,7 +81,7 @@ in_pushed g goal (first ∷ goals) (inr is) = elim (in_pushed g goal goals is) [
 -- nothing is selected in it yet
 pushed_roots : (a : PartsKept) (goal : Goal) (letters : List ℕ) (depends : List (List ℕ)) → goal.selected ≡ None → (n : ℕ) → IsIn n (roots_in (with_pushed a goal letters depends)) → IsIn n (roots_in a)
 pushed_roots a goal letters depends none =
-    let live = map live_seen a.live in
+    let live = map live_seen a.live.list in
     each_root (λ n. IsIn n (roots_in a)) live a.prefs.rows (a.goals ++ goal ∷ []) (λ l is. root_of_live live a.prefs.rows a.goals l is) (λ row is. root_of_row live a.prefs.rows a.goals row is)
     (λ g is n named. elim (in_pushed g goal a.goals is) [
       | inl old ↦ root_of_goal live a.prefs.rows a.goals g old n named

@@ -27,8 +27,7 @@ use Rattle.decision_walk.specs.First.{AreFirst}
 use Rattle.decision_walk.specs.Known.{AreSelectionsKnown, IsSelectionKnown}
 use Rattle.decision_walk.specs.Makers.{AreFiringsUpTo, AreMakersUpTo, IsMakerUpTo}
 use Rattle.dependency_tables.specs.Tables.{table_of, tables_of}
-use Rattle.live_firings.specs.declared.live.Live.{Live}
-use Rattle.live_firings.specs.Living.{live_above, live_from, live_seen}
+use Rattle.live_firings.specs.Living.{Firings, live_above, live_from, live_seen}
 use Rattle.goal_trimming.specs.Doubted.{AreDoubted}
 use Rattle.goal_trimming.proofs.LostLemmas.{doubted_first}
 use Rattle.goal_trimming.proofs.TagLemmas.{left_depend}
@@ -186,24 +185,24 @@ view_with a random = record (view_of (agent_of a [])) { random = random }
 -- ---- the parts
 
 -- what stays, with the tags and firings of the goals that are left
-abbrev pub with_walked : PartsKept → List Goal → List (List ℕ) → PreferenceMemory → List Live → PartsKept
+abbrev pub with_walked : PartsKept → List Goal → List (List ℕ) → PreferenceMemory → Firings → PartsKept
 with_walked a goals depends prefs live = record a { goals = goals; depends = depends; prefs = prefs; live = live }
 
 -- what went with the other goals
-pub record HasLeft (a : PartsKept) (goals : List Goal) (depends : List (List ℕ)) (prefs : PreferenceMemory) (live : List Live) : Type 0 where
+pub record HasLeft (a : PartsKept) (goals : List Goal) (depends : List (List ℕ)) (prefs : PreferenceMemory) (live : Firings) : Type 0 where
   pub depends_are : depends ≡ take (length goals - 1) a.depends
-  pub prefs_are : prefs ≡ record a.prefs { rows = without_firings a.prefs.rows (numbers_of (live_from (suc (length goals)) (map live_seen a.live))) }
-  pub live_are : map live_seen live ≡ live_above (suc (length goals)) (map live_seen a.live)
+  pub prefs_are : prefs ≡ record a.prefs { rows = without_firings a.prefs.rows (numbers_of (live_from (suc (length goals)) (map live_seen a.live.list))) }
+  pub live_are : map live_seen live.list ≡ live_above (suc (length goals)) (map live_seen a.live.list)
 
-pub has_left : (a : PartsKept) (goals : List Goal) (left : ℕ) (depends : List (List ℕ)) (prefs : PreferenceMemory) (live : List Live) → left ≡ length goals → depends ≡ take (left - 1) a.depends
-    → prefs ≡ record a.prefs { rows = without_firings a.prefs.rows (numbers_of (live_from (left + 1) (map live_seen a.live))) } → map live_seen live ≡ live_above (left + 1) (map live_seen a.live)
+pub has_left : (a : PartsKept) (goals : List Goal) (left : ℕ) (depends : List (List ℕ)) (prefs : PreferenceMemory) (live : Firings) → left ≡ length goals → depends ≡ take (left - 1) a.depends
+    → prefs ≡ record a.prefs { rows = without_firings a.prefs.rows (numbers_of (live_from (left + 1) (map live_seen a.live.list))) } → map live_seen live.list ≡ live_above (left + 1) (map live_seen a.live.list)
     → HasLeft a goals depends prefs live
 has_left a goals left depends prefs live is depends_is prefs_is live_is =
     let next : left + 1 ≡ suc (length goals) = omega (arith, is) in
     record {
       depends_are = depends_is ∙ ap (λ n. take (n - 1) a.depends) is;
-      prefs_are = prefs_is ∙ ap (λ n. record a.prefs { rows = without_firings a.prefs.rows (numbers_of (live_from n (map live_seen a.live))) }) next;
-      live_are = live_is ∙ ap (λ n. live_above n (map live_seen a.live)) next;
+      prefs_are = prefs_is ∙ ap (λ n. record a.prefs { rows = without_firings a.prefs.rows (numbers_of (live_from n (map live_seen a.live.list))) }) next;
+      live_are = live_is ∙ ap (λ n. live_above n (map live_seen a.live.list)) next;
     }
 
 -- the makers of the selections are roots
@@ -211,16 +210,16 @@ abbrev pub AreRooted : PartsKept → List Goal → Type 0
 AreRooted a goals = (g : Goal) → IsIn g goals → (n : ℕ) → IsIn n (makers_of_goal g) → IsIn n (roots_in a)
 
 -- no explanation begins elsewhere
-walked_roots : (a : PartsKept) (goals : List Goal) (depends : List (List ℕ)) (prefs : PreferenceMemory) (live : List Live) → HasLeft a goals depends prefs live → AreRooted a goals
+walked_roots : (a : PartsKept) (goals : List Goal) (depends : List (List ℕ)) (prefs : PreferenceMemory) (live : Firings) → HasLeft a goals depends prefs live → AreRooted a goals
     → (n : ℕ) → IsIn n (roots_in (with_walked a goals depends prefs live)) → IsIn n (roots_in a)
 walked_roots a goals depends prefs live left =
-    let gone = numbers_of (live_from (suc (length goals)) (map live_seen a.live)) in
+    let gone = numbers_of (live_from (suc (length goals)) (map live_seen a.live.list)) in
     let rows = ap (λ (p : PreferenceMemory). p.rows) left.prefs_are in
-    each_root (λ n. IsIn n (roots_in a)) (map live_seen live) prefs.rows goals
-    (λ l is. root_of_live (map live_seen a.live) a.prefs.rows a.goals l (filter_within (λ (x : LiveFiring). nat_lt x.depth (suc (length goals))) (map live_seen a.live) l (subst (IsIn l) left.live_are is)))
-    (λ row is. root_of_row (map live_seen a.live) a.prefs.rows a.goals row (filter_within (λ r. not (is_of_gone gone r)) a.prefs.rows row (subst (IsIn row) rows is)))
+    each_root (λ n. IsIn n (roots_in a)) (map live_seen live.list) prefs.rows goals
+    (λ l is. root_of_live (map live_seen a.live.list) a.prefs.rows a.goals l (filter_within (λ (x : LiveFiring). nat_lt x.depth (suc (length goals))) (map live_seen a.live.list) l (subst (IsIn l) left.live_are is)))
+    (λ row is. root_of_row (map live_seen a.live.list) a.prefs.rows a.goals row (filter_within (λ r. not (is_of_gone gone r)) a.prefs.rows row (subst (IsIn row) rows is)))
 
-walked_remembers : (a : PartsKept) (history : List RecordedFiring) (goals : List Goal) (depends : List (List ℕ)) (prefs : PreferenceMemory) (live : List Live) → AreFirst a.goals goals → HasLeft a goals depends prefs live
+walked_remembers : (a : PartsKept) (history : List RecordedFiring) (goals : List Goal) (depends : List (List ℕ)) (prefs : PreferenceMemory) (live : Firings) → AreFirst a.goals goals → HasLeft a goals depends prefs live
     → AreRooted a goals → Remembers a history → Remembers (with_walked a goals depends prefs live) history
 walked_remembers a history goals depends prefs live first left rooted r = record {
   is_record =
@@ -232,7 +231,7 @@ walked_remembers a history goals depends prefs live first left rooted r = record
   goals_numbered = r.goals_numbered;
 }
 
-pub walked_stands : (a : PartsKept) (goals : List Goal) (depends : List (List ℕ)) (prefs : PreferenceMemory) (live : List Live) → AreFirst a.goals goals → HasLeft a goals depends prefs live
+pub walked_stands : (a : PartsKept) (goals : List Goal) (depends : List (List ℕ)) (prefs : PreferenceMemory) (live : Firings) → AreFirst a.goals goals → HasLeft a goals depends prefs live
     → AreRooted a goals → ((history : List RecordedFiring) → goals ≡ (walk_of (agent_of a history)).goals)
     → (s : Agent) → Stands a s → Stands (with_walked a goals depends prefs live) (walked_state s (walk_of s))
 walked_stands a goals depends prefs live first left rooted walked_to =
@@ -242,10 +241,10 @@ walked_stands a goals depends prefs live first left rooted walked_to =
     ((λ k. record (agent_of a history) { holding = record (agent_of a history).holding { goals = goals; rows = (left.prefs_are k).rows; live = left.live_are k } })
     ∙ ap (λ (gs : List Goal). walked_state (agent_of a history) (record (walk_of (agent_of a history)) { goals = gs })) (walked_to history)))
 
-pub walked_sound : (a : PartsKept) (goals : List Goal) (depends : List (List ℕ)) (prefs : PreferenceMemory) (live : List Live) → RetractedKeepRange → IsSound a → AreFirst a.goals goals → HasLeft a goals depends prefs live
+pub walked_sound : (a : PartsKept) (goals : List Goal) (depends : List (List ℕ)) (prefs : PreferenceMemory) (live : Firings) → RetractedKeepRange → IsSound a → AreFirst a.goals goals → HasLeft a goals depends prefs live
     → AreListKnown a.table goals → AreSelectionsKnown a.table goals → AreMakersUpTo a.firings goals → IsToSettle (with_walked a goals depends prefs live)
 walked_sound a goals depends prefs live range sound first left known selections makers =
-    let gone = numbers_of (live_from (suc (length goals)) (map live_seen a.live)) in
+    let gone = numbers_of (live_from (suc (length goals)) (map live_seen a.live.list)) in
     let rows = ap (λ (p : PreferenceMemory). p.rows) left.prefs_are in
     let limit = ap (λ (p : PreferenceMemory). p.limit) left.prefs_are in
     record {
@@ -273,8 +272,8 @@ walked_sound a goals depends prefs live range sound first left known selections 
       inputs_known = sound.inputs_known;
       queue_known = sound.queue_known;
       output_known = sound.output_known;
-      live_known = subst (AreLiveKnown a.table) (sym left.live_are) (live_filter a.table (λ l. nat_lt l.depth (suc (length goals))) (map live_seen a.live) sound.live_known);
-      live_given = λ l is. sound.live_given l (filter_within (λ (m : LiveFiring). nat_lt m.depth (suc (length goals))) (map live_seen a.live) l (subst (IsIn l) left.live_are is));
+      live_known = subst (AreLiveKnown a.table) (sym left.live_are) (live_filter a.table (λ l. nat_lt l.depth (suc (length goals))) (map live_seen a.live.list) sound.live_known);
+      live_given = λ l is. sound.live_given l (filter_within (λ (m : LiveFiring). nat_lt m.depth (suc (length goals))) (map live_seen a.live.list) l (subst (IsIn l) left.live_are is));
       kept_up = kept_renewed a.prefs prefs a.inputs a.changed a.kept a.memory.elements (ap (λ (p : PreferenceMemory). p.settled) left.prefs_are) sound.kept_up;
       kept_ids = refl;
       past_named = sound.past_named;

@@ -44,6 +44,7 @@ pub fn decide(
     ensures told { IfOk result (λ decision. IsTold parts.old.memory.elements parts.new.memory.elements decision.changes) }
     ensures rules { parts.new.rules ≡ parts.old.rules }
     ensures settings { parts.new.settings ≡ parts.old.settings }
+    ensures live { parts.new.live.told ≡ parts.old.live.told }
     ensures sound { OnOk result (IsSound parts.new) }
 {
     let end = walk_on(alloc, parts)?;
@@ -67,6 +68,7 @@ fn follow(
         → IfOk result (λ decision. decision.halted ≡ (decision_step s (map removed_seen end.removed) (decided_seen end.decided)).halted) }
     ensures told { IfOk result (λ decision. IsTold parts.old.memory.elements parts.new.memory.elements decision.changes) }
     ensures kept { (parts.new.rules ≡ parts.old.rules) × (parts.new.settings ≡ parts.old.settings) }
+    ensures live { parts.new.live.told ≡ parts.old.live.told }
     ensures sound { OnOk result (IsSound parts.new) }
 {
     let WalkEnd { decided, removed } = end;
@@ -97,6 +99,7 @@ fn meet(
     ensures limit { (s : AgentOf) → Stands parts.old s → IfOk result (λ decision. decision.halted ≡ (impasse_step s (map removed_seen removed) why items).halted) }
     ensures told { IfOk result (λ decision. IsTold parts.old.memory.elements parts.new.memory.elements decision.changes) }
     ensures kept { (parts.new.rules ≡ parts.old.rules) × (parts.new.settings ≡ parts.old.settings) }
+    ensures live { parts.new.live.told ≡ parts.old.live.told }
     ensures sound { OnOk result (IsSound parts.new) }
 {
     if parts.goals.list().len() < MOST_GOALS {

@@ -37,6 +37,7 @@ pub fn end_decision(
         → GoesStep parts.old.settings.watch mid_line.old (with_decision (line_event line ∷ []) (settled_from s (map removed_seen removed))) parts.new mid_line.new out.old out.new result }
     ensures told { IfOk result (λ changes. IsTold parts.old.memory.elements parts.new.memory.elements changes) }
     ensures left { IsLeft parts.old parts.new }
+    ensures live { parts.new.live.told ≡ parts.old.live.told }
     ensures sound { OnOk result (IsSound parts.new) }
 {
     let settled = settle(alloc, parts, removed)?;

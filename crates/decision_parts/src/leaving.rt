@@ -36,6 +36,7 @@ pub fn walk_on(alloc: Global, parts: &mut Parts) -> Result<WalkEnd, NoMemory>
     ensures known { IfOk result (λ end. IsDecidedKnown parts.old.table (decided_seen end.decided)) }
     ensures removed_known { IfOk result (λ end. AreEventsKnown parts.old.table (removal_events (map removed_seen end.removed))) }
     ensures kept { (parts.new.table ≡ parts.old.table) × (parts.new.rules ≡ parts.old.rules) × (parts.new.memory ≡ parts.old.memory) × (parts.new.settings ≡ parts.old.settings) }
+    ensures live { parts.new.live.told ≡ parts.old.live.told }
     ensures sound { OnOk result (IsToSettle parts.new) }
 {
     cuts_remove();

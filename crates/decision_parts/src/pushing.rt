@@ -27,6 +27,7 @@ pub fn push_goal(
     ensures pushes { (s : AgentOf) → Stands parts.old s → PushesGoal s why items parts.new result }
     ensures goal { IfOk result (λ goal. goal ≡ Sym.Ident 83 (last_of parts.old.letters 83 + 1)) }
     ensures kept { (parts.new.table ≡ parts.old.table) × (parts.new.rules ≡ parts.old.rules) × (parts.new.memory ≡ parts.old.memory) × (parts.new.settings ≡ parts.old.settings) }
+    ensures live { parts.new.live.told ≡ parts.old.live.told }
     ensures sound { OnOk result (IsToSettle parts.new) }
 {
     dependencies_grow();

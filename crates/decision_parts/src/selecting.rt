@@ -42,6 +42,7 @@ pub fn select(
     ensures limit { IfOk result (λ decision. decision.halted ≡ false) }
     ensures told { IfOk result (λ decision. IsTold parts.old.memory.elements parts.new.memory.elements decision.changes) }
     ensures kept { (parts.new.rules ≡ parts.old.rules) × (parts.new.settings ≡ parts.old.settings) }
+    ensures live { parts.new.live.told ≡ parts.old.live.told }
     ensures sound { OnOk result (IsSound parts.new) }
 {
     let name = operator_name(alloc, &parts.table, &parts.memory, operator)?;
@@ -79,6 +80,7 @@ pub fn make_substate(
     ensures limit { IfOk result (λ decision. decision.halted ≡ false) }
     ensures told { IfOk result (λ decision. IsTold parts.old.memory.elements parts.new.memory.elements decision.changes) }
     ensures kept { (parts.new.rules ≡ parts.old.rules) × (parts.new.settings ≡ parts.old.settings) }
+    ensures live { parts.new.live.told ≡ parts.old.live.told }
     ensures sound { OnOk result (IsSound parts.new) }
 {
     let (cycle, below) = (parts.cycles, parts.goals.list().len());
@@ -112,6 +114,7 @@ pub fn halt_at_limit(
     ensures limit { IfOk result (λ decision. decision.halted ≡ true) }
     ensures told { IfOk result (λ decision. IsTold parts.old.memory.elements parts.new.memory.elements decision.changes) }
     ensures kept { (parts.new.rules ≡ parts.old.rules) × (parts.new.settings ≡ parts.old.settings) }
+    ensures live { parts.new.live.told ≡ parts.old.live.told }
     ensures sound { OnOk result (IsSound parts.new) }
 {
     let changes = end_decision(

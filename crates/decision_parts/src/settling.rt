@@ -25,6 +25,7 @@ pub fn settle(alloc: Global, parts: &mut Parts, removed: List<Removed>) -> Resul
     ensures told { IfOk result (λ settled. IsTold parts.old.memory.elements parts.new.memory.elements settled.changes) }
     ensures known { IfOk result (λ settled. AreEventsKnown parts.new.table (settled_events settled)) }
     ensures left { IsLeft parts.old parts.new }
+    ensures live { parts.new.live.told ≡ parts.old.live.told }
     ensures sound { IfOk result (λ _. IsSound parts.new) }
 {
     removals_are_nested();

@@ -9,7 +9,6 @@ ghost use Rattle.wave_parts.specs.Seen.{IsSound, IsToSettle};
 ghost use Rattle.wave_parts.specs.Stands.{Stands};
 
 use decision_walk::{Decided, walk, walks_keep_goals};
-use live_firings::leave_goals;
 use row_laws::rows_fit_decisions;
 use soar_decide::View;
 use soar_sym::NoMemory;
@@ -26,6 +25,7 @@ pub fn walk_goals(alloc: Global, parts: &mut Parts) -> Result<Decided, NoMemory>
     ensures fewer { OnOk result (length parts.new.goals ≤ length parts.old.goals) }
     ensures known { IfOk result (λ decided. IsDecidedKnown parts.old.table (decided_seen decided)) }
     ensures kept { (parts.new.table ≡ parts.old.table) × (parts.new.rules ≡ parts.old.rules) × (parts.new.memory ≡ parts.old.memory) × (parts.new.settings ≡ parts.old.settings) }
+    ensures live { parts.new.live.told ≡ parts.old.live.told }
     ensures sound { OnOk result (IsToSettle parts.new) }
 {
     rows_fit_decisions();
@@ -40,7 +40,7 @@ pub fn walk_goals(alloc: Global, parts: &mut Parts) -> Result<Decided, NoMemory>
     };
     let decided = walk(&view, &mut parts.goals)?;
     let left = parts.goals.list().len();
-    leave_goals(left + 1, &mut parts.prefs, &mut parts.live);
+    parts.live.leave_goals(left + 1, &mut parts.prefs);
     parts.depends.cut(left - 1);
     Ok(decided)
 }

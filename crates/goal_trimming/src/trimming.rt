@@ -12,7 +12,7 @@ use crate::broken::highest_broken;
 use dependency_tables::Dependencies;
 use input_memory::Inputs;
 use kept_triples::Kept;
-use live_firings::{Live, leave_goals};
+use live_firings::LiveFirings;
 use settle_changes::{changes_are_tracked, rest_is_kept, settle_changes};
 use soar_goals::Goals;
 use soar_prefs::Prefs;
@@ -34,7 +34,7 @@ pub fn trim(
     prefs: &mut Prefs,
     inputs: &mut Inputs,
     changed: &mut List<Triple>,
-    live: &mut List<Live>,
+    live: &mut LiveFirings,
     kept: &mut Kept,
     touched: &mut List<Triple>,
     memory: &Memory,
@@ -42,14 +42,15 @@ pub fn trim(
     requires fits { suc (length depends.old) ≡ length goals.old }
     requires tracked { IsTracked prefs.old inputs.old changed.old kept.old }
     requires doubted { AreDoubted depends.old memory.now.elements kept.old.triples doubted.now }
-    ensures trims { let old = held_by goals.old depends.old prefs.old inputs.old live.old in
-        let new = held_by goals.new depends.new prefs.new inputs.new live.new in
+    ensures trims { let old = held_by goals.old depends.old prefs.old inputs.old live.old.list in
+        let new = held_by goals.new depends.new prefs.new inputs.new live.new.list in
         (history : ListOf RecordedFiring) → AreDependencies history old → OnOk result (Trims history memory.now.elements old new (kept_held new)) }
-    ensures keeps { OnOk result (KeepsFirst (held_by goals.old depends.old prefs.old inputs.old live.old) (held_by goals.new depends.new prefs.new inputs.new live.new)) }
+    ensures keeps { OnOk result (KeepsFirst (held_by goals.old depends.old prefs.old inputs.old live.old.list) (held_by goals.new depends.new prefs.new inputs.new live.new.list)) }
     ensures rest { OnOk result (IsAtRest goals.new prefs.new.rows inputs.new kept.new) }
     ensures taken { OnOk result (prefs.new.settled ≡ prefs.new.rows) }
     ensures changed { OnOk result (changed.new ≡ []) }
     ensures touched { OnOk result (GrowsBy touched.old touched.new kept.old kept.new) }
+    ensures told { live.new.told ≡ live.old.told }
     ensures whole { OnOk result (AreDoubted depends.new memory.now.elements kept.new.triples []) }
 {
     rest_is_kept();
@@ -70,16 +71,17 @@ fn remove_from(
     goals: &mut Goals,
     depends: &mut Dependencies,
     prefs: &mut Prefs,
-    live: &mut List<Live>,
+    live: &mut LiveFirings,
 )
     requires substate { 2 ≤ depth }
     requires there { depth ≤ length goals.old }
     ensures goals { goals.new ≡ take (depth - 1) goals.old }
     ensures depends { depends.new ≡ take (depth - 2) depends.old }
-    ensures rows { prefs.new ≡ record prefs.old { rows = without_firings prefs.old.rows (numbers_of (live_from depth (map live_seen live.old))) } }
-    ensures live { map live_seen live.new ≡ live_above depth (map live_seen live.old) }
+    ensures rows { prefs.new ≡ record prefs.old { rows = without_firings prefs.old.rows (numbers_of (live_from depth (map live_seen live.old.list))) } }
+    ensures live { map live_seen live.new.list ≡ live_above depth (map live_seen live.old.list) }
+    ensures told { live.new.told ≡ live.old.told }
 {
     goals.cut(depth);
     depends.cut(depth - 2);
-    leave_goals(depth, prefs, live);
+    live.leave_goals(depth, prefs);
 }

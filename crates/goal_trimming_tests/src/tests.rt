@@ -9,7 +9,7 @@ use dependency_tables::Dependencies;
 use goal_trimming::trim;
 use input_memory::Inputs;
 use kept_triples::Kept;
-use live_firings::{Live, leave_goals};
+use live_firings::{Live, LiveFirings};
 use settle_changes::changes_are_tracked;
 use soar_goals::Goals;
 use soar_prefs::Prefs;
@@ -27,7 +27,7 @@ struct Scene {
     doubted: List<u32>,
     prefs: Prefs,
     inputs: Inputs,
-    live: List<Live>,
+    live: LiveFirings,
     memory: Memory,
 }
 
@@ -117,8 +117,8 @@ fn inputs_of(alloc: Global, triples: &[Triple]) -> Result<Inputs, NoMemory> {
 }
 
 /// Firings, each with the depth of its match goal.
-fn live_of(alloc: Global, firings: &[(u64, usize)]) -> Result<List<Live>, NoMemory> {
-    let mut live = List::new(alloc);
+fn live_of(alloc: Global, firings: &[(u64, usize)]) -> Result<LiveFirings, NoMemory> {
+    let mut live = LiveFirings::new(alloc);
     for (number, depth) in firings {
         live.push(Live {
             number: *number,
@@ -229,16 +229,19 @@ fn trim_scene(alloc: Global, scene: &mut Scene) -> Result<Kept, NoMemory>
 }
 
 /// Whether these firings are live, in order.
-fn are_live(live: &List<Live>, numbers: &[u64]) -> bool {
-    if live.len() != numbers.len() {
-        return false;
-    }
-    for (firing, number) in live.as_slice().iter().zip(numbers) {
-        if firing.number != *number {
-            return false;
+fn are_live(live: &LiveFirings, numbers: &[u64]) -> bool {
+    let mut left = numbers.iter();
+    for firing in live.all() {
+        match left.next() {
+            Some(number) => {
+                if *number != firing.number {
+                    return false;
+                }
+            }
+            None => return false,
         }
     }
-    true
+    left.next().is_none()
 }
 
 /// Whether the rows are of these firings, in order.
@@ -307,7 +310,7 @@ fn a_goal_whose_element_is_gone_goes(rt: HostRuntime) -> Result<(), Fail> {
 /// Whether the firings from depth 3 on go with their instance-supported rows alone.
 fn firings_leave(alloc: Global) -> Result<bool, NoMemory> {
     let mut scene = four_deep(alloc, [1, 1, 1])?;
-    leave_goals(3, &mut scene.prefs, &mut scene.live);
+    scene.live.leave_goals(3, &mut scene.prefs);
     Ok(are_live(&scene.live, &[2, 4]) && has_rows_of(&scene.prefs, alloc, &[1, 4, 5])?)
 }
 

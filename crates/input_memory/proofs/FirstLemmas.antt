@@ -1,56 +1,60 @@
 -- The first number under a key.
-use Rattle.std.proofs.Common.{◌≡◌, ℕ, ◌^◌, ◌<◌, ◌≤◌, true, false, [], ◌∷◌, IfSome, is_some, slice_get, refl, sym, ap, subst, ◌∙◌, arith}
+use Rattle.std.proofs.Common.{◌≡◌, ℕ, Bool, true, false, [], ◌∷◌, IfSome, is_some, slice_get, refl, sym, ap, subst, ◌∙◌, arith}
 use Rattle.std.specs.BTreeMap.{BTreeMap}
-use Rattle.std.specs.BTreeMap.Range.{IsInRange, IsEntryInRange, IsRangeOf}
-use Rattle.std.specs.Ordering.{is_gt, nat_cmp, ordering_then, ordering_reverse}
+use Rattle.std.specs.BTreeMap.Range.{IsInRange, IsEntryInRange, IsLeBy, IsRangeOf}
+use Rattle.std.specs.Cmp.{IsTotalOrder}
+use Rattle.std.specs.Map.{lookup}
+use Rattle.std.specs.Ordering.{is_eq, is_gt, nat_cmp, ordering_then, ordering_reverse}
 use Rattle.std.specs.declared.cmp.Ordering.{Ordering}
 use Rattle.std.specs.declared.cmp.Ordering.TheVariants.{Less, Equal, Greater}
-use Rattle.std.specs.declared.ops.Bound.TheVariants.{Included}
-use Rattle.input_memory.specs.declared.key.Key.{Key}
-use Rattle.input_memory.specs.Store.{Numbers, number_cmp, has}
-use Rattle.input_memory.proofs.KeyLemmas.{key_cmp, key_total, key_exact, key_tied}
+use Rattle.std.specs.declared.ops.Bound.TheVariants.{Included, Unbounded}
+use Rattle.std.proofs.lemmas.Cmp.{tied_itself}
+use Rattle.input_memory.specs.Places.{Places, place_cmp, stands}
 
-abbrev pub Under : Key → Key × ℕ → Type 0
-Under key p = IsInRange number_cmp (Included (key, 0)) (Included (key, 18446744073709551615)) p
+equal : (o : Ordering) → is_eq o ≡ true → o ≡ Equal
+equal Less h = cc
+equal Equal h = refl
+equal Greater h = cc
 
--- what stands between the ends of a key is of the key
-of_it : (key : Key) (p : Key × ℕ) → Under key p → p.0 ≡ key
-of_it key p under = key_exact p.0 key (by (key_cmp p.0 key) refl)
-  where
-    low : (o : Ordering) → key_cmp p.0 key ≡ o → is_gt (ordering_then (ordering_reverse o) (nat_cmp 0 p.1)) ≡ false
-    low o is = ap (λ x. is_gt (ordering_then x (nat_cmp 0 p.1))) (sym (key_total.antisymm key p.0 ∙ ap ordering_reverse is)) ∙ under.0
+module _ {K : Type 0} {cmp : K → K → Ordering} (total : IsTotalOrder cmp) (key : K) (map : BTreeMap (K × ℕ) (Unit {0})) (found : Places K) where
+  -- what stands from the first place of the key on
+  abbrev pub From : Type 0
+  From = IsRangeOf (place_cmp cmp) (Included (key, 0)) Unbounded map found
 
-    high : (o : Ordering) → key_cmp p.0 key ≡ o → is_gt (ordering_then o (nat_cmp p.1 (18446744073709551615))) ≡ false
-    high o is = ap (λ x. is_gt (ordering_then x (nat_cmp p.1 (18446744073709551615)))) (sym is) ∙ under.1
+  -- equal keys have the same numbers
+  alike : (a b : K) (n : ℕ) → cmp a b ≡ Equal → stands cmp map.entries (a, n) ≡ stands cmp map.entries (b, n)
+  alike a b n tied = λ i. is_some (lookup (λ k. is_eq (ordering_then (total.congr a b k.0 tied i) (nat_cmp n k.1))) map.entries)
 
-    by : (o : Ordering) → key_cmp p.0 key ≡ o → key_cmp p.0 key ≡ Equal
-    by Less is = (let bad : true ≡ false = low Less is in absurd (cc))
-    by Equal is = is
-    by Greater is = (let bad : true ≡ false = high Greater is in absurd (cc))
+  head : From → (x : (K × ℕ) × Unit {0}) (rest : Places K) → found ≡ x ∷ rest → IsEntryInRange (place_cmp cmp) (Included (key, 0)) Unbounded map x
+  head range x rest is = subst (λ es. IfSome (slice_get es 0) (IsEntryInRange (place_cmp cmp) (Included (key, 0)) Unbounded map)) is range.1
 
-under : (key : Key) (n : ℕ) → n < 2 ^ 64 → Under key (key, n)
-under key n small =
-    (ap (λ o. is_gt (ordering_then o (nat_cmp 0 n))) (key_tied key) ∙ from n, ap (λ o. is_gt (ordering_then o (nat_cmp n (18446744073709551615)))) (key_tied key) ∙ upto n (18446744073709551615) (omega (arith, small)))
-  where
-    from : (n : ℕ) → is_gt (nat_cmp 0 n) ≡ false
-    from n = grind arith
+  pub first_stands : From → (x : (K × ℕ) × Unit {0}) (rest : Places K) → found ≡ x ∷ rest → is_eq (cmp x.0.0 key) ≡ true → stands cmp map.entries (key, x.0.1) ≡ true
+  first_stands range x rest is same = sym (alike x.0.0 key x.0.1 (equal (cmp x.0.0 key) same)) ∙ ap is_some (head range x rest is).1
 
-    upto : (m n : ℕ) → m ≤ n → is_gt (nat_cmp m n) ≡ false
-    upto m n h = grind arith
+  from : (n : ℕ) → IsInRange (place_cmp cmp) (Included (key, 0)) Unbounded (key, n)
+  from n = (ap (λ o. is_gt (ordering_then o (nat_cmp 0 n))) (tied_itself total key) ∙ least n, tt)
+    where
+      least : (n : ℕ) → is_gt (nat_cmp 0 n) ≡ false
+      least n = grind arith
 
--- a range with these ends
-abbrev pub Between : Key × ℕ → Key × ℕ → BTreeMap (Key × ℕ) (Unit {0}) → Numbers → Type 0
-Between lo hi m r = IsRangeOf number_cmp (Included lo) (Included hi) m r
+  -- where the first is of a later key, none is of this one
+  pub other_stands : From → (x : (K × ℕ) × Unit {0}) (rest : Places K) → found ≡ x ∷ rest → is_eq (cmp x.0.0 key) ≡ false → (n : ℕ) → stands cmp map.entries (key, n) ≡ false
+  other_stands range x rest is other n = by (stands cmp map.entries (key, n)) refl
+    where
+      low : is_gt (ordering_then (ordering_reverse (cmp x.0.0 key)) (nat_cmp 0 x.0.1)) ≡ false
+      low = ap (λ o. is_gt (ordering_then o (nat_cmp 0 x.0.1))) (sym (total.antisymm key x.0.0)) ∙ (head range x rest is).0.0
 
-between : (key : Key) (m : BTreeMap (Key × ℕ) (Unit {0})) (r : Numbers) (lo hi : Key × ℕ) → lo ≡ (key, 0) → hi ≡ (key, 18446744073709551615) → Between lo hi m r → Between (key, 0) (key, 18446744073709551615) m r
-between key m r lo hi is_lo is_hi range = subst (λ a. Between a (key, 18446744073709551615) m r) is_lo (subst (λ b. Between lo b m r) is_hi range)
+      high : stands cmp map.entries (key, n) ≡ true → is_gt (ordering_then (cmp x.0.0 key) (nat_cmp x.0.1 n)) ≡ false
+      high there = subst (λ es. IfSome (slice_get es 0) (λ e. IsLeBy (place_cmp cmp) e.0 (key, n))) is (range.2 (key, n) (from n) there)
 
-pub first_stands : (key : Key) (m : BTreeMap (Key × ℕ) (Unit {0})) (r : Numbers) (lo hi : Key × ℕ) → lo ≡ (key, 0) → hi ≡ (key, 18446744073709551615) → Between lo hi m r → (x : (Key × ℕ) × Unit {0}) (rest : Numbers) → r ≡ x ∷ rest
-    → has m.entries (key, x.0.1) ≡ true
-first_stands key m r lo hi is_lo is_hi range x rest is =
-    let here : IsEntryInRange number_cmp (Included (key, 0)) (Included (key, 18446744073709551615)) m x
-    = subst (λ es. IfSome (slice_get es 0) (IsEntryInRange number_cmp (Included (key, 0)) (Included (key, 18446744073709551615)) m)) is (between key m r lo hi is_lo is_hi range).1 in
-    ap (λ k. has m.entries (k, x.0.1)) (sym (of_it key x.0 here.0)) ∙ ap is_some here.1
+      between : (o : Ordering) → is_eq o ≡ false → is_gt (ordering_then (ordering_reverse o) (nat_cmp 0 x.0.1)) ≡ false → is_gt (ordering_then o (nat_cmp x.0.1 n)) ≡ false → true ≡ false
+      between Less e l h = l
+      between Equal e l h = e
+      between Greater e l h = h
 
-pub none_stands : (key : Key) (m : BTreeMap (Key × ℕ) (Unit {0})) (r : Numbers) (lo hi : Key × ℕ) → lo ≡ (key, 0) → hi ≡ (key, 18446744073709551615) → Between lo hi m r → r ≡ [] → (n : ℕ) → n < 2 ^ 64 → has m.entries (key, n) ≡ false
-none_stands key m r lo hi is_lo is_hi range empty n small = ap is_some ((between key m r lo hi is_lo is_hi range).5 empty (key, n) (under key n small))
+      by : (b : Bool) → stands cmp map.entries (key, n) ≡ b → stands cmp map.entries (key, n) ≡ false
+      by true there = (let bad : true ≡ false = between (cmp x.0.0 key) other low (high there) in absurd (cc))
+      by false there = there
+
+  pub none_stands : From → found ≡ [] → (n : ℕ) → stands cmp map.entries (key, n) ≡ false
+  none_stands range empty n = ap is_some (range.5 empty (key, n) (from n))

@@ -10,8 +10,9 @@ use Rattle.soar_sym.specs.declared.symbol.Triple.{Triple}
 use Rattle.soar_sym.proofs.KeyLemmas.{triple_turned}
 use Rattle.defs_soar.specs.Values.{triple_eq}
 use Rattle.input_memory.proofs.KeyLemmas.{nat_same, nat_is}
+use Rattle.input_memory.specs.declared.index.Index.{Index}
 use Rattle.input_memory.specs.declared.key.Key.{Key}
-use Rattle.input_memory.specs.Store.{is_of, Triples, Numbers, triple_at, has, is_own, Marks, is_held, IsBefore, IsNumbered, IsStore}
+use Rattle.input_memory.specs.Store.{is_of, Triples, triple_at, has, is_own, Marks, is_held, IsBefore, IsNumbered, IsStore}
 
 apart : (m n : ℕ) → n < m → is_eq (nat_cmp m n) ≡ false
 apart m n h = grind arith
@@ -49,7 +50,7 @@ numbered_push next (e ∷ triples) triple numbered = (omega (arith, numbered.0),
 pub values_push : (next : ℕ) (triples new_triples : Triples) (triple : Triple) → IsNumbered next triples → new_triples ≡ insert_entry nat_cmp triples next triple → values_of new_triples ≡ values_of triples ++ triple ∷ []
 values_push next triples new_triples triple numbered is = ap values_of (is ∙ at_end next triples triple numbered) ∙ map-append (λ e. e.1) triples ((next, triple) ∷ [])
 
-pub stored : (triples new_triples : Triples) (numbers new_numbers : Numbers) (next later : ℕ) (triple : Triple) → IsStore triples numbers next → later ≡ next + 1 → later < 2 ^ 64 → new_triples ≡ insert_entry nat_cmp triples next triple
+pub stored : (triples new_triples : Triples) (numbers new_numbers : Index) (next later : ℕ) (triple : Triple) → IsStore triples numbers next → later ≡ next + 1 → later < 2 ^ 64 → new_triples ≡ insert_entry nat_cmp triples next triple
     → ((n : ℕ) → triple_at new_triples n ≡ cond (is_eq (nat_cmp next n)) (Some triple) (triple_at triples n)) → Marks triple next true numbers new_numbers → IsStore new_triples new_numbers later
 stored triples new_triples numbers new_numbers next later triple store next_is small is up marks = record {
   numbered = subst (λ n. IsNumbered n new_triples) (sym next_is) (subst (IsNumbered (next + 1)) (sym (is ∙ at_end next triples triple store.numbered)) (numbered_push next triples triple store.numbered));
@@ -72,7 +73,7 @@ stored triples new_triples numbers new_numbers next later triple store next_is s
     by q false h = there (is_of q.0 triple) (is_held q.0 (triple_at triples q.1))
 
 -- no triple more
-pub kept : (triples new_triples : Triples) (numbers new_numbers : Numbers) (next : ℕ) (triple : Triple) → IsStore triples numbers next → new_triples ≡ triples → Marks triple next false numbers new_numbers → IsStore new_triples new_numbers next
+pub kept : (triples new_triples : Triples) (numbers new_numbers : Index) (next : ℕ) (triple : Triple) → IsStore triples numbers next → new_triples ≡ triples → Marks triple next false numbers new_numbers → IsStore new_triples new_numbers next
 kept triples new_triples numbers new_numbers next triple store same marks =
     subst (λ es. IsStore es new_numbers next) (sym same)
     (record {
@@ -95,7 +96,7 @@ kept triples new_triples numbers new_numbers next triple store same marks =
         ap (λ o. cond (is_of q.0 triple && true) false (is_held q.0 o)) none ∙ here (is_of q.0 triple) ∙ sym (ap (is_held q.0) none)
     by q false h = there (is_of q.0 triple) (is_held q.0 (triple_at triples q.1))
 
-pub put_back : (triple : Triple) (n : ℕ) (h0 h1 h2 : Numbers) → Marks triple n true h0 h1 → Marks triple n false h1 h2 → Marks triple n false h0 h2
+pub put_back : (triple : Triple) (n : ℕ) (h0 h1 h2 : Index) → Marks triple n true h0 h1 → Marks triple n false h1 h2 → Marks triple n false h0 h2
 put_back triple n h0 h1 h2 up down q = down q ∙ ap (λ b. cond (is_own triple n q) false b) (up q) ∙ by (is_own triple n q)
   where
     by : (b : Bool) → cond b false (cond b true (has h0 q)) ≡ cond b false (has h0 q)
@@ -120,7 +121,7 @@ numbered_gone next m (e ∷ triples) numbered = by (is_eq (nat_cmp m e.0)) (numb
     by true h = numbered.2
     by false h = (numbered.0, before_gone e.0 m triples numbered.1, h)
 
-pub gone : (triples new_triples : Triples) (numbers new_numbers : Numbers) (next n : ℕ) (triple : Triple) → IsStore triples numbers next → Some triple ≡ triple_at triples n → new_triples ≡ remove_entry (is_at (nat_cmp n)) triples
+pub gone : (triples new_triples : Triples) (numbers new_numbers : Index) (next n : ℕ) (triple : Triple) → IsStore triples numbers next → Some triple ≡ triple_at triples n → new_triples ≡ remove_entry (is_at (nat_cmp n)) triples
     → ((m : ℕ) → triple_at new_triples m ≡ cond (is_eq (nat_cmp n m)) None (triple_at triples m)) → Marks triple n false numbers new_numbers → IsStore new_triples new_numbers next
 gone triples new_triples numbers new_numbers next n triple store was is up marks = record {
   numbered = subst (IsNumbered next) (sym is) (numbered_gone next n triples store.numbered);
@@ -166,10 +167,10 @@ fewer key (e ∷ triples) n held = by (is_eq (nat_cmp n e.0)) held (fewer key tr
     by false h later = omega (arith, later h)
 
 -- the triple of a number that stands under the key is one of it
-pub dropped : (triples new_triples : Triples) (numbers : Numbers) (next : ℕ) (key : Key) (n : ℕ) → IsStore triples numbers next → has numbers (key, n) ≡ true → new_triples ≡ remove_entry (is_at (nat_cmp n)) triples → without key new_triples ≡ without key triples
+pub dropped : (triples new_triples : Triples) (numbers : Index) (next : ℕ) (key : Key) (n : ℕ) → IsStore triples numbers next → has numbers (key, n) ≡ true → new_triples ≡ remove_entry (is_at (nat_cmp n)) triples → without key new_triples ≡ without key triples
 dropped triples new_triples numbers next key n store here is = ap (without key) is ∙ without_one key triples n (sym (store.found (key, n)) ∙ here)
 
-pub dropped_fewer : (triples new_triples : Triples) (numbers : Numbers) (next : ℕ) (key : Key) (n : ℕ) → IsStore triples numbers next → has numbers (key, n) ≡ true → new_triples ≡ remove_entry (is_at (nat_cmp n)) triples → length new_triples < length triples
+pub dropped_fewer : (triples new_triples : Triples) (numbers : Index) (next : ℕ) (key : Key) (n : ℕ) → IsStore triples numbers next → has numbers (key, n) ≡ true → new_triples ≡ remove_entry (is_at (nat_cmp n)) triples → length new_triples < length triples
 dropped_fewer triples new_triples numbers next key n store here is = subst (λ es. length es < length triples) (sym is) (fewer key triples n (sym (store.found (key, n)) ∙ here))
 
 -- where no number stands under the key, no triple is of it
@@ -191,8 +192,8 @@ none_of key next (e ∷ triples) numbered none =
     by n less true same = ap (is_held key) (ap (triple_at triples) (nat_is n e.0 (sym (nat_same n e.0) ∙ same)) ∙ absent_before e.0 triples numbered.1)
     by n less false same = sym (ap (λ b. is_held key (cond b (Some e.1) (triple_at triples n))) same) ∙ none n less
 
-pub none_there : (triples : Triples) (numbers : Numbers) (next : ℕ) (key : Key) → IsStore triples numbers next → ((n : ℕ) → n < 2 ^ 64 → has numbers (key, n) ≡ false) → list_any (is_of key) (values_of triples) ≡ false
-none_there triples numbers next key store none = none_of key next triples store.numbered (λ n less. sym (store.found (key, n)) ∙ none n (omega (arith, less, store.small)))
+pub none_there : (triples : Triples) (numbers : Index) (next : ℕ) (key : Key) → IsStore triples numbers next → ((n : ℕ) → has numbers (key, n) ≡ false) → list_any (is_of key) (values_of triples) ≡ false
+none_there triples numbers next key store none = none_of key next triples store.numbered (λ n less. sym (store.found (key, n)) ∙ none n)
 
 -- what no element passes leaves out none
 all_kept : (p : Triple → Bool) (ts : List Triple) → list_any p ts ≡ false → filter (λ t. not (p t)) ts ≡ ts
@@ -203,7 +204,7 @@ all_kept p (t ∷ ts) none = by (p t) none (all_kept p ts)
     by true h later = cc
     by false h later = ap (λ us. t ∷ us) (later h)
 
-pub all_dropped : (triples : Triples) (numbers : Numbers) (next : ℕ) (key : Key) → IsStore triples numbers next → ((n : ℕ) → n < 2 ^ 64 → has numbers (key, n) ≡ false) → without key triples ≡ values_of triples
+pub all_dropped : (triples : Triples) (numbers : Index) (next : ℕ) (key : Key) → IsStore triples numbers next → ((n : ℕ) → has numbers (key, n) ≡ false) → without key triples ≡ values_of triples
 all_dropped triples numbers next key store none = all_kept (is_of key) (values_of triples) (none_there triples numbers next key store none)
 
 -- where a number stands under the key, some triple is of it
@@ -220,7 +221,7 @@ some_of key (e ∷ triples) n held = by (is_eq (nat_cmp n e.0)) held (some_of ke
     by true h later = ap (λ b. b || list_any (is_of key) (values_of triples)) h
     by false h later = ap (λ b. is_of key e.1 || b) (later h) ∙ right (is_of key e.1)
 
-pub some_there : (triples : Triples) (numbers : Numbers) (next : ℕ) (key : Key) (n : ℕ) → IsStore triples numbers next → has numbers (key, n) ≡ true → list_any (is_of key) (values_of triples) ≡ true
+pub some_there : (triples : Triples) (numbers : Index) (next : ℕ) (key : Key) (n : ℕ) → IsStore triples numbers next → has numbers (key, n) ≡ true → list_any (is_of key) (values_of triples) ≡ true
 some_there triples numbers next key n store here = some_of key triples n (sym (store.found (key, n)) ∙ here)
 
 -- equality of triples is the same from both sides

@@ -25,7 +25,7 @@ impl Model for Inputs {
 
     ghost view = { λ p. values_of p.store.triples.entries };
 
-    ghost invariant = { λ p. IsStore p.store.triples.entries p.store.numbers.entries p.store.next };
+    ghost invariant = { λ p. IsStore p.store.triples.entries p.store.numbers p.store.next };
 }
 
 impl Inputs {
@@ -79,7 +79,7 @@ impl Inputs {
     pub fn of_id(&self, alloc: Global, id: Sym) -> Result<List<Triple>, NoMemory>
         ensures { IfOk result (λ found. found ≡ filter (λ t. symbol_eq t.id id) self.now) }
     {
-        self.store.of_key(alloc, Key::Id(id))
+        self.store.of_id(alloc, id)
     }
 
     /// Copies of all inputs, in order of adding.

@@ -1,7 +1,7 @@
 use soar_sym::{Sym, Triple};
 
 /// By what triples are found.
-#[derive(Clone, Copy, PartialEq, Eq, PartialOrd, Ord)]
+#[derive(Clone, Copy)]
 pub enum Key {
     /// Their identifier.
     Id(Sym),

@@ -4,6 +4,7 @@
 mod index;
 mod inputs;
 mod key;
+mod places;
 mod store;
 
 pub use inputs::Inputs;

@@ -4,11 +4,12 @@ ghost use Rattle.std.specs.BTreeMap.{is_at};
 ghost use Rattle.std.specs.List.{list_any};
 ghost use Rattle.std.specs.Map.{values_of, remove_entry};
 ghost use Rattle.std.specs.Ordering.{nat_cmp};
+ghost use Rattle.soar_sym.specs.Equality.{symbol_eq};
 ghost use Rattle.input_memory.specs.Store.{IsStore, is_of};
 
 use crate::index::{self, Index};
 use crate::key::Key;
-use soar_sym::{List, NoMemory, Triple};
+use soar_sym::{List, NoMemory, Sym, Triple};
 use std::alloc::Global;
 use std::collections::BTreeMap;
 
@@ -24,19 +25,19 @@ impl Store {
     /// No triples. It takes no memory.
     pub fn new(alloc: Global) -> Store
         ensures triples { result.triples.entries ≡ [] }
-        ensures sound { IsStore result.triples.entries result.numbers.entries result.next }
+        ensures sound { IsStore result.triples.entries result.numbers result.next }
     {
         Store {
             triples: BTreeMap::new(alloc),
-            numbers: BTreeMap::new(alloc),
+            numbers: index::empty(alloc),
             next: 0,
         }
     }
 
     /// Adds a triple. That 2^64 - 1 triples were added before counts as want of memory.
     pub fn add(&mut self, triple: Triple) -> Result<(), NoMemory>
-        requires { IsStore self.old.triples.entries self.old.numbers.entries self.old.next }
-        ensures sound { IsStore self.new.triples.entries self.new.numbers.entries self.new.next }
+        requires { IsStore self.old.triples.entries self.old.numbers self.old.next }
+        ensures sound { IsStore self.new.triples.entries self.new.numbers self.new.next }
         ensures ok { OnOk result (values_of self.new.triples.entries ≡ values_of self.old.triples.entries ++ triple ∷ []) }
         ensures err { OnErr result (self.new.triples.entries ≡ self.old.triples.entries) }
     {
@@ -59,8 +60,8 @@ impl Store {
 
     /// Takes a triple away.
     fn take(&mut self, number: u64)
-        requires { IsStore self.old.triples.entries self.old.numbers.entries self.old.next }
-        ensures sound { IsStore self.new.triples.entries self.new.numbers.entries self.new.next }
+        requires { IsStore self.old.triples.entries self.old.numbers self.old.next }
+        ensures sound { IsStore self.new.triples.entries self.new.numbers self.new.next }
         ensures triples { self.new.triples.entries ≡ remove_entry (is_at (nat_cmp number)) self.old.triples.entries }
     {
         if let Some(triple) = self.triples.remove(&number) {
@@ -70,8 +71,8 @@ impl Store {
 
     /// Takes the triples of a key away.
     pub fn drop_key(&mut self, key: Key)
-        requires { IsStore self.old.triples.entries self.old.numbers.entries self.old.next }
-        ensures sound { IsStore self.new.triples.entries self.new.numbers.entries self.new.next }
+        requires { IsStore self.old.triples.entries self.old.numbers self.old.next }
+        ensures sound { IsStore self.new.triples.entries self.new.numbers self.new.next }
         ensures triples { values_of self.new.triples.entries ≡ filter (λ t. not (is_of key t)) (values_of self.old.triples.entries) }
     {
         'triples: while let Some(number) = index::first(&self.numbers, key) {
@@ -81,7 +82,7 @@ impl Store {
 
     /// Whether there is a triple of the key.
     pub fn has_key(&self, key: Key) -> bool
-        requires { IsStore self.now.triples.entries self.now.numbers.entries self.now.next }
+        requires { IsStore self.now.triples.entries self.now.numbers self.now.next }
         ensures { result ≡ list_any (is_of key) (values_of self.now.triples.entries) }
     {
         match index::first(&self.numbers, key) {
@@ -101,11 +102,11 @@ impl Store {
         Ok(all)
     }
 
-    /// Copies of the triples of a key, in order of adding.
-    pub fn of_key(&self, alloc: Global, key: Key) -> Result<List<Triple>, NoMemory>
-        requires { IsStore self.now.triples.entries self.now.numbers.entries self.now.next }
-        ensures { IfOk result (λ found. found ≡ filter (is_of key) (values_of self.now.triples.entries)) }
+    /// Copies of the triples of an identifier, in order of adding.
+    pub fn of_id(&self, alloc: Global, id: Sym) -> Result<List<Triple>, NoMemory>
+        requires { IsStore self.now.triples.entries self.now.numbers self.now.next }
+        ensures { IfOk result (λ found. found ≡ filter (λ t. symbol_eq t.id id) (values_of self.now.triples.entries)) }
     {
-        index::triples_of(alloc, &self.numbers, &self.triples, key)
+        index::triples_of(alloc, &self.numbers, &self.triples, id)
     }
 }

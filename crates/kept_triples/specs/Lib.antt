@@ -1,4 +1,5 @@
 pub mod Counts
 pub mod Kept
+pub mod Keys
 pub mod Looking
 pub mod Owned

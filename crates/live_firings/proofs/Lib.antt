@@ -1,1 +1,5 @@
-pub mod LivingLemmas
+pub mod DropLemmas
+pub mod FoundLemmas
+pub mod PlaceLemmas
+pub mod StoreLemmas
+pub mod ToldLemmas

@@ -1,8 +1,11 @@
-//! Firings that were not retracted yet, and what goes with those of goals.
+//! Firings that were not retracted yet, kept so that each call costs what it finds.
 #![tactic(auto)]
 
-mod leaving;
+mod firings;
+mod index;
 mod live;
+mod reading;
+mod store;
 
-pub use leaving::leave_goals;
-pub use live::Live;
+pub use firings::{LiveFirings, News};
+pub use live::{Live, copy_of};

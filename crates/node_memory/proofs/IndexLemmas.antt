@@ -13,9 +13,9 @@ use Rattle.defs_match.specs.Laws.{IsIn}
 use Rattle.soar_sym.specs.declared.symbol.Sym.{Sym}
 use Rattle.soar_wm.specs.declared.element.Element.{Element}
 use Rattle.soar_wm.specs.WorkingMemory.{has_tag}
-use Rattle.node_memory.specs.declared.index.ElementKey.{ElementKey}
+use Rattle.node_memory.specs.declared.key.ElementKey.{ElementKey}
 use Rattle.node_memory.specs.declared.index.Marks.{Marks}
-use Rattle.node_memory.specs.contracts.index.ElementKeyOrd.TheImpl.Laws as laws
+use Rattle.node_memory.specs.contracts.key.ElementKeyOrd.TheImpl.Laws as laws
 use Rattle.node_memory.specs.Entries.{marks_of, element_at, elements_in}
 use Rattle.node_memory.specs.Keys.{key_cmp, key_of, meets, key_meets}
 use Rattle.node_memory.proofs.KeyLemmas.{sym_cmp}

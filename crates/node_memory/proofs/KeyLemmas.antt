@@ -13,7 +13,7 @@ use Rattle.soar_sym.specs.declared.symbol.Sym.TheVariants.{Ident, Word, Int}
 use Rattle.soar_sym.specs.contracts.symbol.SymOrd.TheImpl as ord
 use Rattle.soar_sym.specs.contracts.symbol.SymOrd.TheImpl.Laws as laws
 use Rattle.soar_sym.proofs.KeyLemmas.{symbol_same, symbol_derived}
-use Rattle.node_memory.specs.declared.index.ElementKey.{ElementKey}
+use Rattle.node_memory.specs.declared.key.ElementKey.{ElementKey}
 use Rattle.node_memory.specs.declared.index.Marks.{Marks}
 use Rattle.node_memory.specs.Keys.{key_cmp, is_other, value_beside, key_meets, or_least, least_key, entries_from}
 use Rattle.node_memory.specs.Runs.{front_while}

@@ -1,7 +1,7 @@
 -- Elements as entries of a map: under a key stands what the element has beside it.
 use Rattle.std.specs.Prelude.{List, map}
 use Rattle.soar_wm.specs.declared.element.Element.{Element}
-use Rattle.node_memory.specs.declared.index.ElementKey.{ElementKey}
+use Rattle.node_memory.specs.declared.key.ElementKey.{ElementKey}
 use Rattle.node_memory.specs.declared.index.Marks.{Marks}
 
 abbrev pub marks_of : Element → Marks

@@ -6,9 +6,9 @@ use Rattle.soar_sym.specs.Equality.{symbol_eq}
 use Rattle.soar_sym.specs.declared.symbol.Sym.{Sym}
 use Rattle.soar_sym.specs.declared.symbol.Sym.TheVariants.{Ident}
 use Rattle.soar_wm.specs.declared.element.Element.{Element}
-use Rattle.node_memory.specs.declared.index.ElementKey.{ElementKey}
+use Rattle.node_memory.specs.declared.key.ElementKey.{ElementKey}
 use Rattle.node_memory.specs.declared.index.Marks.{Marks}
-use Rattle.node_memory.specs.contracts.index.ElementKeyOrd.TheImpl as ord
+use Rattle.node_memory.specs.contracts.key.ElementKeyOrd.TheImpl as ord
 
 abbrev pub key_cmp : ElementKey → ElementKey → Ordering
 key_cmp = (ord.ghosts).cmp

@@ -3,5 +3,6 @@ pub mod Entries
 pub mod Held
 pub mod Keys
 pub mod Memories
+pub mod Packed
 pub mod Runs
 pub mod Symbols

@@ -9,20 +9,12 @@ ghost use Rattle.node_memory.specs.Entries.{marks_of, element_at, elements_in};
 ghost use Rattle.node_memory.specs.Keys.{key_cmp, key_of, is_other, value_beside, meets, key_meets, entries_from, or_least, least_key};
 ghost use Rattle.node_memory.specs.Runs.{front_while};
 
+use crate::key::PackedKey;
 use soar_sym::{NoMemory, Sym, is_symbol};
 use soar_wm::Element;
 use std::alloc::Global;
 use std::collections::BTreeMap;
 use std::marker::Model;
-
-/// The key of an element: by identifier, then attribute, then value, then tag.
-#[derive(Clone, Copy, PartialEq, Eq, PartialOrd, Ord)]
-pub struct ElementKey {
-    pub id: Sym,
-    pub attr: Sym,
-    pub value: Sym,
-    pub tag: u32,
-}
 
 /// What an element has beside its key: whether it is marked as an acceptable operator, and whether its identifier is a state.
 #[derive(Clone, Copy)]
@@ -35,7 +27,7 @@ pub struct Marks {
 /// and what a look-up costs with that and what it finds.
 #[derive(Drop)]
 pub struct ElementIndex {
-    by_key: BTreeMap<ElementKey, Marks>,
+    by_key: BTreeMap<PackedKey, Marks>,
 }
 
 impl Model for ElementIndex {
@@ -49,15 +41,10 @@ impl Model for ElementIndex {
 }
 
 /// The key of an element.
-fn key_of(e: &Element) -> ElementKey
+fn key_of(e: &Element) -> PackedKey
     ensures { result ≡ key_of e.now }
 {
-    ElementKey {
-        id: e.id,
-        attr: e.attr,
-        value: e.value,
-        tag: e.tag,
-    }
+    PackedKey::new(e.id, e.attr, e.value, e.tag)
 }
 
 /// What an element has beside its key.
@@ -71,9 +58,10 @@ fn marks_of(e: &Element) -> Marks
 }
 
 /// The element of a key.
-fn element_at(key: &ElementKey, marks: &Marks) -> Element
+fn element_at(key: &PackedKey, marks: &Marks) -> Element
     ensures { result ≡ element_at (key.now, marks.now) }
 {
+    let key = key.key();
     Element {
         tag: key.tag,
         id: key.id,
@@ -85,7 +73,7 @@ fn element_at(key: &ElementKey, marks: &Marks) -> Element
 }
 
 /// Copies of the elements of a map.
-fn copy_all(alloc: Global, by_key: &BTreeMap<ElementKey, Marks>) -> Result<Vec<Element>, NoMemory>
+fn copy_all(alloc: Global, by_key: &BTreeMap<PackedKey, Marks>) -> Result<Vec<Element>, NoMemory>
     ensures { IfOk result (λ v. v.items ≡ elements_in by_key.now.entries) }
 {
     let mut out = Vec::new(alloc);
@@ -170,15 +158,10 @@ fn or_least(asked: Option<Sym>) -> Sym
 }
 
 /// The least key of an identifier, and of an attribute and of a value where they are asked for.
-fn least_key(id: Sym, attr: Option<Sym>, value: Option<Sym>) -> ElementKey
+fn least_key(id: Sym, attr: Option<Sym>, value: Option<Sym>) -> PackedKey
     ensures { result ≡ least_key id attr value }
 {
-    ElementKey {
-        id,
-        attr: or_least(attr),
-        value: or_least(value),
-        tag: 0,
-    }
+    PackedKey::new(id, or_least(attr), or_least(value), 0)
 }
 
 /// The value that is asked for, where an attribute is.
@@ -192,16 +175,17 @@ fn value_beside(attr: Option<Sym>, value: Option<Sym>) -> Option<Sym>
 }
 
 /// Whether a key is of an identifier, and of an attribute and of a value where they are asked for.
-fn key_meets(key: &ElementKey, id: Sym, attr: Option<Sym>, value: Option<Sym>) -> bool
+fn key_meets(key: &PackedKey, id: Sym, attr: Option<Sym>, value: Option<Sym>) -> bool
     ensures { result ≡ key_meets id attr value key.now }
 {
+    let key = key.key();
     is_symbol(id, key.id) && !is_other(attr, key.attr) && !is_other(value, key.value)
 }
 
 /// The elements of the keys that are not below the least, up to the first that does not meet.
 fn run_of(
     alloc: Global,
-    by_key: &BTreeMap<ElementKey, Marks>,
+    by_key: &BTreeMap<PackedKey, Marks>,
     id: Sym,
     attr: Option<Sym>,
     value: Option<Sym>,

@@ -3,6 +3,7 @@
 
 mod index;
 mod indexing;
+mod key;
 mod memory;
 mod symbols;
 

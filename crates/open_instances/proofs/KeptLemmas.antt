@@ -1,19 +1,19 @@
 -- What is kept stays so as the conflict set changes.
-use Rattle.std.proofs.Common.{◌≡◌, inl, inr, refl, sym, ap, ◌∙◌, subst, Bool, true, false, cond, ◌||◌, nat_lt, List, [], ◌∷◌, Option, Some, None, unwrap_or}
+use Rattle.std.proofs.Common.{◌≡◌, inl, inr, refl, sym, ap, ◌∙◌, subst, Bool, true, false, cond, ◌||◌, nat_lt, ℕ, List, [], ◌∷◌, Option, Some, None, unwrap_or}
 use Rattle.std.specs.BTreeMap as map
 use Rattle.std.specs.BTreeMap.{BTreeMap}
 use Rattle.std.specs.BTreeSet as set
 use Rattle.std.specs.BTreeSet.{BTreeSet}
 use Rattle.std.specs.List.{list_any}
-use Rattle.std.specs.Map.{lookup}
+use Rattle.std.specs.Map.{keys_of, lookup}
 use Rattle.defs_match.specs.Laws.{IsIn}
 use Rattle.defs_match.specs.declared.instance.Instance.{Instance}
 use Rattle.match_changes.specs.Told.{AreTold, IsTheOne, key_of}
 use Rattle.match_changes.specs.declared.key.MatchKey.{MatchKey}
-use Rattle.open_instances.specs.Keeping.{AreLooked, Counts, Fits, IsKept, IsKeptBut, IsLookedIn, gone_of, open_of}
-use Rattle.open_instances.specs.Keys.{alike, count_in, key_cmp, times}
+use Rattle.open_instances.specs.Keeping.{AreLooked, AreLookedBut, Fits, IsLookedIn, gone_of, open_of}
+use Rattle.open_instances.specs.Keys.{alike, count_in, key_cmp}
 use Rattle.open_instances.specs.declared.kept.Kept.{Kept}
-use Rattle.open_instances.proofs.KeyLemmas.{alike_by, alike_same, in_any}
+use Rattle.open_instances.proofs.KeyLemmas.{alike_back, alike_by, alike_same, in_any}
 
 neither : (a b : Bool) → (a || b) ≡ false → (a ≡ false) × (b ≡ false)
 neither true b h = absurd (cc)
@@ -32,15 +32,15 @@ stays_one before after keys q (Some i) told apart one = ((told i (λ k. apart (s
 pub told_fits : (old : Kept) (touched : BTreeSet MatchKey) (keys : List MatchKey)
     → ((q : MatchKey) → set.contains key_cmp touched q ≡ (list_any (λ k. alike k q) keys || set.contains key_cmp old.touched q))
     → (before after : List Instance) → AreTold before after keys → Fits before old → Fits after (record old { touched = touched })
-told_fits old touched keys grown before after told fits fresh = record { counted = kept.counted; looked = looked }
+told_fits old touched keys grown before after told fits fresh = looked
   where
-    kept : IsKept before old
+    kept : AreLooked before old
     kept = fits fresh
 
     looked : AreLooked after (record old { touched = touched })
     looked q h =
         let apart = neither (list_any (λ k. alike k q) keys) (set.contains key_cmp old.touched q) (sym (grown q) ∙ h) in
-        let was : IsLookedIn before old q = kept.looked q apart.1 in
+        let was : IsLookedIn before old q = kept q apart.1 in
         record { found = was.found; is = stays_one before after keys q was.found told (not_told q keys apart.0) was.is; open_is = was.open_is; gone_is = was.gone_is }
 
 -- ---- all anew
@@ -54,31 +54,34 @@ any_in (x ∷ is) q i (inr h) e = by (alike (key_of x) q) (list_any (λ i. alike
     by true b h = refl
     by false b h = h
 
-pub renewed : (instances : List Instance) (kept : Kept) → kept.free.entries ≡ [] → kept.gone.keys ≡ [] → kept.seen ≡ [] → kept.counts.entries ≡ []
-    → ((q : MatchKey) → set.contains key_cmp kept.touched q ≡ list_any (λ i. alike (key_of i) q) instances) → IsKept instances kept
-renewed instances kept free gone seen counts touched = record { counted = counted; looked = looked }
+none_counted : (q : MatchKey) (es : List (MatchKey × ℕ)) → list_any (λ k. alike k q) (keys_of es) ≡ false → lookup (λ k. map.is_at (key_cmp q) k) es ≡ None
+none_counted q [] h = refl
+none_counted q (e ∷ es) h =
+    let apart = neither (alike e.0 q) (list_any (λ k. alike k q) (keys_of es)) h in
+    ap (λ b. cond b (Some e.1) (lookup (λ k. map.is_at (key_cmp q) k) es)) (alike_back q e.0 ∙ apart.0) ∙ none_counted q es apart.1
+
+pub renewed : (instances : List Instance) (kept : Kept) → kept.free.entries ≡ [] → kept.gone.keys ≡ []
+    → ((q : MatchKey) → set.contains key_cmp kept.touched q ≡ (list_any (λ i. alike (key_of i) q) instances || list_any (λ k. alike k q) (map.keys kept.counts))) → AreLooked instances kept
+renewed instances kept free gone touched q h = record {
+  found = None;
+  is = λ i k e. (let bad : true ≡ false = sym (any_in instances q i k e) ∙ apart.0 in cc);
+  open_is = ap (λ es. lookup (λ k. map.is_at (key_cmp q) k) es) free ∙ ap (λ n. open_of (nat_lt 0 n) None) (sym none);
+  gone_is = ap (λ ks. list_any (λ k. map.is_at (key_cmp q) k) ks) gone ∙ ap (λ n. gone_of (nat_lt 0 n) None) (sym none);
+}
   where
-    none : (q : MatchKey) → count_in kept.counts q ≡ 0
-    none q = ap (λ es. unwrap_or (lookup (λ k. map.is_at (key_cmp q) k) es) 0) counts
+    apart : (list_any (λ i. alike (key_of i) q) instances ≡ false) × (list_any (λ k. alike k q) (map.keys kept.counts) ≡ false)
+    apart = neither (list_any (λ i. alike (key_of i) q) instances) (list_any (λ k. alike k q) (map.keys kept.counts)) (sym (touched q) ∙ h)
 
-    counted : Counts kept.counts kept.seen
-    counted q = none q ∙ ap (λ keys. times q keys) (sym seen)
-
-    looked : AreLooked instances kept
-    looked q h = record {
-      found = None;
-      is = λ i k e. (let bad : true ≡ false = sym (any_in instances q i k e) ∙ sym (touched q) ∙ h in cc);
-      open_is = ap (λ es. lookup (λ k. map.is_at (key_cmp q) k) es) free ∙ ap (λ n. open_of (nat_lt 0 n) None) (sym (none q));
-      gone_is = ap (λ ks. list_any (λ k. map.is_at (key_cmp q) k) ks) gone ∙ ap (λ n. gone_of (nat_lt 0 n) None) (sym (none q));
-    }
+    none : count_in kept.counts q ≡ 0
+    none = ap (λ o. unwrap_or o 0) (none_counted q kept.counts.entries apart.1)
 
 -- ---- a key that is looked at
 
 pub looked_at : (old : Kept) (gone : BTreeSet MatchKey) (free : BTreeMap MatchKey Instance) (key : MatchKey) (found : Option Instance)
     → ((q : MatchKey) → set.contains key_cmp gone q ≡ cond (alike key q) (gone_of (nat_lt 0 (count_in old.counts key)) found) (set.contains key_cmp old.gone q))
     → ((q : MatchKey) → map.get key_cmp free q ≡ cond (alike key q) (open_of (nat_lt 0 (count_in old.counts key)) found) (map.get key_cmp old.free q))
-    → (instances : List Instance) → IsTheOne instances key found → IsKeptBut key instances old → IsKept instances (record old { free = free; gone = gone })
-looked_at old gone free key found gone_is open_is instances one but = record { counted = but.counted; looked = looked }
+    → (instances : List Instance) → IsTheOne instances key found → AreLookedBut key instances old → AreLooked instances (record old { free = free; gone = gone })
+looked_at old gone free key found gone_is open_is instances one but = looked
   where
     here : (q : MatchKey) → alike key q ≡ true → IsLookedIn instances (record old { free = free; gone = gone }) q
     here q e =
@@ -103,4 +106,4 @@ looked_at old gone free key found gone_is open_is instances one but = record { c
       where
         by : (b : Bool) → alike key q ≡ b → IsLookedIn instances (record old { free = free; gone = gone }) q
         by true e = here q e
-        by false e = there q e (but.looked q h e)
+        by false e = there q e (but q h e)

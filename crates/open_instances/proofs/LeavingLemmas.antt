@@ -1,5 +1,5 @@
 -- A rule goes, and nothing of it is kept.
-use Rattle.std.proofs.Common.{◌≡◌, refl, sym, ap, ap₂, ◌∙◌, Bool, true, false, cond, ◌||◌, ◌&&◌, not, ◌==◌, eqb-true, eq-eqb, nat_lt, ℕ, ◌+◌, List, [], ◌∷◌, Option, Some, None, arith}
+use Rattle.std.proofs.Common.{◌≡◌, refl, sym, ap, ap₂, ◌∙◌, Bool, true, false, cond, ◌||◌, ◌&&◌, not, ◌==◌, eqb-true, eq-eqb, nat_lt, ℕ, List, [], ◌∷◌, Option, Some, None, unwrap_or}
 use Rattle.std.specs.BTreeMap as map
 use Rattle.std.specs.BTreeSet as set
 use Rattle.std.specs.List.{list_any}
@@ -7,8 +7,8 @@ use Rattle.std.specs.Map.{keys_of, lookup}
 use Rattle.defs_match.specs.declared.instance.Instance.{Instance}
 use Rattle.match_changes.specs.Told.{IsTheOne}
 use Rattle.match_changes.specs.declared.key.MatchKey.{MatchKey}
-use Rattle.open_instances.specs.Keeping.{AreLooked, IsKept, IsLookedIn, LosesRule, gone_of, live_test, open_of, open_test}
-use Rattle.open_instances.specs.Keys.{alike, count_in, key_cmp, times}
+use Rattle.open_instances.specs.Keeping.{AreLooked, IsLookedIn, LosesRule, gone_of, live_test, open_of, open_test}
+use Rattle.open_instances.specs.Keys.{alike, count_in, key_cmp}
 use Rattle.open_instances.specs.declared.kept.Kept.{Kept}
 use Rattle.open_instances.proofs.KeyLemmas.{alike_same}
 
@@ -17,7 +17,7 @@ neither true b h = absurd (cc)
 neither false b h = (refl, h)
 
 -- no key passes the test, so one that would is not there
-none_found : (test : MatchKey → Bool) (q : MatchKey) → test q ≡ true → (es : List (MatchKey × Instance)) → list_any test (keys_of es) ≡ false → lookup (λ k. alike q k) es ≡ None
+none_found : {X : Type 0} (test : MatchKey → Bool) (q : MatchKey) → test q ≡ true → (es : List (MatchKey × X)) → list_any test (keys_of es) ≡ false → lookup (λ k. alike q k) es ≡ None
 none_found test q holds [] h = refl
 none_found test q holds (e ∷ es) h = by (alike q e.0) refl (none_found test q holds es (neither (test e.0) (list_any test (keys_of es)) h).1)
   where
@@ -25,30 +25,14 @@ none_found test q holds (e ∷ es) h = by (alike q e.0) refl (none_found test q 
     by true is deep = (let bad : true ≡ false = sym holds ∙ ap test (alike_same q e.0 is) ∙ (neither (test e.0) (list_any test (keys_of es)) h).0 in absurd (cc))
     by false is deep = deep
 
--- one that is among these is found
-any_live : (test : MatchKey → Bool) (q : MatchKey) → test q ≡ true → (keys : List MatchKey) → nat_lt 0 (times q keys) ≡ true → list_any test keys ≡ true
-any_live test q holds [] h = absurd (cc)
-any_live test q holds (k ∷ keys) h = by (alike k q) refl h (any_live test q holds keys)
-  where
-    with_rest : (a b : Bool) → b ≡ true → (a || b) ≡ true
-    with_rest true b h = refl
-    with_rest false b h = h
-
-    more : (n : ℕ) → n ≡ 0 + n
-    more n = omega arith
-
-    by : (b : Bool) → alike k q ≡ b → nat_lt 0 ((let n : ℕ = cond b 1 0 in n) + times q keys) ≡ true → (nat_lt 0 (times q keys) ≡ true → list_any test keys ≡ true) → (test k || list_any test keys) ≡ true
-    by true is h deep = ap (λ a. a || list_any test keys) (ap test (alike_same k q is) ∙ holds)
-    by false is h deep = with_rest (test k) (list_any test keys) (deep (ap (nat_lt 0) (more (times q keys)) ∙ h))
-
 open_none : (live : Bool) → None ≡ open_of live None
 open_none true = refl
 open_none false = refl
 
 module _ (kept : Kept) (number : ℕ) where
-  pub leaves : list_any (open_test kept number) (map.keys kept.free) ≡ false → list_any (live_test kept number) kept.seen ≡ false
-      → (before after : List Instance) → LosesRule before after number → IsKept before kept → IsKept after kept
-  leaves open_free live_free before after loses was = record { counted = was.counted; looked = looked }
+  pub leaves : list_any (open_test kept number) (map.keys kept.free) ≡ false → list_any (live_test kept number) (map.keys kept.counts) ≡ false
+      → (before after : List Instance) → LosesRule before after number → AreLooked before kept → AreLooked after kept
+  leaves open_free live_free before after loses was = looked
     where
       own : (q : MatchKey) → (q.rule == number) ≡ true → set.contains key_cmp kept.touched q ≡ false → IsLookedIn before kept q → IsLookedIn after kept q
       own q n h w = record {
@@ -62,7 +46,7 @@ module _ (kept : Kept) (number : ℕ) where
           gone true true g l e = refl
           gone false true g l e =
               let bad : true ≡ false =
-              sym (any_live (live_test kept number) q (ap₂ (λ a b. a && b) n (ap₂ (λ a b. not a && not b) g h)) kept.seen (ap (nat_lt 0) (sym (was.counted q)) ∙ l)) ∙ live_free in
+              sym l ∙ ap (λ o. nat_lt 0 (unwrap_or o 0)) (none_found (live_test kept number) q (ap₂ (λ a b. a && b) n (ap₂ (λ a b. not a && not b) g h)) kept.counts.entries live_free) in
               absurd (cc)
           gone g false _ l e = e
 
@@ -74,7 +58,7 @@ module _ (kept : Kept) (number : ℕ) where
       )
 
       looked : AreLooked after kept
-      looked q h = by (q.rule == number) refl (was.looked q h)
+      looked q h = by (q.rule == number) refl (was q h)
         where
           by : (b : Bool) → (q.rule == number) ≡ b → IsLookedIn before kept q → IsLookedIn after kept q
           by true n w = own q n h w

@@ -39,17 +39,9 @@ AreLookedBut key instances kept = (q : MatchKey) → set.contains key_cmp kept.t
 abbrev pub Counts : BTreeMap MatchKey ℕ → List MatchKey → Type 0
 Counts counts keys = (q : MatchKey) → count_in counts q ≡ times q keys
 
-pub record IsKept (instances : List Instance) (kept : Kept) : Type 0 where
-  pub counted : Counts kept.counts kept.seen
-  pub looked : AreLooked instances kept
-
-pub record IsKeptBut (key : MatchKey) (instances : List Instance) (kept : Kept) : Type 0 where
-  pub counted : Counts kept.counts kept.seen
-  pub looked : AreLookedBut key instances kept
-
 -- unless all is to be compared anew
 abbrev pub Fits : List Instance → Kept → Type 0
-Fits instances kept = kept.stale ≡ false → IsKept instances kept
+Fits instances kept = kept.stale ≡ false → AreLooked instances kept
 
 -- the instances of a rule go, and no others
 abbrev pub LosesRule : List Instance → List Instance → ℕ → Type 0

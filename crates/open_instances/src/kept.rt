@@ -2,7 +2,6 @@ ghost use Rattle.std.specs.Prelude.{◌≡◌, true, []};
 
 use defs_match::Instance;
 use match_changes::MatchKey;
-use soar_sym::List;
 use std::alloc::Global;
 use std::collections::{BTreeMap, BTreeSet};
 
@@ -13,9 +12,7 @@ pub struct Kept {
     pub free: BTreeMap<MatchKey, Instance>,
     /// The keys of live firings whose instances are not in the conflict set.
     pub gone: BTreeSet<MatchKey>,
-    /// The keys of the live firings, as they were listed.
-    pub seen: List<MatchKey>,
-    /// How often each key is among them.
+    /// How many live firings have the instance of a key.
     pub counts: BTreeMap<MatchKey, u64>,
     /// The keys that are to be looked at again.
     pub touched: BTreeSet<MatchKey>,
@@ -28,7 +25,6 @@ impl Kept {
     pub fn new(alloc: Global) -> Kept
         ensures free { result.free.entries ≡ [] }
         ensures gone { result.gone.keys ≡ [] }
-        ensures seen { result.seen ≡ [] }
         ensures counts { result.counts.entries ≡ [] }
         ensures touched { result.touched.keys ≡ [] }
         ensures stale { result.stale ≡ true }
@@ -36,7 +32,6 @@ impl Kept {
         Kept {
             free: BTreeMap::new(alloc),
             gone: BTreeSet::new(alloc),
-            seen: List::new(alloc),
             counts: BTreeMap::new(alloc),
             touched: BTreeSet::new(alloc),
             stale: true,

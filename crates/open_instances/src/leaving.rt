@@ -15,7 +15,8 @@ use std::collections::{BTreeMap, BTreeSet};
 /// The rule of a number goes. Where one of its instances is open, or is that of a live firing, and is not to be looked at
 /// again, all is compared anew. It takes no memory.
 pub fn leave_rule(kept: &mut Kept, number: u64)
-    ensures { (before after : ListOf InstanceOf) → LosesRule before after number → Fits before kept.old → Fits after kept.new }
+    ensures kept { (before after : ListOf InstanceOf) → LosesRule before after number → Fits before kept.old → Fits after kept.new }
+    ensures counts { kept.new.counts ≡ kept.old.counts }
 {
     if has_any(kept, number) {
         kept.stale = true;
@@ -24,10 +25,10 @@ pub fn leave_rule(kept: &mut Kept, number: u64)
 
 /// Whether something of the rule is kept that is not to be looked at again.
 fn has_any(kept: &Kept, number: u64) -> bool
-    ensures { result ≡ (list_any (open_test kept.now number) (map.keys kept.now.free) || list_any (live_test kept.now number) kept.now.seen) }
+    ensures { result ≡ (list_any (open_test kept.now number) (map.keys kept.now.free) || list_any (live_test kept.now number) (map.keys kept.now.counts)) }
 {
     has_open(&kept.free, &kept.touched, number)
-        || has_live(kept.seen.as_slice(), &kept.gone, &kept.touched, number)
+        || has_live(&kept.counts, &kept.gone, &kept.touched, number)
 }
 
 /// Whether an instance of the rule is open and is not to be looked at again.
@@ -40,12 +41,12 @@ fn has_open(free: &BTreeMap<MatchKey, Instance>, touched: &BTreeSet<MatchKey>, n
 
 /// Whether a live firing has an instance of the rule that is in the conflict set and is not to be looked at again.
 fn has_live(
-    seen: &[MatchKey],
+    counts: &BTreeMap<MatchKey, u64>,
     gone: &BTreeSet<MatchKey>,
     touched: &BTreeSet<MatchKey>,
     number: u64,
 ) -> bool
-    ensures { result ≡ list_any (λ k. (k.rule == number) && (not (set.contains key_cmp gone.now k) && not (set.contains key_cmp touched.now k))) seen.now }
+    ensures { result ≡ list_any (λ k. (k.rule == number) && (not (set.contains key_cmp gone.now k) && not (set.contains key_cmp touched.now k))) (map.keys counts.now) }
 {
-    seen.iter().any(|key| key.rule == number && !gone.contains(key) && !touched.contains(key))
+    counts.keys().any(|key| key.rule == number && !gone.contains(key) && !touched.contains(key))
 }

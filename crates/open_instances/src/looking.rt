@@ -4,7 +4,7 @@ ghost use Rattle.std.specs.BTreeMap as map;
 ghost use Rattle.std.specs.BTreeSet as set;
 ghost use Rattle.defs_match.specs.declared.instance.Instance.{Instance as InstanceOf};
 ghost use Rattle.match_changes.specs.Told.{IsTheOne};
-ghost use Rattle.open_instances.specs.Keeping.{IsKept, IsKeptBut, gone_of, open_of};
+ghost use Rattle.open_instances.specs.Keeping.{AreLooked, AreLookedBut, gone_of, open_of};
 ghost use Rattle.open_instances.specs.Keys.{KeyOf, alike, key_cmp};
 
 use crate::counts::is_live;
@@ -23,9 +23,9 @@ pub fn look_at(
     key: MatchKey,
     found: Option<Instance>,
 ) -> Result<(), NoMemory>
-    ensures kept { OnOk result ((instances : ListOf InstanceOf) → IsTheOne instances key found → IsKeptBut key instances kept.old → IsKept instances kept.new) }
+    ensures kept { OnOk result ((instances : ListOf InstanceOf) → IsTheOne instances key found → AreLookedBut key instances kept.old → AreLooked instances kept.new) }
     ensures touched { OnOk result (kept.new.touched ≡ kept.old.touched) }
-    ensures seen { OnOk result (kept.new.seen ≡ kept.old.seen) }
+    ensures counts { OnOk result (kept.new.counts ≡ kept.old.counts) }
     ensures stale { OnOk result (kept.new.stale ≡ kept.old.stale) }
 {
     let live = is_live(&kept.counts, &key);

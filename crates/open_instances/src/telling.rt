@@ -1,37 +1,41 @@
 // What may have changed.
 ghost use Rattle.std.specs.Prelude.{◌≡◌, ◌||◌, false, IfOk, OnOk, List as ListOf};
+ghost use Rattle.std.specs.BTreeMap as map;
 ghost use Rattle.std.specs.BTreeSet as set;
 ghost use Rattle.std.specs.List.{list_any};
 ghost use Rattle.defs_match.specs.declared.instance.Instance.{Instance as InstanceOf};
 ghost use Rattle.match_changes.specs.Told.{AreTold, key_of};
-ghost use Rattle.open_instances.specs.Keeping.{Fits, IsKept};
+ghost use Rattle.open_instances.specs.Keeping.{AreLooked, Fits};
 ghost use Rattle.open_instances.specs.Keys.{KeyOf, alike, key_cmp};
 
 use crate::kept::Kept;
-use crate::keys::{add_key, add_keys, key_of};
+use crate::keys::{add_key, add_keys, copy_of, key_of};
 use defs_match::Instance;
 use match_changes::MatchKey;
 use soar_sym::{List, NoMemory};
 use std::alloc::Global;
-use std::collections::BTreeSet;
+use std::collections::{BTreeMap, BTreeSet};
 
 /// Notes the keys that a change told.
 pub fn told(kept: &mut Kept, keys: List<MatchKey>) -> Result<(), NoMemory>
-    ensures { OnOk result ((before after : ListOf InstanceOf) → AreTold before after keys → Fits before kept.old → Fits after kept.new) }
+    ensures fits { OnOk result ((before after : ListOf InstanceOf) → AreTold before after keys → Fits before kept.old → Fits after kept.new) }
+    ensures counts { OnOk result (kept.new.counts ≡ kept.old.counts) }
 {
     add_keys(&mut kept.touched, keys)
 }
 
-/// Begins anew, with all instances of the conflict set to look at.
+/// Begins anew, with all instances of the conflict set and all keys of live firings to look at.
 pub fn renew(alloc: Global, kept: &mut Kept, instances: &[Instance]) -> Result<(), NoMemory>
-    ensures kept { OnOk result (IsKept instances.now kept.new) }
+    ensures kept { OnOk result (AreLooked instances.now kept.new) }
+    ensures counts { OnOk result (kept.new.counts ≡ kept.old.counts) }
     ensures stale { OnOk result (kept.new.stale ≡ false) }
 {
-    let touched = keys_of(alloc, instances)?;
-    let mut fresh = Kept::new(alloc);
-    fresh.touched = touched;
-    fresh.stale = false;
-    *kept = fresh;
+    let mut touched = keys_of(alloc, instances)?;
+    add_counted(alloc, &kept.counts, &mut touched)?;
+    kept.free = BTreeMap::new(alloc);
+    kept.gone = BTreeSet::new(alloc);
+    kept.touched = touched;
+    kept.stale = false;
     Ok(())
 }
 
@@ -44,4 +48,18 @@ fn keys_of(alloc: Global, instances: &[Instance]) -> Result<BTreeSet<MatchKey>, 
         add_key(&mut keys, key_of(alloc, instance)?)?;
     }
     Ok(keys)
+}
+
+/// The keys that are counted.
+fn add_counted(
+    alloc: Global,
+    counts: &BTreeMap<MatchKey, u64>,
+    keys: &mut BTreeSet<MatchKey>,
+) -> Result<(), NoMemory>
+    ensures { OnOk result ((q : KeyOf) → set.contains key_cmp keys.new q ≡ (set.contains key_cmp keys.old q || list_any (λ k. alike k q) (map.keys counts.now))) }
+{
+    'counts: for key in counts.keys() {
+        add_key(keys, copy_of(alloc, key)?)?;
+    }
+    Ok(())
 }

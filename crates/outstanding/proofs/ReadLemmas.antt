@@ -14,17 +14,16 @@ use Rattle.defs_match.specs.Laws.{IsIn}
 use Rattle.defs_match.specs.declared.instance.Instance.{Instance}
 use Rattle.defs_soar.specs.Pending.{instance_eq, is_listed, tags_eq}
 use Rattle.live_firings.specs.declared.live.Live.{Live}
-use Rattle.live_firings.specs.Living.{live_seen}
+use Rattle.live_firings.specs.Living.{keys_of, live_seen}
 use Rattle.match_changes.specs.Told.{IsTheOne, key_of}
 use Rattle.match_changes.specs.declared.key.MatchKey.{MatchKey}
 use Rattle.conflict_order.specs.Order.{InstanceLess, Ordered}
 use Rattle.conflict_order.proofs.ListOrder.{filter_order, in_filter, in_filter_back, in_map, same_in_order}
 use Rattle.conflict_order.proofs.InstanceOrder.{never_both, one_each}
-use Rattle.open_instances.specs.Keeping.{IsKept, IsLookedIn, gone_of, open_of}
+use Rattle.open_instances.specs.Keeping.{AreLooked, Counts, IsLookedIn, gone_of, open_of}
 use Rattle.open_instances.specs.Keys.{alike, count_in, key_cmp, times}
 use Rattle.open_instances.specs.declared.kept.Kept.{Kept}
 use Rattle.open_instances.proofs.KeyLemmas.{alike_back, alike_by, alike_itself, alike_same}
-use Rattle.outstanding.specs.Following.{keys_of}
 use Rattle.outstanding.specs.Outstanding.{unfired, unmatched}
 
 abbrev Entries : Type 0
@@ -163,15 +162,15 @@ listed_in (x ∷ is) i h = by (instance_eq i x) refl h (listed_in is i)
 
 -- ---- both lists
 
-module _ (instances : List Instance) (live : List Live) (kept : Kept) (was : IsKept instances kept) (nothing : kept.touched.keys ≡ []) (listed : kept.seen ≡ keys_of live) where
+module _ (instances : List Instance) (live : List Live) (kept : Kept) (was : AreLooked instances kept) (nothing : kept.touched.keys ≡ []) (tally : Counts kept.counts (keys_of live)) where
   abbrev untaken : Instance → Bool
   untaken i = not (is_listed (map (λ l. l.instance) (map live_seen live)) i)
 
   looked : (q : MatchKey) → IsLookedIn instances kept q
-  looked q = was.looked q (ap (λ ks. list_any (λ k. alike q k) ks) nothing)
+  looked q = was q (ap (λ ks. list_any (λ k. alike q k) ks) nothing)
 
   counted : (q : MatchKey) → nat_lt 0 (count_in kept.counts q) ≡ nat_lt 0 (times q (keys_of live))
-  counted q = ap (nat_lt 0) (was.counted q ∙ ap (times q) listed)
+  counted q = ap (nat_lt 0) (tally q)
 
   is_free : (i : Instance) → nat_lt 0 (count_in kept.counts (key_of i)) ≡ false → untaken i ≡ true
   is_free i h = ap not (listed_live live i ∙ sym (counted (key_of i)) ∙ h)

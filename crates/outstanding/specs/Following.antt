@@ -1,44 +1,56 @@
--- What following the live firings makes of what is kept.
-use Rattle.std.specs.Prelude.{◌≡◌, ℕ, List, [], ◌∷◌, ◌++◌, map, take}
+-- What the live firings that come and go make of what is kept.
+use Rattle.std.specs.Prelude.{◌≡◌, ℕ, ◌+◌, ◌-◌, Bool, false, [], List, refl, if◌then◌else◌}
+use Rattle.std.specs.Coded.{Coded, code_by, coded×, coded_bool, coded_list, coded_ℕ}
+use Rattle.std.specs.Map.{lookup}
+use Rattle.std.specs.Option.{unwrap_or}
 use Rattle.defs_match.specs.declared.instance.Instance.{Instance}
-use Rattle.live_firings.specs.declared.live.Live.{Live}
-use Rattle.match_changes.specs.Told.{key_of}
 use Rattle.match_changes.specs.declared.key.MatchKey.{MatchKey}
-use Rattle.open_instances.specs.Keeping.{AreLooked, Counts}
+use Rattle.open_instances.specs.Keeping.{AreLooked}
+use Rattle.open_instances.specs.Keys.{alike, count_in, times}
 use Rattle.open_instances.specs.declared.kept.Kept.{Kept}
 
-abbrev pub keys_of : List Live → List MatchKey
-keys_of live = map (λ l. key_of l.instance) live
+-- what was looked at stays so
+abbrev pub StaysLooked : Kept → Kept → Type 0
+StaysLooked old new = (instances : List Instance) → AreLooked instances old → AreLooked instances new
 
--- what was looked at stays so, and nothing else is to be compared anew
-pub record StaysLooked (old new : Kept) : Type 0 where
-  pub looked : (instances : List Instance) → AreLooked instances old → AreLooked instances new
-  pub stale : new.stale ≡ old.stale
+-- a firing of a key comes
+pub record Meets (key : MatchKey) (old new : Kept) : Type 0 where
+  pub stays : StaysLooked old new
+  pub counted : (q : MatchKey) → count_in new.counts q ≡ (if alike key q then count_in old.counts q + 1 else count_in old.counts q)
 
--- a firing of a key is gone
+pub record MeetsAll (keys : List MatchKey) (old new : Kept) : Type 0 where
+  pub stays : StaysLooked old new
+  pub counted : (q : MatchKey) → count_in new.counts q ≡ count_in old.counts q + times q keys
+
+-- a firing of a key goes
 pub record Loses (key : MatchKey) (old new : Kept) : Type 0 where
   pub stays : StaysLooked old new
-  pub seen : new.seen ≡ old.seen
-  pub counted : (front rest : List MatchKey) → Counts old.counts (front ++ key ∷ rest) → Counts new.counts (front ++ rest)
+  pub counted : (q : MatchKey) → count_in new.counts q ≡ (if alike key q then count_in old.counts q - 1 else count_in old.counts q)
 
--- an old key is passed, where so many live firings were among the old ones before it, and after it
-pub record Passes (live : List Live) (at : ℕ) (key : MatchKey) (old new : Kept) (next : ℕ) : Type 0 where
+pub record LosesAll (keys : List MatchKey) (old new : Kept) : Type 0 where
   pub stays : StaysLooked old new
-  pub seen : old.seen ≡ take at (keys_of live) → new.seen ≡ take next (keys_of live)
-  pub counted : (rest : List MatchKey) → Counts old.counts (old.seen ++ key ∷ rest) → Counts new.counts (new.seen ++ rest)
+  pub counted : (q : MatchKey) → count_in new.counts q ≡ count_in old.counts q - times q keys
 
-pub record PassesAll (live : List Live) (keys : List MatchKey) (old new : Kept) (at : ℕ) : Type 0 where
-  pub stays : StaysLooked old new
-  pub seen : old.seen ≡ [] → new.seen ≡ take at (keys_of live)
-  pub counted : (rest : List MatchKey) → Counts old.counts (old.seen ++ (keys ++ rest)) → Counts new.counts (new.seen ++ rest)
+-- ---- a matcher that is followed, as callers see it
 
--- a firing is new
-pub record Meets (firing : Live) (old new : Kept) : Type 0 where
-  pub stays : StaysLooked old new
-  pub seen : new.seen ≡ old.seen ++ key_of firing.instance ∷ []
-  pub counted : Counts old.counts old.seen → Counts new.counts new.seen
+-- the matcher, whether memory was refused beside it, and how often each key is counted
+pub record Follower (M : Type 0) : Type 0 where
+  pub matcher : M
+  pub failed : Bool
+  pub counts : List (MatchKey × ℕ)
 
-pub record MeetsAll (live : List Live) (old new : Kept) : Type 0 where
-  pub stays : StaysLooked old new
-  pub seen : new.seen ≡ old.seen ++ keys_of live
-  pub counted : Counts old.counts old.seen → Counts new.counts new.seen
+abbrev key_code : Coded MatchKey
+key_code = code_by (ℕ × List ℕ) (coded× coded_ℕ (coded_list coded_ℕ)) (λ k. (k.rule, k.tags)) (λ p. record { rule = p.0; tags = p.1 }) (λ _. refl)
+
+abbrev pub follower_code : {M : Type 0} → Coded M → Coded (Follower M)
+follower_code {M = M} code =
+    code_by (M × (Bool × List (MatchKey × ℕ))) (coded× code (coded× coded_bool (coded_list (coded× key_code coded_ℕ)))) (λ f. (f.matcher, (f.failed, f.counts))) (λ p. record { matcher = p.0; failed = p.1.0; counts = p.1.1 })
+    (λ _. refl)
+
+-- nothing was refused beside it, and nothing is counted
+abbrev pub followed : {M : Type 0} → M → Follower M
+followed matcher = record { matcher = matcher; failed = false; counts = [] }
+
+-- each key is counted as often as it is among these
+abbrev pub AreCounted : List (MatchKey × ℕ) → List MatchKey → Type 0
+AreCounted counts keys = (q : MatchKey) → unwrap_or (lookup (λ k. alike q k) counts) 0 ≡ times q keys

@@ -3,15 +3,15 @@ ghost use Rattle.std.specs.Prelude.{◌≡◌, [], false, IfOk, OnOk, List as Li
 ghost use Rattle.conflict_order.specs.Order.{InstanceLess, Ordered};
 ghost use Rattle.defs_match.specs.declared.instance.Instance.{Instance as InstanceOf};
 ghost use Rattle.defs_match.specs.Conflict.{conflict};
-ghost use Rattle.open_instances.specs.Keeping.{IsKept, IsKeptBut};
-ghost use Rattle.outstanding.specs.Following.{keys_of};
+ghost use Rattle.open_instances.specs.Keeping.{AreLooked, AreLookedBut, Counts};
+ghost use Rattle.live_firings.specs.Living.{keys_of};
 ghost use Rattle.outstanding.specs.Holding.{Holds};
 ghost use Rattle.outstanding.specs.Outstanding.{unfired, unmatched};
 
 use crate::answer::Open;
-use crate::following::{follow, unmatched};
+use crate::following::follow;
 use defs_match::Matcher;
-use live_firings::Live;
+use live_firings::LiveFirings;
 use match_changes::{MatchChanges, MatchKey};
 use open_instances::{Kept, look_at, open_is_ordered, renew, unfired};
 use soar_sym::NoMemory;
@@ -22,16 +22,20 @@ pub fn ask<M: MatchChanges>(
     alloc: Global,
     matcher: &mut M,
     kept: &mut Kept,
-    live: &[Live],
+    live: &mut LiveFirings,
 ) -> Result<Open, NoMemory>
     requires works { M.failed matcher.old ≡ false }
     requires holds { Holds (M.rules matcher.old) (M.elements matcher.old) kept.old }
+    requires counted { Counts kept.old.counts (keys_of live.old.told) }
     ensures works { OnOk result (M.failed matcher.new ≡ false) }
-    ensures unfired { IfOk result (λ answer. answer.unfired ≡ unfired (conflict (M.rules matcher.old) (M.elements matcher.old)) live.now) }
-    ensures unmatched { IfOk result (λ answer. answer.unmatched ≡ unmatched (conflict (M.rules matcher.old) (M.elements matcher.old)) live.now) }
+    ensures unfired { IfOk result (λ answer. answer.unfired ≡ unfired (conflict (M.rules matcher.old) (M.elements matcher.old)) live.old.list) }
+    ensures unmatched { IfOk result (λ answer. answer.unmatched ≡ unmatched (conflict (M.rules matcher.old) (M.elements matcher.old)) live.old.list) }
     ensures rules { OnOk result (M.rules matcher.new ≡ M.rules matcher.old) }
     ensures elements { OnOk result (M.elements matcher.new ≡ M.elements matcher.old) }
     ensures holds { OnOk result (Holds (M.rules matcher.new) (M.elements matcher.new) kept.new) }
+    ensures counted { OnOk result (Counts kept.new.counts (keys_of live.old.list)) }
+    ensures list { live.new.list ≡ live.old.list }
+    ensures told { OnOk result (live.new.told ≡ live.old.list) }
 {
     refresh(alloc, matcher, kept)?;
     follow(alloc, kept, live)?;
@@ -46,7 +50,8 @@ fn refresh<M: MatchChanges>(alloc: Global, matcher: &mut M, kept: &mut Kept) -> 
     ensures works { OnOk result (M.failed matcher.new ≡ false) }
     ensures rules { OnOk result (M.rules matcher.new ≡ M.rules matcher.old) }
     ensures elements { OnOk result (M.elements matcher.new ≡ M.elements matcher.old) }
-    ensures kept { OnOk result (IsKept (conflict (M.rules matcher.old) (M.elements matcher.old)) kept.new) }
+    ensures kept { OnOk result (AreLooked (conflict (M.rules matcher.old) (M.elements matcher.old)) kept.new) }
+    ensures counts { OnOk result (kept.new.counts ≡ kept.old.counts) }
 {
     if kept.stale {
         begin_anew(alloc, matcher, kept)
@@ -64,7 +69,8 @@ fn begin_anew<M: MatchChanges>(
     ensures works { OnOk result (M.failed matcher.new ≡ false) }
     ensures rules { OnOk result (M.rules matcher.new ≡ M.rules matcher.old) }
     ensures elements { OnOk result (M.elements matcher.new ≡ M.elements matcher.old) }
-    ensures kept { OnOk result (IsKept (conflict (M.rules matcher.old) (M.elements matcher.old)) kept.new) }
+    ensures kept { OnOk result (AreLooked (conflict (M.rules matcher.old) (M.elements matcher.old)) kept.new) }
+    ensures counts { OnOk result (kept.new.counts ≡ kept.old.counts) }
 {
     let instances = matcher.conflict(alloc)?;
     renew(alloc, kept, instances.as_slice())
@@ -77,12 +83,12 @@ fn look_again<M: MatchChanges>(
     kept: &mut Kept,
 ) -> Result<(), NoMemory>
     requires works { M.failed matcher.old ≡ false }
-    requires kept { IsKept (conflict (M.rules matcher.old) (M.elements matcher.old)) kept.old }
+    requires kept { AreLooked (conflict (M.rules matcher.old) (M.elements matcher.old)) kept.old }
     ensures works { OnOk result (M.failed matcher.new ≡ false) }
     ensures rules { OnOk result (M.rules matcher.new ≡ M.rules matcher.old) }
     ensures elements { OnOk result (M.elements matcher.new ≡ M.elements matcher.old) }
-    ensures kept { OnOk result (IsKept (conflict (M.rules matcher.old) (M.elements matcher.old)) kept.new) }
-    ensures seen { OnOk result (kept.new.seen ≡ kept.old.seen) }
+    ensures kept { OnOk result (AreLooked (conflict (M.rules matcher.old) (M.elements matcher.old)) kept.new) }
+    ensures counts { OnOk result (kept.new.counts ≡ kept.old.counts) }
     ensures touched { OnOk result (kept.new.touched.keys ≡ []) }
 {
     'touched: while let Some(key) = kept.touched.pop_first() {
@@ -99,12 +105,12 @@ fn look<M: MatchChanges>(
     key: MatchKey,
 ) -> Result<(), NoMemory>
     requires works { M.failed matcher.old ≡ false }
-    requires kept { IsKeptBut key (conflict (M.rules matcher.old) (M.elements matcher.old)) kept.old }
+    requires kept { AreLookedBut key (conflict (M.rules matcher.old) (M.elements matcher.old)) kept.old }
     ensures works { OnOk result (M.failed matcher.new ≡ false) }
     ensures rules { OnOk result (M.rules matcher.new ≡ M.rules matcher.old) }
     ensures elements { OnOk result (M.elements matcher.new ≡ M.elements matcher.old) }
-    ensures kept { OnOk result (IsKept (conflict (M.rules matcher.old) (M.elements matcher.old)) kept.new) }
-    ensures seen { OnOk result (kept.new.seen ≡ kept.old.seen) }
+    ensures kept { OnOk result (AreLooked (conflict (M.rules matcher.old) (M.elements matcher.old)) kept.new) }
+    ensures counts { OnOk result (kept.new.counts ≡ kept.old.counts) }
     ensures touched { OnOk result (kept.new.touched ≡ kept.old.touched) }
 {
     let found = matcher.instance(alloc, &key)?;
@@ -112,15 +118,15 @@ fn look<M: MatchChanges>(
 }
 
 /// What is kept, where no key is to be looked at again.
-fn read(alloc: Global, kept: &Kept, live: &[Live]) -> Result<Open, NoMemory>
-    requires seen { kept.now.seen ≡ keys_of live.now }
+fn read(alloc: Global, kept: &Kept, live: &LiveFirings) -> Result<Open, NoMemory>
+    requires counted { Counts kept.now.counts (keys_of live.now.list) }
     requires touched { kept.now.touched.keys ≡ [] }
-    ensures unfired { IfOk result (λ answer. (instances : ListOf InstanceOf) → Ordered InstanceLess instances → IsKept instances kept.now → answer.unfired ≡ unfired instances live.now) }
-    ensures unmatched { IfOk result (λ answer. (instances : ListOf InstanceOf) → IsKept instances kept.now → answer.unmatched ≡ unmatched instances live.now) }
+    ensures unfired { IfOk result (λ answer. (instances : ListOf InstanceOf) → Ordered InstanceLess instances → AreLooked instances kept.now → answer.unfired ≡ unfired instances live.now.list) }
+    ensures unmatched { IfOk result (λ answer. (instances : ListOf InstanceOf) → AreLooked instances kept.now → answer.unmatched ≡ unmatched instances live.now.list) }
 {
     open_is_ordered(&kept.free);
     Ok(Open {
         unfired: unfired(alloc, &kept.free)?,
-        unmatched: unmatched(alloc, kept, live)?,
+        unmatched: live.of_keys(alloc, &kept.gone)?,
     })
 }

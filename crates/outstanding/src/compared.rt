@@ -7,7 +7,7 @@ ghost use Rattle.outstanding.specs.Wrapping.{wrapped};
 use crate::answer::{Open, Outstanding};
 use crate::comparing::compare;
 use defs_match::{Instance, Matcher, Rule};
-use live_firings::Live;
+use live_firings::LiveFirings;
 use soar_sym::{List, NoMemory};
 use soar_wm::Element;
 use std::alloc::Global;
@@ -85,10 +85,35 @@ impl<M: Matcher> Matcher for Compared<M> {
 }
 
 impl<M: Matcher> Outstanding for Compared<M> {
-    fn outstanding(&mut self, alloc: Global, live: &List<Live>) -> Result<Open, NoMemory> {
+    ghost knows = { λ c live. Unit {0} };
+
+    fn begin(&mut self) {}
+
+    fn element_comes(&mut self, element: Element) -> Result<(), NoMemory> {
+        self.add_element(element)
+    }
+
+    fn element_goes(&mut self, tag: u32) -> Result<(), NoMemory> {
+        self.remove_element(tag)
+    }
+
+    fn rule_comes(&mut self, rule: &Rule) -> Result<(), NoMemory> {
+        self.add_rule(rule)
+    }
+
+    fn rule_goes(&mut self, number: u64) {
+        self.remove_rule(number);
+    }
+
+    fn instances(&mut self, alloc: Global) -> Result<List<Instance>, NoMemory> {
+        self.conflict(alloc)
+    }
+
+    fn outstanding(&mut self, alloc: Global, live: &mut LiveFirings) -> Result<Open, NoMemory> {
         if self.failed {
             return Err(NoMemory);
         }
+        live.settle();
         let answer = by_conflict(alloc, &mut self.matcher, live);
         self.failed = answer.is_err();
         answer
@@ -99,14 +124,14 @@ impl<M: Matcher> Outstanding for Compared<M> {
 fn by_conflict<M: Matcher>(
     alloc: Global,
     matcher: &mut M,
-    live: &List<Live>,
+    live: &LiveFirings,
 ) -> Result<Open, NoMemory>
     ensures works { OnOk result (Works (M.failed matcher.old) (M.failed matcher.new)) }
-    ensures unfired { IfOk result (λ answer. answer.unfired ≡ unfired (conflict (M.rules matcher.old) (M.elements matcher.old)) live.now) }
-    ensures unmatched { IfOk result (λ answer. answer.unmatched ≡ unmatched (conflict (M.rules matcher.old) (M.elements matcher.old)) live.now) }
+    ensures unfired { IfOk result (λ answer. answer.unfired ≡ unfired (conflict (M.rules matcher.old) (M.elements matcher.old)) live.now.list) }
+    ensures unmatched { IfOk result (λ answer. answer.unmatched ≡ unmatched (conflict (M.rules matcher.old) (M.elements matcher.old)) live.now.list) }
     ensures rules { OnOk result (M.rules matcher.new ≡ M.rules matcher.old) }
     ensures elements { OnOk result (M.elements matcher.new ≡ M.elements matcher.old) }
 {
     let instances = matcher.conflict(alloc)?;
-    compare(alloc, instances, live.as_slice())
+    compare(alloc, instances, live)
 }

@@ -5,16 +5,19 @@ ghost use Rattle.outstanding.specs.Outstanding.{unfired, unmatched};
 
 use crate::answer::Open;
 use crate::instances::InstanceSet;
-use crate::live::copy_of;
 use defs_match::Instance;
-use live_firings::Live;
+use live_firings::{Live, LiveFirings, copy_of};
 use soar_sym::{List, NoMemory};
 use std::alloc::Global;
 
 /// What is outstanding, where these are the instances of the conflict set.
-pub fn compare(alloc: Global, instances: List<Instance>, live: &[Live]) -> Result<Open, NoMemory>
-    ensures unfired { IfOk result (λ answer. answer.unfired ≡ unfired instances live.now) }
-    ensures unmatched { IfOk result (λ answer. answer.unmatched ≡ unmatched instances live.now) }
+pub fn compare(
+    alloc: Global,
+    instances: List<Instance>,
+    live: &LiveFirings,
+) -> Result<Open, NoMemory>
+    ensures unfired { IfOk result (λ answer. answer.unfired ≡ unfired instances live.now.list) }
+    ensures unmatched { IfOk result (λ answer. answer.unmatched ≡ unmatched instances live.now.list) }
 {
     let matched = InstanceSet::of(alloc, instances.as_slice())?;
     let unmatched = outside(alloc, live, &matched)?;
@@ -24,11 +27,11 @@ pub fn compare(alloc: Global, instances: List<Instance>, live: &[Live]) -> Resul
 }
 
 /// Copies of the live firings whose instances are not among these.
-fn outside(alloc: Global, live: &[Live], matched: &InstanceSet) -> Result<List<Live>, NoMemory>
-    ensures { IfOk result (λ outside. outside ≡ filter (λ l. not (has_key matched.now l.instance)) live.now) }
+fn outside(alloc: Global, live: &LiveFirings, matched: &InstanceSet) -> Result<List<Live>, NoMemory>
+    ensures { IfOk result (λ outside. outside ≡ filter (λ l. not (has_key matched.now l.instance)) live.now.list) }
 {
     let mut outside = List::new(alloc);
-    'live: for firing in live {
+    'live: for firing in live.all() {
         if !matched.has(&firing.instance)? {
             outside.push(copy_of(alloc, firing)?)?;
         }

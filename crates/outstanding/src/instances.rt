@@ -6,7 +6,7 @@ ghost use Rattle.live_firings.specs.Living.{live_seen};
 ghost use Rattle.outstanding.specs.Keys.{has_key, IsKeyOf};
 
 use defs_match::Instance;
-use live_firings::Live;
+use live_firings::LiveFirings;
 use soar_sym::NoMemory;
 use std::alloc::Global;
 use std::collections::BTreeSet;
@@ -67,11 +67,11 @@ impl InstanceSet {
     }
 
     /// The instances of these live firings.
-    pub fn of_live(alloc: Global, live: &[Live]) -> Result<InstanceSet, NoMemory>
-        ensures { IfOk result (λ set. (i : InstanceOf) → has_key set i ≡ is_listed (map (λ l. l.instance) (map live_seen live.now)) i) }
+    pub fn of_live(alloc: Global, live: &LiveFirings) -> Result<InstanceSet, NoMemory>
+        ensures { IfOk result (λ set. (i : InstanceOf) → has_key set i ≡ is_listed (map (λ l. l.instance) (map live_seen live.now.list)) i) }
     {
         let mut set = InstanceSet::new(alloc);
-        'live: for firing in live {
+        'live: for firing in live.all() {
             set.add(&firing.instance)?;
         }
         Ok(set)

@@ -8,7 +8,6 @@ mod comparing;
 mod followed;
 mod following;
 mod instances;
-mod live;
 mod telling;
 
 pub use answer::{Open, Outstanding};

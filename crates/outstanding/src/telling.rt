@@ -27,6 +27,7 @@ pub fn add_element<M: MatchChanges>(
     ensures rules { OnOk result (M.rules matcher.new ≡ M.rules matcher.old) }
     ensures elements { OnOk result (M.elements matcher.new ≡ with_element (M.elements matcher.old) element) }
     ensures holds { OnOk result (Holds (M.rules matcher.new) (M.elements matcher.new) kept.new) }
+    ensures counts { OnOk result (kept.new.counts ≡ kept.old.counts) }
 {
     let keys = matcher.add_element_told(alloc, element)?;
     told(kept, keys)
@@ -46,6 +47,7 @@ pub fn remove_element<M: MatchChanges>(
     ensures rules { OnOk result (M.rules matcher.new ≡ M.rules matcher.old) }
     ensures elements { OnOk result (M.elements matcher.new ≡ without_tag tag (M.elements matcher.old)) }
     ensures holds { OnOk result (Holds (M.rules matcher.new) (M.elements matcher.new) kept.new) }
+    ensures counts { OnOk result (kept.new.counts ≡ kept.old.counts) }
 {
     let keys = matcher.remove_element_told(alloc, tag)?;
     told(kept, keys)
@@ -65,6 +67,7 @@ pub fn add_rule<M: MatchChanges>(
     ensures rules { OnOk result (M.rules matcher.new ≡ with_rule (M.rules matcher.old) (rule_seen rule.now)) }
     ensures elements { OnOk result (M.elements matcher.new ≡ M.elements matcher.old) }
     ensures holds { OnOk result (Holds (M.rules matcher.new) (M.elements matcher.new) kept.new) }
+    ensures counts { OnOk result (kept.new.counts ≡ kept.old.counts) }
 {
     let keys = matcher.add_rule_told(alloc, rule)?;
     told(kept, keys)
@@ -79,6 +82,7 @@ pub fn remove_rule<M: MatchChanges>(matcher: &mut M, kept: &mut Kept, number: u6
     ensures rules { M.rules matcher.new ≡ without_rule (M.rules matcher.old) number }
     ensures elements { M.elements matcher.new ≡ M.elements matcher.old }
     ensures holds { Holds (M.rules matcher.new) (M.elements matcher.new) kept.new }
+    ensures counts { kept.new.counts ≡ kept.old.counts }
 {
     matcher.remove_rule(number);
     leave_rule(kept, number);

@@ -47,7 +47,7 @@ fn is_pending(
     let elements = memory.all(alloc)?;
     let listed = listed(alloc, &rules)?;
     let instances = conflict(alloc, listed.as_slice(), elements.as_slice())?;
-    let left = compare(alloc, instances, live.as_slice())?;
+    let left = compare(alloc, instances, &live)?;
     let work = pending(alloc, proposing, &rules, &memory, &goals, left)?;
     Ok(is_work(&work, retracted, fired))
 }

@@ -1,37 +1,38 @@
 // The elements of working memory, by tag.
-ghost use Rattle.std.specs.Prelude.{◌≡◌, map, false, [], OnOk, OnErr, IfOk};
-ghost use Rattle.std.specs.BTreeMap.{IsOrdered};
+ghost use Rattle.std.specs.Prelude.{◌≡◌, false, [], OnOk, OnErr, IfOk};
 ghost use Rattle.std.specs.List.{list_any};
+ghost use Rattle.std.specs.List.Sorted.{IsPermutation, IsSorted};
 ghost use Rattle.std.specs.Map.{values_of};
 ghost use Rattle.std.specs.Ordering.{nat_cmp};
 ghost use Rattle.defs_match.specs.Contents.{with_element};
 ghost use Rattle.soar_wm.specs.WorkingMemory.{IsRising, element_of, has_tag, without_tag};
-ghost use Rattle.rete_alpha.specs.Taking.{takes, tags_taken};
+ghost use Rattle.rete_alpha.specs.Entries.{OwnTags, in_order};
+ghost use Rattle.rete_alpha.specs.Taking.{keys_taken, tags_taken};
 
 use crate::pattern::{ConstPattern, takes};
 use soar_sym::{List, NoMemory};
 use soar_wm::Element;
 use std::alloc::Global;
-use std::collections::BTreeMap;
+use std::collections::HashMap;
 use std::marker::Model;
 
-/// Elements in order of tag. What one change of them costs grows with the logarithm of their number.
+/// Elements by tag. What a change or a look-up costs does not grow with their number, but when the table itself grows.
 #[derive(Drop)]
 pub struct Elements {
-    by_tag: BTreeMap<u32, Element>,
+    by_tag: HashMap<u32, Element>,
 }
 
 impl Model for Elements {
     ghost use Rattle.std.specs.Prelude.{List as ListOf};
     ghost use Rattle.std.specs.Map.{values_of};
     ghost use Rattle.soar_wm.specs.declared.element.Element.{Element as ElementOf};
-    ghost use Rattle.rete_alpha.specs.Entries.{OwnTags};
+    ghost use Rattle.rete_alpha.specs.Entries.{OwnTags, in_order};
 
     ghost Value = { ListOf ElementOf };
 
-    ghost view = { λ a. values_of a.by_tag.entries };
+    ghost view = { λ a. values_of (in_order a.by_tag.entries) };
 
-    ghost invariant = { λ a. OwnTags a.by_tag.entries };
+    ghost invariant = { λ a. OwnTags (in_order a.by_tag.entries) };
 }
 
 impl Elements {
@@ -40,7 +41,7 @@ impl Elements {
         ensures { result ≡ [] }
     {
         Elements {
-            by_tag: BTreeMap::new(alloc),
+            by_tag: HashMap::new(alloc),
         }
     }
 
@@ -61,7 +62,6 @@ impl Elements {
         ensures rest { self.new ≡ without_tag tag self.old }
         ensures rising { IsRising self.old }
     {
-        let _count = self.by_tag.len();
         self.by_tag.remove(&tag)
     }
 
@@ -91,18 +91,40 @@ impl Elements {
 /// The tags of the elements of a map that a pattern takes, in order.
 fn tags_of(
     alloc: Global,
-    by_tag: &BTreeMap<u32, Element>,
+    by_tag: &HashMap<u32, Element>,
     p: &ConstPattern,
 ) -> Result<List<u32>, NoMemory>
-    ensures tags { IfOk result (λ tags. tags ≡ tags_taken p.now (values_of by_tag.now.entries)) }
-    ensures ordered { OnOk result (IsOrdered nat_cmp by_tag.now) }
+    requires { OwnTags (in_order by_tag.now.entries) }
+    ensures { IfOk result (λ tags. tags ≡ tags_taken p.now (values_of (in_order by_tag.now.entries))) }
 {
     let _count = by_tag.len();
+    let tags = keys_taken(alloc, by_tag, p)?;
+    Ok(sorted(tags))
+}
+
+/// The tags under which a map has the elements that a pattern takes, in the map's order.
+fn keys_taken(
+    alloc: Global,
+    by_tag: &HashMap<u32, Element>,
+    p: &ConstPattern,
+) -> Result<List<u32>, NoMemory>
+    ensures { IfOk result (λ tags. tags ≡ keys_taken p.now by_tag.now.entries) }
+{
     let mut tags = List::new(alloc);
-    'elements: for element in by_tag.values() {
+    'elements: for (tag, element) in by_tag.iter() {
         if takes(p, element) {
-            tags.push(element.tag)?;
+            tags.push(*tag)?;
         }
     }
     Ok(tags)
+}
+
+/// The tags, the lowest first.
+fn sorted(tags: List<u32>) -> List<u32>
+    ensures same { IsPermutation tags result }
+    ensures sorted { IsSorted nat_cmp result }
+{
+    let mut tags = tags.into_vec();
+    tags.sort_unstable();
+    List::from_vec(tags)
 }

@@ -16,4 +16,4 @@ pub line_of_counts : (p : PartsKept) (history : List RecordedFiring) → stats_l
 line_of_counts p history =
     let s : Stats = stats_seen (counts_in p) in
     ap (λ n. stats_line (record s { productions = n })) (sym (length-map p.rules rule_seen))
-    ∙ ap (λ n. stats_line (record s { productions = length (map rule_seen p.rules); live = n })) (sym (length-map p.live live_seen))
+    ∙ ap (λ n. stats_line (record s { productions = length (map rule_seen p.rules); live = n })) (sym (length-map p.live.list live_seen))

@@ -15,14 +15,14 @@ ghost use Rattle.soar_agent.specs.Numbered.{IsOperandNumbered, IsSlotNumbered, I
 ghost use Rattle.soar_agent.specs.States.{IsReady, session_of};
 
 use crate::state::Session;
-use defs_match::Matcher;
 use defs_run::{Addition, Operand};
 use defs_soar::is_operator_slot;
+use outstanding::Outstanding;
 use session_parts::{Origin, Reason, Slot};
 use soar_cycle::Stop;
 use soar_sym::{Text, Triple};
 
-impl<M: Matcher> Session<M> {
+impl<M: Outstanding> Session<M> {
     /// Adds an element to the inputs.
     pub fn add(
         &mut self,

@@ -8,12 +8,12 @@ ghost use Rattle.soar_agent.specs.Carries.{Carries, RepliesNothing};
 ghost use Rattle.soar_agent.specs.States.{IsReady};
 
 use crate::state::Session;
-use defs_match::Matcher;
+use outstanding::Outstanding;
 use session_parts::{Origin, Reason};
 use soar_cycle::Stop;
 use soar_sym::{Sym, Text};
 
-impl<M: Matcher> Session<M> {
+impl<M: Outstanding> Session<M> {
     /// Takes the production of a name away, where one is loaded.
     pub fn excise(&mut self, origin: &Origin<'_>, name: Sym, out: &mut Text) -> Result<bool, Stop>
         requires ready { IsReady self.old }

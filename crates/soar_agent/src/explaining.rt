@@ -9,13 +9,13 @@ ghost use Rattle.soar_agent.specs.Running.{run_learning};
 ghost use Rattle.soar_agent.specs.States.{IsReady};
 
 use crate::state::Session;
-use defs_match::Matcher;
 use list_parts::list_chain;
+use outstanding::Outstanding;
 use session_parts::{Origin, Reason};
 use soar_cycle::Stop;
 use soar_sym::{Sym, Text};
 
-impl<M: Matcher> Session<M> {
+impl<M: Outstanding> Session<M> {
     /// Says the explanation of the production of a name, where that was learned.
     pub fn explain(&mut self, origin: &Origin<'_>, name: Sym, out: &mut Text) -> Result<bool, Stop>
         requires ready { IsReady self.old }

@@ -7,11 +7,11 @@ ghost use Rattle.soar_agent.specs.Numbered.{IsTripleNumbered};
 ghost use Rattle.soar_agent.specs.States.{IsReady};
 
 use crate::state::Session;
-use defs_match::Matcher;
+use outstanding::Outstanding;
 use soar_cycle::Stop;
 use soar_sym::{Text, Triple};
 
-impl<M: Matcher> Session<M> {
+impl<M: Outstanding> Session<M> {
     /// Puts a triple behind the inputs, or takes it out, and says what settling does then.
     pub fn change_inputs(
         &mut self,

@@ -17,13 +17,13 @@ ghost use Rattle.soar_agent.specs.States.{IsReady, session_of};
 
 use crate::state::Session;
 use command_labels::Label;
-use defs_match::Matcher;
 use defs_run::Operand;
+use outstanding::Outstanding;
 use session_parts::letter_from;
 use soar_cycle::Stop;
 use soar_sym::{Sym, Text};
 
-impl<M: Matcher> Session<M> {
+impl<M: Outstanding> Session<M> {
     /// The symbol that an operand stands for. A label that is used for the first time becomes a new identifier.
     pub fn resolve(&mut self, operand: Operand) -> Result<Sym, Stop>
         requires ready { IsReady self.old }

@@ -13,14 +13,14 @@ ghost use Rattle.soar_agent.specs.Carries.{Carries, Replies};
 ghost use Rattle.soar_agent.specs.States.{IsReady};
 
 use crate::state::Session;
-use defs_match::Matcher;
 use defs_run::Operand;
 use list_parts::list_matches_of;
+use outstanding::Outstanding;
 use session_parts::{Origin, Reason, say_elements_of, say_matches, say_production};
 use soar_cycle::Stop;
 use soar_sym::{Sym, Text};
 
-impl<M: Matcher> Session<M> {
+impl<M: Outstanding> Session<M> {
     /// Says the conflict set.
     pub fn list_matches(&mut self, out: &mut Text) -> Result<bool, Stop>
         requires { IsReady self.old }

@@ -10,11 +10,11 @@ ghost use Rattle.soar_agent.specs.Carries.{RepliesNothing};
 ghost use Rattle.soar_agent.specs.States.{IsReady};
 
 use crate::state::Session;
-use defs_match::Matcher;
+use outstanding::Outstanding;
 use soar_cycle::Stop;
 use soar_rule::Production;
 
-impl<M: Matcher> Session<M> {
+impl<M: Outstanding> Session<M> {
     /// Loads a production under the next rule number, in the place of that of its name.
     pub fn load(&mut self, production: Production) -> Result<bool, Stop>
         requires ready { IsReady self.old }

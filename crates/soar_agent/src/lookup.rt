@@ -6,11 +6,11 @@ ghost use Rattle.session_parts.specs.Told.{AreLevelsTold};
 ghost use Rattle.soar_agent.specs.States.{IsReady, session_of};
 
 use crate::state::Session;
-use defs_match::Matcher;
+use outstanding::Outstanding;
 use session_parts::Lookup;
 use std::alloc::Global;
 
-impl<M: Matcher> Session<M> {
+impl<M: Outstanding> Session<M> {
     pub fn lookup(&self, alloc: Global) -> Lookup<'_>
         ensures table { result.table.now ≡ self.now.agent.parts.table }
         ensures letters { result.letters.now ≡ self.now.agent.parts.letters }

@@ -10,13 +10,13 @@ ghost use Rattle.soar_agent.specs.Running.{run_learning};
 ghost use Rattle.soar_agent.specs.States.{IsReady};
 
 use crate::state::Session;
-use defs_match::Matcher;
 use defs_run::Order;
+use outstanding::Outstanding;
 use session_parts::Origin;
 use soar_cycle::Stop;
 use soar_sym::Text;
 
-impl<M: Matcher> Session<M> {
+impl<M: Outstanding> Session<M> {
     /// Carries an order out that asks for no cycles, no file and no end, and answers whether it was refused.
     pub fn carry_out_alone(
         &mut self,

@@ -16,13 +16,13 @@ ghost use Rattle.soar_agent.specs.Queueing.{queues_triple};
 ghost use Rattle.soar_agent.specs.States.{IsReady, session_of};
 
 use crate::state::Session;
-use defs_match::Matcher;
 use defs_run::Addition;
+use outstanding::Outstanding;
 use session_parts::{Origin, Reason, Slot};
 use soar_cycle::Stop;
 use soar_sym::{List, Text, Triple};
 
-impl<M: Matcher> Session<M> {
+impl<M: Outstanding> Session<M> {
     /// Queues a change of the inputs for the next input phase.
     pub fn queue(
         &mut self,

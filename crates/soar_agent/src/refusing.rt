@@ -12,12 +12,12 @@ ghost use Rattle.soar_agent.specs.States.{IsReady, IsSoundSession, StaysStopped,
 
 use crate::standing::standing_after;
 use crate::state::Session;
-use defs_match::Matcher;
+use outstanding::Outstanding;
 use session_parts::{Origin, Reason, say_refusal, say_stop};
 use soar_cycle::{Standing, Stop};
 use soar_sym::Text;
 
-impl<M: Matcher> Session<M> {
+impl<M: Outstanding> Session<M> {
     /// Refuses a command, which leaves the agent as it was.
     pub fn refuse_with(
         &mut self,

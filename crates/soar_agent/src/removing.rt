@@ -11,13 +11,13 @@ ghost use Rattle.soar_agent.specs.Numbered.{IsTripleNumbered};
 ghost use Rattle.soar_agent.specs.States.{IsReady};
 
 use crate::state::Session;
-use defs_match::Matcher;
+use outstanding::Outstanding;
 use session_parts::{Origin, Reason, element_of, triple_of};
 use soar_cycle::Stop;
 use soar_sym::Text;
 use soar_wm::Element;
 
-impl<M: Matcher> Session<M> {
+impl<M: Outstanding> Session<M> {
     /// Takes the element of a tag from the inputs.
     pub fn remove(&mut self, origin: &Origin<'_>, tag: u64, out: &mut Text) -> Result<bool, Stop>
         requires { IsReady self.old }

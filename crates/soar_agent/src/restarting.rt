@@ -6,11 +6,11 @@ ghost use Rattle.soar_agent.specs.States.{IsReady};
 
 use crate::state::Session;
 use command_labels::Labels;
-use defs_match::Matcher;
+use outstanding::Outstanding;
 use soar_cycle::Stop;
 use std::alloc::Global;
 
-impl<M: Matcher> Session<M> {
+impl<M: Outstanding> Session<M> {
     /// Starts anew, with the productions and the settings (Soar manual, chapter 9, init-soar). The labels go.
     pub fn restart(&mut self, alloc: Global) -> Result<bool, Stop>
         requires { IsReady self.old }

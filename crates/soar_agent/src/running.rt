@@ -16,13 +16,12 @@ ghost use Rattle.soar_agent.specs.States.{IsReady, IsSoundSession, StaysStopped}
 use crate::outcome::{Outcome, outcome_of};
 use crate::standing::standing_after;
 use crate::state::Session;
-use defs_match::Matcher;
 use outstanding::Outstanding;
 use session_parts::{Origin, Reason, say_stop};
 use soar_cycle::{Standing, Stop};
 use soar_sym::Text;
 
-impl<M: Matcher> Session<M> {
+impl<M: Outstanding> Session<M> {
     /// Asks for so many cycles, unless the agent is halted.
     pub fn ask_to_run(
         &mut self,
@@ -39,9 +38,7 @@ impl<M: Matcher> Session<M> {
         }
         Ok(Outcome::Run(count))
     }
-}
 
-impl<M: Outstanding> Session<M> {
     /// Runs a cycle, and appends what it says. At a limit that is what comes before, and the line of the limit;
     /// nothing where there is no memory. True exactly where the agent is halted in the end.
     pub fn cycle(&mut self, text: &mut Text) -> Result<bool, Stop>

@@ -17,10 +17,10 @@ use crate::outcome::{Outcome, outcome_of};
 use crate::standing::standing_after;
 use crate::state::Session;
 use command_labels::Labels;
-use defs_match::Matcher;
 use defs_run::Order;
 use defs_soar::Which;
 use loading_laws::what_is_read_may_be_loaded;
+use outstanding::Outstanding;
 use session_parts::{Origin, Reason, say_stop};
 use soar_cmd::{CmdFault, read_command};
 use soar_cycle::{Agent, Standing, Stop};
@@ -28,7 +28,7 @@ use soar_edge::Command;
 use soar_sym::{NoMemory, Text};
 use std::alloc::Global;
 
-impl<M: Matcher + Drop> Session<M> {
+impl<M: Outstanding + Drop> Session<M> {
     /// The top state with its input and output links, and no rule, at a watch level from 0 to 5.
     pub fn new(alloc: Global, matcher: M, watch: u8) -> Result<Session<M>, NoMemory>
         requires works { M.failed matcher ≡ false }
@@ -47,7 +47,7 @@ impl<M: Matcher + Drop> Session<M> {
     }
 }
 
-impl<M: Matcher> Session<M> {
+impl<M: Outstanding> Session<M> {
     /// Carries a command of a source out, all but the cycles that it asks for, and appends what it says. At a limit
     /// that is what comes before, and the line of the limit; nothing where there is no memory.
     pub fn command(&mut self, c: &Command, source: &str, text: &mut Text) -> Result<Outcome, Stop>

@@ -7,11 +7,11 @@ ghost use Rattle.soar_agent.specs.Carries.{RepliesNothing};
 ghost use Rattle.soar_agent.specs.States.{IsReady};
 
 use crate::state::Session;
-use defs_match::Matcher;
 use defs_soar::Mode;
+use outstanding::Outstanding;
 use soar_cycle::{Settings, Stop};
 
-impl<M: Matcher> Session<M> {
+impl<M: Outstanding> Session<M> {
     /// Sets the watch level, from 0 to 5. Lines of the same command keep the level that was set before it.
     pub fn set_watch(&mut self, watch: u8) -> Result<bool, Stop>
         requires { IsReady self.old }

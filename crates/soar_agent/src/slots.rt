@@ -11,14 +11,14 @@ ghost use Rattle.soar_agent.specs.Carries.{Carries, Replies};
 ghost use Rattle.soar_agent.specs.States.{IsReady};
 
 use crate::state::Session;
-use defs_match::Matcher;
 use defs_run::Operand;
 use list_parts::list_preferences;
+use outstanding::Outstanding;
 use session_parts::{Origin, Reason, Slot};
 use soar_cycle::Stop;
 use soar_sym::Text;
 
-impl<M: Matcher> Session<M> {
+impl<M: Outstanding> Session<M> {
     /// Says the preferences of a slot. A label that is used for the first time becomes a new identifier.
     pub fn list_slot(
         &mut self,

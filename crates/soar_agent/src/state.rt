@@ -1,11 +1,11 @@
 use command_labels::Labels;
-use defs_match::Matcher;
+use outstanding::Outstanding;
 use soar_cycle::{Agent, Standing};
 
 /// The state of a run between two commands: the agent, the labels that stand for identifiers, and whether the session
 /// stands for a state.
 #[derive(Drop)]
-pub struct Session<M: Matcher> {
+pub struct Session<M: Outstanding> {
     pub agent: Agent<M>,
     pub labels: Labels,
     pub standing: Standing,

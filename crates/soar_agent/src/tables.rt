@@ -7,12 +7,12 @@ ghost use Rattle.soar_agent.specs.Counting.{stats_seen};
 ghost use Rattle.soar_agent.specs.States.{IsReady};
 
 use crate::state::Session;
-use defs_match::Matcher;
 use list_parts::{Stats, list_chunks, list_elements, list_rules, say_stats};
+use outstanding::Outstanding;
 use soar_cycle::{Counts, Stop};
 use soar_sym::Text;
 
-impl<M: Matcher> Session<M> {
+impl<M: Outstanding> Session<M> {
     /// Says all elements.
     pub fn list_memory(&mut self, out: &mut Text) -> Result<bool, Stop>
         requires { IsReady self.old }

@@ -3,6 +3,7 @@ use Rattle.std.specs.Prelude.{◌≡◌, Bool, List, Option, Some, None, Result,
 use Rattle.soar_sym.specs.Words.{Texts}
 use Rattle.soar_wm.specs.declared.element.Element.{Element}
 use Rattle.defs_match.specs.Rules.{RuleOf}
+use Rattle.live_firings.specs.declared.live.Live.{Live}
 use Rattle.soar_settle.specs.declared.stop.Stop.{Stop}
 use Rattle.soar_settle.specs.declared.stop.Stop.TheVariants as stop
 use Rattle.wave_parts.specs.Lawful.{IsOfLawful}
@@ -20,9 +21,9 @@ pub record AgentSeen : Type 0 where
 abbrev pub agent_seen : PartsKept → Bool → Standing → AgentSeen
 agent_seen parts mid_line standing = record { parts = parts; mid_line = mid_line; standing = standing }
 
--- while it stands for a state, its matcher holds the rules and working memory
-abbrev pub IsBound : List RuleOf → List Element → Bool → PartsKept → Standing → Type 0
-IsBound rules elements failed parts s = s ≡ standing.Stands → Bond rules elements failed parts
+-- while it stands for a state, its matcher holds the rules and working memory, and knows the live firings that were told
+abbrev pub IsBound : List RuleOf → List Element → Bool → (List Live → Type 0) → PartsKept → Standing → Type 0
+IsBound rules elements failed knows parts s = s ≡ standing.Stands → Bond rules elements failed knows parts
 
 -- while it stands for a state, its parts are sound, and stand for a lawful one
 abbrev pub IsSoundAgent : AgentSeen → Type 0

@@ -23,6 +23,6 @@ counts_in p = record {
   productions = length p.rules;
   elements = length p.memory.elements;
   preferences = length p.prefs.rows;
-  live = length p.live;
+  live = length p.live.list;
   chunks = length (chunks_among (map rule_seen p.rules));
 }

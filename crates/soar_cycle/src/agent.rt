@@ -16,8 +16,8 @@ use crate::counts::{Counts, counts_in};
 use crate::explaining::chain_of_rule;
 use crate::standing::Standing;
 use cycle_parts::Engine;
-use defs_match::Matcher;
 use defs_soar::{Chain, Goal};
+use outstanding::Outstanding;
 use rule_shelf::Rules;
 use soar_prefs::Prefs;
 use soar_sym::{Letters, List, NoMemory, SymTable, Triple};
@@ -28,14 +28,14 @@ use wave_parts::{Settings, Stop};
 
 /// An agent over any matcher, which holds its rules and working memory.
 #[derive(Drop)]
-pub struct Agent<M: Matcher> {
+pub struct Agent<M: Outstanding> {
     pub(crate) engine: Engine<M>,
     pub(crate) mid_line: bool,
     pub(crate) standing: Standing,
     pub(crate) alloc: Global,
 }
 
-impl<M: Matcher> Model for Agent<M> {
+impl<M: Outstanding> Model for Agent<M> {
     ghost use Rattle.std.specs.Coded.{codes};
     ghost use Rattle.defs_match.specs.contracts.rule.Rule as rule;
     ghost use Rattle.soar_cycle.specs.Agents.{AgentSeen, IsBound, agent_seen};
@@ -46,10 +46,10 @@ impl<M: Matcher> Model for Agent<M> {
 
     ghost view = { λ a. agent_seen a.engine.parts a.mid_line a.standing };
 
-    ghost invariant = { λ a. IsBound (M.rules a.engine.matcher) (M.elements a.engine.matcher) (M.failed a.engine.matcher) a.engine.parts a.standing };
+    ghost invariant = { λ a. IsBound (M.rules a.engine.matcher) (M.elements a.engine.matcher) (M.failed a.engine.matcher) (M.knows a.engine.matcher) a.engine.parts a.standing };
 }
 
-impl<M: Matcher + Drop> Agent<M> {
+impl<M: Outstanding + Drop> Agent<M> {
     /// The top state with its input and output links, and no rule (Soar manual, chapter 2, the top state), told at a watch
     /// level from 0 to 5.
     pub fn new(alloc: Global, matcher: M, watch: u8) -> Result<Agent<M>, NoMemory>
@@ -71,10 +71,10 @@ impl<M: Matcher + Drop> Agent<M> {
     }
 }
 
-impl<M: Matcher> Agent<M> {
+impl<M: Outstanding> Agent<M> {
     /// The words, to which more may be added. What is left there has to begin with the words that were there.
     pub fn table(&mut self) -> &mut SymTable
-        ensures* writes_back { sem 𝓛 (Lends (agent.the_row M.row M.Matcher) table.the_row self.entry result (with_table self.old)) }
+        ensures* writes_back { sem 𝓛 (Lends (agent.the_row M.row M.Outstanding.own M.Matcher) table.the_row self.entry result (with_table self.old)) }
         ensures value { result.now ≡ self.old.parts.table }
     {
         &mut self.engine.parts.table

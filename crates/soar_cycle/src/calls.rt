@@ -11,11 +11,11 @@ ghost use Rattle.decision_parts.specs.Stepping.{GoesStep, QuietStep};
 use crate::agent::Agent;
 use crate::standing::{Standing, standing_after};
 use crate::telling::tell;
-use defs_match::Matcher;
+use outstanding::Outstanding;
 use soar_sym::{List, Sym, Text, Triple};
 use wave_parts::{Settings, Stop};
 
-impl<M: Matcher> Agent<M> {
+impl<M: Outstanding> Agent<M> {
     /// Adds a triple to the inputs, or takes it out, settles, and appends what is told of that. Nothing is appended where
     /// memory is wanting.
     pub fn input_now(&mut self, adds: bool, triple: Triple, text: &mut Text) -> Result<(), Stop>

@@ -5,10 +5,10 @@ ghost use Rattle.firing_records.specs.Levels.{TellsLevels};
 ghost use Rattle.wave_parts.specs.Seen.{IsSound};
 
 use crate::agent::Agent;
-use defs_match::Matcher;
 use kept_triples::Kept;
+use outstanding::Outstanding;
 
-impl<M: Matcher> Agent<M> {
+impl<M: Outstanding> Agent<M> {
     /// The levels of what the goals reach over working memory, as they are kept from step to step (Soar manual, chapter 2,
     /// substates and levels).
     pub fn levels(&self) -> &Kept

@@ -14,12 +14,13 @@ ghost use Rattle.decision_parts.specs.Stepping.{QuietStep};
 
 use crate::agent::Agent;
 use crate::standing::{Standing, standing_after};
-use defs_match::{Instance, Matcher};
+use defs_match::Instance;
+use outstanding::Outstanding;
 use soar_rule::Production;
 use soar_sym::{List, NoMemory, Sym};
 use wave_parts::Stop;
 
-impl<M: Matcher> Agent<M> {
+impl<M: Outstanding> Agent<M> {
     /// Loads a production under the next rule number, in the place of that of its name, whose explanation goes too.
     pub fn load(&mut self, production: Production) -> Result<(), Stop>
         requires sound { IsSoundAgent self.old }

@@ -10,17 +10,14 @@ use Rattle.settling_laws.specs.Changes.{of_value}
 use Rattle.soar_prefs.specs.declared.event.Event.{Event}
 use Rattle.soar_prefs.specs.declared.key.Key.TheVariants.{Triple}
 use Rattle.soar_prefs.specs.Memory.{CoversRows, has_plain}
-use Rattle.soar_prefs.specs.Store.{same_key, is_of, Rows, row_at, IsBefore, IsNumbered, plain, triple_key, taken_out, put_back, before, undone}
-use Rattle.soar_prefs.proofs.KeyLemmas.{key_same, key_is, key_tied}
+use Rattle.soar_prefs.specs.Store.{same_key, is_of, Rows, row_at, IsBefore, IsNumbered, plain, triple_key, taken_out, put_back, before, event_of, row_of, undone}
+use Rattle.soar_prefs.proofs.KeyLemmas.{own_triple, one_triple}
 use Rattle.soar_prefs.proofs.StoreLemmas.{apart, at_end, self}
 
 -- one more came or went
 undone_more : (journal : List Event) (event : Event) (rows : Rows) → undone (journal ++ event ∷ []) rows ≡ undone journal (before event rows)
 undone_more [] event rows = refl
 undone_more (first ∷ journal) event rows = ap (before first) (undone_more journal event rows)
-
-own_triple : (row : Preference) → is_of (triple_key row) row ≡ true
-own_triple row = sym (key_same (triple_key row) (triple_key row)) ∙ ap is_eq (key_tied (triple_key row))
 
 -- a row that came last is the last
 last_out : (next : ℕ) (rows : Rows) (row : Preference) → IsNumbered next rows → taken_out next row (rows ++ (next, row) ∷ []) ≡ rows
@@ -65,13 +62,13 @@ back_in next n row (e ∷ rows) numbered found = by (is_eq (nat_cmp n e.0)) refl
 -- what is settled stays
 
 pub settled_add : (journal journal′ : List Event) (rows rows′ : Rows) (next : ℕ) (row : Preference) (event : Event) → IsNumbered next rows → rows′ ≡ insert_entry nat_cmp rows next row → journal′ ≡ journal ++ event ∷ []
-    → event ≡ record { number = next; row = row; came = true } → undone journal′ rows′ ≡ undone journal rows
+    → event ≡ event_of next row true → undone journal′ rows′ ≡ undone journal rows
 settled_add journal journal′ rows rows′ next row event numbered rows_are journal_is event_is =
     ap₂ undone journal_is (rows_are ∙ at_end next rows row numbered) ∙ undone_more journal event (rows ++ (next, row) ∷ []) ∙ ap (λ e. undone journal (before e (rows ++ (next, row) ∷ []))) event_is
     ∙ ap (undone journal) (last_out next rows row numbered)
 
 pub settled_drop : (journal journal′ : List Event) (rows rows′ : Rows) (next n : ℕ) (row : Preference) (event : Event) → IsNumbered next rows → Some row ≡ row_at rows n → rows′ ≡ remove_entry (is_at (nat_cmp n)) rows
-    → journal′ ≡ journal ++ event ∷ [] → event ≡ record { number = n; row = row; came = false } → undone journal′ rows′ ≡ undone journal rows
+    → journal′ ≡ journal ++ event ∷ [] → event ≡ event_of n row false → undone journal′ rows′ ≡ undone journal rows
 settled_drop journal journal′ rows rows′ next n row event numbered found rows_are journal_is event_is =
     ap₂ undone journal_is rows_are ∙ undone_more journal event (remove_entry (is_at (nat_cmp n)) rows) ∙ ap (λ e. undone journal (before e (remove_entry (is_at (nat_cmp n)) rows))) event_is
     ∙ ap (undone journal) (back_in next n row rows numbered found)
@@ -86,7 +83,7 @@ is_its t row = is_of (Triple t.id t.attr t.value) row
 
 -- rows of one triple
 alike : (t : Fact) (row other : Preference) → is_of (triple_key row) other ≡ true → is_its t other ≡ is_its t row
-alike t row other same = ap (λ k. same_key k (Triple t.id t.attr t.value)) (key_is (triple_key other) (triple_key row) same)
+alike t row other same = ap (λ k. same_key k (Triple t.id t.attr t.value)) (one_triple row other same)
 
 unseen_out : (t : Fact) (n : ℕ) (row : Preference) (rows : Rows) → is_its t row ≡ false → rows_of t (taken_out n row rows) ≡ rows_of t rows
 unseen_out t n row [] other = refl
@@ -105,12 +102,12 @@ unseen_back t n row (e ∷ rows) other = by (is_lt (nat_cmp n e.0)) (unseen_back
     by true deep = ap (λ b. cond b (row ∷ rows_of t (e ∷ rows)) (rows_of t (e ∷ rows))) other
     by false deep = ap (λ es. cond (is_its t e.1) (e.1 ∷ es) es) deep
 
-unseen : (t : Fact) (event : Event) (rows : Rows) → is_its t event.row ≡ false → rows_of t (before event rows) ≡ rows_of t rows
+unseen : (t : Fact) (event : Event) (rows : Rows) → is_its t (row_of event) ≡ false → rows_of t (before event rows) ≡ rows_of t rows
 unseen t event rows other = by event.came
   where
-    by : (b : Bool) → rows_of t (cond b (taken_out event.number event.row rows) (put_back event.number event.row rows)) ≡ rows_of t rows
-    by true = unseen_out t event.number event.row rows other
-    by false = unseen_back t event.number event.row rows other
+    by : (b : Bool) → rows_of t (cond b (taken_out event.number (row_of event) rows) (put_back event.number (row_of event) rows)) ≡ rows_of t rows
+    by true = unseen_out t event.number (row_of event) rows other
+    by false = unseen_back t event.number (row_of event) rows other
 
 first_is_none : (a b : Bool) → (a || b) ≡ false → a ≡ false
 first_is_none true b h = h
@@ -120,8 +117,8 @@ rest_are_none : (a b : Bool) → (a || b) ≡ false → b ≡ false
 rest_are_none true b h = absurd (cc)
 rest_are_none false b h = h
 
-pub changes_cover : (journal : List Event) (rows : Rows) → CoversRows (map (λ event. plain event.row) journal) (values_of (undone journal rows)) (values_of rows)
+pub changes_cover : (journal : List Event) (rows : Rows) → CoversRows (map (λ event. plain (row_of event)) journal) (values_of (undone journal rows)) (values_of rows)
 changes_cover [] rows t none = refl
 changes_cover (event ∷ journal) rows t none =
-    unseen t event (undone journal rows) (first_is_none (is_its t event.row) (has_plain (map (λ event. plain event.row) journal) t) none)
-    ∙ changes_cover journal rows t (rest_are_none (is_its t event.row) (has_plain (map (λ event. plain event.row) journal) t) none)
+    unseen t event (undone journal rows) (first_is_none (is_its t (row_of event)) (has_plain (map (λ event. plain (row_of event)) journal) t) none)
+    ∙ changes_cover journal rows t (rest_are_none (is_its t (row_of event)) (has_plain (map (λ event. plain (row_of event)) journal) t) none)

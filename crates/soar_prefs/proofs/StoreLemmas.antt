@@ -7,8 +7,9 @@ use Rattle.std.specs.declared.cmp.Ordering.TheVariants.{Greater}
 use Rattle.std.proofs.lemmas.List.{map-append}
 use Rattle.defs_soar.specs.declared.preference.Preference.{Preference}
 use Rattle.soar_wm.proofs.KeyLemmas.{nat_same, nat_is}
+use Rattle.soar_prefs.specs.declared.index.Index.{Index}
 use Rattle.soar_prefs.specs.declared.key.Key.{Key}
-use Rattle.soar_prefs.specs.Store.{is_of, Rows, Numbers, row_at, has, is_own, Marks, is_held, IsBefore, IsNumbered, IsStore}
+use Rattle.soar_prefs.specs.Store.{is_of, Rows, row_at, has, is_own, Marks, is_held, IsBefore, IsNumbered, IsStore}
 
 pub apart : (m n : ℕ) → n < m → is_eq (nat_cmp m n) ≡ false
 apart m n h = grind arith
@@ -46,7 +47,7 @@ numbered_push next (e ∷ rows) row numbered = (omega (arith, numbered.0), befor
 pub values_push : (next : ℕ) (rows new_rows : Rows) (row : Preference) → IsNumbered next rows → new_rows ≡ insert_entry nat_cmp rows next row → values_of new_rows ≡ values_of rows ++ row ∷ []
 values_push next rows new_rows row numbered is = ap values_of (is ∙ at_end next rows row numbered) ∙ map-append (λ e. e.1) rows ((next, row) ∷ [])
 
-pub stored : (rows new_rows : Rows) (numbers new_numbers : Numbers) (next later : ℕ) (row : Preference) → IsStore rows numbers next → later ≡ next + 1 → later < 2 ^ 64 → new_rows ≡ insert_entry nat_cmp rows next row
+pub stored : (rows new_rows : Rows) (numbers new_numbers : Index) (next later : ℕ) (row : Preference) → IsStore rows numbers next → later ≡ next + 1 → later < 2 ^ 64 → new_rows ≡ insert_entry nat_cmp rows next row
     → ((n : ℕ) → row_at new_rows n ≡ cond (is_eq (nat_cmp next n)) (Some row) (row_at rows n)) → Marks row next true numbers new_numbers → IsStore new_rows new_numbers later
 stored rows new_rows numbers new_numbers next later row store next_is small is up marks = record {
   numbered = subst (λ n. IsNumbered n new_rows) (sym next_is) (subst (IsNumbered (next + 1)) (sym (is ∙ at_end next rows row store.numbered)) (numbered_push next rows row store.numbered));
@@ -69,7 +70,7 @@ stored rows new_rows numbers new_numbers next later row store next_is small is u
     by q false h = there (is_of q.0 row) (is_held q.0 (row_at rows q.1))
 
 -- no row more
-pub kept : (rows new_rows : Rows) (numbers new_numbers : Numbers) (next : ℕ) (row : Preference) → IsStore rows numbers next → new_rows ≡ rows → Marks row next false numbers new_numbers → IsStore new_rows new_numbers next
+pub kept : (rows new_rows : Rows) (numbers new_numbers : Index) (next : ℕ) (row : Preference) → IsStore rows numbers next → new_rows ≡ rows → Marks row next false numbers new_numbers → IsStore new_rows new_numbers next
 kept rows new_rows numbers new_numbers next row store same marks =
     subst (λ es. IsStore es new_numbers next) (sym same)
     (record {
@@ -92,7 +93,7 @@ kept rows new_rows numbers new_numbers next row store same marks =
         ap (λ o. cond (is_of q.0 row && true) false (is_held q.0 o)) none ∙ here (is_of q.0 row) ∙ sym (ap (is_held q.0) none)
     by q false h = there (is_of q.0 row) (is_held q.0 (row_at rows q.1))
 
-pub put_back : (row : Preference) (n : ℕ) (h0 h1 h2 : Numbers) → Marks row n true h0 h1 → Marks row n false h1 h2 → Marks row n false h0 h2
+pub put_back : (row : Preference) (n : ℕ) (h0 h1 h2 : Index) → Marks row n true h0 h1 → Marks row n false h1 h2 → Marks row n false h0 h2
 put_back row n h0 h1 h2 up down q = down q ∙ ap (λ b. cond (is_own row n q) false b) (up q) ∙ by (is_own row n q)
   where
     by : (b : Bool) → cond b false (cond b true (has h0 q)) ≡ cond b false (has h0 q)
@@ -117,7 +118,7 @@ numbered_gone next m (e ∷ rows) numbered = by (is_eq (nat_cmp m e.0)) (numbere
     by true h = numbered.2
     by false h = (numbered.0, before_gone e.0 m rows numbered.1, h)
 
-pub gone : (rows new_rows : Rows) (numbers new_numbers : Numbers) (next n : ℕ) (row : Preference) → IsStore rows numbers next → Some row ≡ row_at rows n → new_rows ≡ remove_entry (is_at (nat_cmp n)) rows
+pub gone : (rows new_rows : Rows) (numbers new_numbers : Index) (next n : ℕ) (row : Preference) → IsStore rows numbers next → Some row ≡ row_at rows n → new_rows ≡ remove_entry (is_at (nat_cmp n)) rows
     → ((m : ℕ) → row_at new_rows m ≡ cond (is_eq (nat_cmp n m)) None (row_at rows m)) → Marks row n false numbers new_numbers → IsStore new_rows new_numbers next
 gone rows new_rows numbers new_numbers next n row store was is up marks = record {
   numbered = subst (IsNumbered next) (sym is) (numbered_gone next n rows store.numbered);
@@ -163,10 +164,10 @@ fewer key (e ∷ rows) n held = by (is_eq (nat_cmp n e.0)) held (fewer key rows 
     by false h later = omega (arith, later h)
 
 -- the row of a number that stands under the key is one of it
-pub dropped : (rows new_rows : Rows) (numbers : Numbers) (next : ℕ) (key : Key) (n : ℕ) → IsStore rows numbers next → has numbers (key, n) ≡ true → new_rows ≡ remove_entry (is_at (nat_cmp n)) rows → without key new_rows ≡ without key rows
+pub dropped : (rows new_rows : Rows) (numbers : Index) (next : ℕ) (key : Key) (n : ℕ) → IsStore rows numbers next → has numbers (key, n) ≡ true → new_rows ≡ remove_entry (is_at (nat_cmp n)) rows → without key new_rows ≡ without key rows
 dropped rows new_rows numbers next key n store here is = ap (without key) is ∙ without_one key rows n (sym (store.found (key, n)) ∙ here)
 
-pub dropped_fewer : (rows new_rows : Rows) (numbers : Numbers) (next : ℕ) (key : Key) (n : ℕ) → IsStore rows numbers next → has numbers (key, n) ≡ true → new_rows ≡ remove_entry (is_at (nat_cmp n)) rows → length new_rows < length rows
+pub dropped_fewer : (rows new_rows : Rows) (numbers : Index) (next : ℕ) (key : Key) (n : ℕ) → IsStore rows numbers next → has numbers (key, n) ≡ true → new_rows ≡ remove_entry (is_at (nat_cmp n)) rows → length new_rows < length rows
 dropped_fewer rows new_rows numbers next key n store here is = subst (λ es. length es < length rows) (sym is) (fewer key rows n (sym (store.found (key, n)) ∙ here))
 
 -- where no number stands under the key, no row is of it
@@ -188,5 +189,5 @@ none_left key next (e ∷ rows) numbered none =
     by n less true same = ap (is_held key) (ap (row_at rows) (nat_is n e.0 (sym (nat_same n e.0) ∙ same)) ∙ absent_before e.0 rows numbered.1)
     by n less false same = sym (ap (λ b. is_held key (cond b (Some e.1) (row_at rows n))) same) ∙ none n less
 
-pub all_dropped : (rows : Rows) (numbers : Numbers) (next : ℕ) (key : Key) → IsStore rows numbers next → ((n : ℕ) → n < 2 ^ 64 → has numbers (key, n) ≡ false) → without key rows ≡ values_of rows
-all_dropped rows numbers next key store none = none_left key next rows store.numbered (λ n less. sym (store.found (key, n)) ∙ none n (omega (arith, less, store.small)))
+pub all_dropped : (rows : Rows) (numbers : Index) (next : ℕ) (key : Key) → IsStore rows numbers next → ((n : ℕ) → has numbers (key, n) ≡ false) → without key rows ≡ values_of rows
+all_dropped rows numbers next key store none = none_left key next rows store.numbered (λ n less. sym (store.found (key, n)) ∙ none n)

@@ -1,15 +1,13 @@
 -- Rows by number, and the numbers by what rows are found. No public clause cites this.
-use Rattle.std.specs.Prelude.{◌≡◌, ℕ, ◌+◌, ◌-◌, ◌^◌, ◌<◌, ◌≤◌, ◌==◌, Bool, false, ◌&&◌, cond, List, [], ◌∷◌, length, Option, Some, None, is_some}
-use Rattle.std.specs.BTreeMap.Range.{entries_between}
+use Rattle.std.specs.Prelude.{◌≡◌, ℕ, ◌+◌, ◌^◌, ◌<◌, ◌≤◌, ◌==◌, Bool, false, ◌&&◌, cond, List, [], ◌∷◌, length, Option, Some, None}
 use Rattle.std.specs.Map.{lookup}
-use Rattle.std.specs.Ordering.{is_eq, is_lt, nat_cmp, ordering_then}
-use Rattle.std.specs.declared.cmp.Ordering.{Ordering}
-use Rattle.std.specs.declared.ops.Bound.TheVariants.{Included}
+use Rattle.std.specs.Ordering.{is_eq, is_lt, nat_cmp}
 use Rattle.soar_sym.specs.Equality.{symbol_eq, mark_eq}
 use Rattle.soar_sym.specs.declared.symbol.Triple.{Triple as Fact}
 use Rattle.defs_soar.specs.declared.preference.Preference.{Preference}
-use Rattle.soar_prefs.specs.contracts.key.KeyOrd.TheImpl as key_order
+use Rattle.soar_prefs.specs.Places.{stands, firing_cmp, sym_cmp, slot_cmp, triple_cmp}
 use Rattle.soar_prefs.specs.declared.event.Event.{Event}
+use Rattle.soar_prefs.specs.declared.index.Index.{Index}
 use Rattle.soar_prefs.specs.declared.key.Key.{Key}
 use Rattle.soar_prefs.specs.declared.key.Key.TheVariants.{Firing, Id, Variablized, Triple}
 
@@ -31,23 +29,18 @@ is_of (Triple id attr value) row = symbol_eq row.wish.id id && (symbol_eq row.wi
 abbrev pub Rows : Type 0
 Rows = List (ℕ × Preference)
 
--- keys with the numbers of their rows
-abbrev pub Numbers : Type 0
-Numbers = List ((Key × ℕ) × Unit {0})
-
-abbrev pub number_cmp : Key × ℕ → Key × ℕ → Ordering
-number_cmp a b = ordering_then (key_order.ghosts.cmp a.0 b.0) (nat_cmp a.1 b.1)
-
 abbrev pub row_at : Rows → ℕ → Option Preference
 row_at rows n = lookup (λ k. is_eq (nat_cmp n k)) rows
 
--- whether the number stands under the key
-abbrev pub has : Numbers → Key × ℕ → Bool
-has numbers q = is_some (lookup (λ k. is_eq (number_cmp q k)) numbers)
+-- whether the number stands under the key, in the map of its kind
+abbrev pub has_key : Index → Key → ℕ → Bool
+has_key index (Firing s f) n = stands firing_cmp index.firings.entries ((s, f), n)
+has_key index (Id id) n = stands sym_cmp index.ids.entries (id, n)
+has_key index (Variablized id attr) n = stands slot_cmp index.slots.entries ((id, attr), n)
+has_key index (Triple id attr value) n = stands triple_cmp index.triples.entries ((id, attr, value), n)
 
--- the part of a key
-abbrev pub of_key : Key → Numbers → Numbers
-of_key key numbers = entries_between number_cmp (Included (key, 0)) (Included (key, 2 ^ 64 - 1)) numbers
+abbrev pub has : Index → Key × ℕ → Bool
+has index q = has_key index q.0 q.1
 
 abbrev pub same_place : Key × ℕ → Key × ℕ → Bool
 same_place p q = same_key p.0 q.0 && (p.1 == q.1)
@@ -57,11 +50,11 @@ abbrev pub is_own : Preference → ℕ → Key × ℕ → Bool
 is_own row number q = is_of q.0 row && (number == q.1)
 
 -- at the places of the row this stands now, and at others what stood there
-abbrev pub Marks : Preference → ℕ → Bool → Numbers → Numbers → Type 0
+abbrev pub Marks : Preference → ℕ → Bool → Index → Index → Type 0
 Marks row number now old new = (q : Key × ℕ) → has new q ≡ cond (is_own row number q) now (has old q)
 
 -- at other places stands what stood there
-abbrev pub MarksOthers : Preference → ℕ → Numbers → Numbers → Type 0
+abbrev pub MarksOthers : Preference → ℕ → Index → Index → Type 0
 MarksOthers row number old new = (q : Key × ℕ) → is_own row number q ≡ false → has new q ≡ has old q
 
 -- whether a row is found by a key, if there is one
@@ -80,12 +73,33 @@ IsNumbered next [] = Unit {0}
 IsNumbered next (e ∷ rows) = (e.0 < next) × IsBefore e.0 rows × IsNumbered next rows
 
 -- each row stands under its keys, and nothing else does
-pub record IsStore (rows : Rows) (numbers : Numbers) (next : ℕ) : Type 0 where
+pub record IsStore (rows : Rows) (numbers : Index) (next : ℕ) : Type 0 where
   pub numbered : IsNumbered next rows
   pub small : next < 2 ^ 64
   pub found : (q : Key × ℕ) → has numbers q ≡ is_held q.0 (row_at rows q.1)
 
 -- ---- what came and went
+
+-- the event of a row, and the row of an event
+abbrev pub event_of : ℕ → Preference → Bool → Event
+event_of number row came = record {
+  number = number;
+  firing = row.firing;
+  id = row.wish.id;
+  attr = row.wish.attr;
+  value = row.wish.value;
+  referent = row.wish.referent;
+  kind = row.wish.kind;
+  operator_support = row.operator_support;
+  came = came;
+}
+
+abbrev pub row_of : Event → Preference
+row_of event = record {
+  firing = event.firing;
+  wish = record { id = event.id; attr = event.attr; value = event.value; kind = event.kind; referent = event.referent };
+  operator_support = event.operator_support;
+}
 
 -- the triple of a row, without mark
 abbrev pub plain : Preference → Fact
@@ -106,7 +120,7 @@ put_back n row (e ∷ rows) = cond (is_lt (nat_cmp n e.0)) ((n, row) ∷ e ∷ r
 
 -- the rows before it came or went
 abbrev pub before : Event → Rows → Rows
-before event rows = cond event.came (taken_out event.number event.row rows) (put_back event.number event.row rows)
+before event rows = cond event.came (taken_out event.number (row_of event) rows) (put_back event.number (row_of event) rows)
 
 -- the rows before all that came and went, the last first
 abbrev pub undone : List Event → Rows → Rows

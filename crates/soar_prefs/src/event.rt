@@ -1,13 +1,20 @@
-use defs_soar::Preference;
+use defs_soar::PrefKind;
+use soar_sym::Sym;
 
-/// A row that came or went.
+/// A row that came or went. Its fields stand side by side, the largest first, so that an event takes little room: for
+/// each row there is room for one.
 #[derive(Clone, Copy)]
 pub struct Event {
-    /// Its number.
+    /// The number of the row.
     pub number: u64,
 
-    /// The row.
-    pub row: Preference,
+    pub firing: u64,
+    pub id: Sym,
+    pub attr: Sym,
+    pub value: Sym,
+    pub referent: Option<Sym>,
+    pub kind: PrefKind,
+    pub operator_support: bool,
 
     /// Whether it came.
     pub came: bool,

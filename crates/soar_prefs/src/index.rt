@@ -1,53 +1,83 @@
 // The numbers of rows, by what rows are found.
-ghost use Rattle.std.specs.Prelude.{◌≡◌, ◌^◌, ◌<◌, ◌&&◌, ℕ, true, false, Some, OnOk, OnErr, IfOk, IfSome, IfNone, cond, filter_map};
+ghost use Rattle.std.specs.Prelude.{◌≡◌, ℕ, ◌&&◌, true, false, OnOk, OnErr, IfOk, IfSome, IfNone, cond, filter_map};
 ghost use Rattle.std.specs.BTreeMap.{IsOrdered};
 ghost use Rattle.std.specs.List.{list_any};
-ghost use Rattle.std.specs.Ordering.{nat_cmp};
 ghost use Rattle.defs_soar.specs.Values.{is_kind, wish_eq};
+ghost use Rattle.soar_prefs.specs.Places.{of_key, place_cmp, slot_cmp, triple_cmp};
+ghost use Rattle.soar_prefs.specs.Store.{has, same_place, row_at, Marks, MarksOthers};
 ghost use Rattle.soar_prefs.specs.declared.key.Key.{Key as KeyOf};
-ghost use Rattle.soar_prefs.specs.declared.key.Key.TheVariants.{Triple as TripleKey};
-ghost use Rattle.soar_prefs.specs.Store.{has, number_cmp, same_place, of_key, row_at, Marks, MarksOthers};
 
 use crate::key::Key;
+use crate::places;
 use crate::same::is_wish;
 use defs_soar::{PrefKind, Preference, Wish};
-use soar_sym::{List, NoMemory, Triple};
+use soar_sym::{List, NoMemory, Sym, Triple};
 use std::alloc::Global;
 use std::collections::BTreeMap;
 
-pub type Index = BTreeMap<(Key, u64), ()>;
+/// The numbers of rows under each kind of key, each kind in a map of its own, so that a place takes no more than its key.
+#[derive(Drop)]
+pub struct Index {
+    pub firings: BTreeMap<((bool, u64), u64), ()>,
+    pub ids: BTreeMap<(Sym, u64), ()>,
+    pub slots: BTreeMap<((Sym, Sym), u64), ()>,
+    pub triples: BTreeMap<((Sym, Sym, Sym), u64), ()>,
+}
+
+/// No numbers. It takes no memory.
+pub fn empty(alloc: Global) -> Index
+    ensures { (q : KeyOf × ℕ) → has result q ≡ false }
+{
+    Index {
+        firings: BTreeMap::new(alloc),
+        ids: BTreeMap::new(alloc),
+        slots: BTreeMap::new(alloc),
+        triples: BTreeMap::new(alloc),
+    }
+}
 
 /// The first number of a key.
 pub fn first(index: &Index, key: Key) -> Option<u64>
-    ensures some { IfSome result (λ n. has index.now.entries (key, n) ≡ true) }
-    ensures none { IfNone result ((n : ℕ) → n < 2 ^ 64 → has index.now.entries (key, n) ≡ false) }
+    ensures some { IfSome result (λ n. has index.now (key, n) ≡ true) }
+    ensures none { IfNone result ((n : ℕ) → has index.now (key, n) ≡ false) }
 {
-    match index.range((key, 0)..=(key, u64::MAX)).next() {
-        Some((place, _)) => Some(place.1),
-        None => None,
+    match key {
+        Key::Firing(support, firing) => places::first(&index.firings, (support, firing)),
+        Key::Id(id) => places::first(&index.ids, id),
+        Key::Variablized(id, attr) => places::first(&index.slots, (id, attr)),
+        Key::Triple(id, attr, value) => places::first(&index.triples, (id, attr, value)),
     }
 }
 
 /// Puts a number under a key.
 fn put(index: &mut Index, key: Key, number: u64) -> Result<(), NoMemory>
-    ensures ok { OnOk result ((q : KeyOf × ℕ) → has index.new.entries q ≡ cond (same_place (key, number) q) true (has index.old.entries q)) }
-    ensures err { OnErr result (index.new.entries ≡ index.old.entries) }
+    ensures ok { OnOk result ((q : KeyOf × ℕ) → has index.new q ≡ cond (same_place (key, number) q) true (has index.old q)) }
+    ensures err { OnErr result ((q : KeyOf × ℕ) → has index.new q ≡ has index.old q) }
 {
-    index.insert((key, number), ())?;
-    Ok(())
+    match key {
+        Key::Firing(support, firing) => places::put(&mut index.firings, (support, firing), number),
+        Key::Id(id) => places::put(&mut index.ids, id, number),
+        Key::Variablized(id, attr) => places::put(&mut index.slots, (id, attr), number),
+        Key::Triple(id, attr, value) => places::put(&mut index.triples, (id, attr, value), number),
+    }
 }
 
 /// Takes a number from a key.
 fn take(index: &mut Index, key: Key, number: u64)
-    ensures { (q : KeyOf × ℕ) → has index.new.entries q ≡ cond (same_place (key, number) q) false (has index.old.entries q) }
+    ensures { (q : KeyOf × ℕ) → has index.new q ≡ cond (same_place (key, number) q) false (has index.old q) }
 {
-    index.remove(&(key, number));
+    match key {
+        Key::Firing(support, firing) => places::take(&mut index.firings, (support, firing), number),
+        Key::Id(id) => places::take(&mut index.ids, id, number),
+        Key::Variablized(id, attr) => places::take(&mut index.slots, (id, attr), number),
+        Key::Triple(id, attr, value) => places::take(&mut index.triples, (id, attr, value), number),
+    }
 }
 
 /// Puts the number of a row under its keys. Where memory is wanting it stands under some of them.
 fn put_all(index: &mut Index, row: &Preference, number: u64) -> Result<(), NoMemory>
-    ensures ok { OnOk result (Marks row.now number true index.old.entries index.new.entries) }
-    ensures err { OnErr result (MarksOthers row.now number index.old.entries index.new.entries) }
+    ensures ok { OnOk result (Marks row.now number true index.old index.new) }
+    ensures err { OnErr result (MarksOthers row.now number index.old index.new) }
 {
     put(index, Key::Firing(row.operator_support, row.firing), number)?;
     put(index, Key::Id(row.wish.id), number)?;
@@ -61,7 +91,7 @@ fn put_all(index: &mut Index, row: &Preference, number: u64) -> Result<(), NoMem
 
 /// Takes the number of a row from its keys.
 pub fn forget(index: &mut Index, row: &Preference, number: u64)
-    ensures { Marks row.now number false index.old.entries index.new.entries }
+    ensures { Marks row.now number false index.old index.new }
 {
     take(index, Key::Firing(row.operator_support, row.firing), number);
     take(index, Key::Id(row.wish.id), number);
@@ -75,8 +105,8 @@ pub fn forget(index: &mut Index, row: &Preference, number: u64)
 
 /// Puts the number of a row under its keys, or under none of them.
 pub fn note(index: &mut Index, row: &Preference, number: u64) -> Result<(), NoMemory>
-    ensures ok { OnOk result (Marks row.now number true index.old.entries index.new.entries) }
-    ensures err { OnErr result (Marks row.now number false index.old.entries index.new.entries) }
+    ensures ok { OnOk result (Marks row.now number true index.old index.new) }
+    ensures err { OnErr result (Marks row.now number false index.old index.new) }
 {
     match put_all(index, row, number) {
         Ok(()) => Ok(()),
@@ -87,18 +117,20 @@ pub fn note(index: &mut Index, row: &Preference, number: u64) -> Result<(), NoMe
     }
 }
 
-/// The rows of a key, in order of their numbers.
+/// The rows of a slot, in order of their numbers.
 pub fn rows_of(
     alloc: Global,
     index: &Index,
     rows: &BTreeMap<u64, Preference>,
-    key: Key,
+    id: Sym,
+    attr: Sym,
 ) -> Result<List<Preference>, NoMemory>
-    ensures rows { IfOk result (λ found. found ≡ filter_map (λ e. row_at rows.now.entries e.0.1) (of_key key index.now.entries)) }
-    ensures ordered { OnOk result (IsOrdered number_cmp index.now) }
+    ensures rows { IfOk result (λ found. found ≡ filter_map (λ e. row_at rows.now.entries e.0.1) (of_key slot_cmp (id, attr) index.now.slots.entries)) }
+    ensures ordered { OnOk result (IsOrdered (place_cmp slot_cmp) index.now.slots) }
 {
     let mut found = List::new(alloc);
-    'numbers: for (place, _) in index.range((key, 0)..=(key, u64::MAX)) {
+    let key = (id, attr);
+    'numbers: for (place, _) in index.slots.range((key, 0)..=(key, u64::MAX)) {
         if let Some(row) = rows.get(&place.1) {
             found.push(*row)?;
         }
@@ -108,11 +140,11 @@ pub fn rows_of(
 
 /// Whether a wish is among those of the operator-supported rows of its triple.
 pub fn has_wish(index: &Index, rows: &BTreeMap<u64, Preference>, wish: Wish) -> bool
-    ensures found { result ≡ list_any (λ q. q.operator_support && wish_eq q.wish wish) (filter_map (λ e. row_at rows.now.entries e.0.1) (of_key (TripleKey wish.id wish.attr wish.value) index.now.entries)) }
-    ensures ordered { IsOrdered number_cmp index.now }
+    ensures found { result ≡ list_any (λ q. q.operator_support && wish_eq q.wish wish) (filter_map (λ e. row_at rows.now.entries e.0.1) (of_key triple_cmp (wish.id, wish.attr, wish.value) index.now.triples.entries)) }
+    ensures ordered { IsOrdered (place_cmp triple_cmp) index.now.triples }
 {
-    let key = Key::Triple(wish.id, wish.attr, wish.value);
-    'numbers: for (place, _) in index.range((key, 0)..=(key, u64::MAX)) {
+    let key = (wish.id, wish.attr, wish.value);
+    'numbers: for (place, _) in index.triples.range((key, 0)..=(key, u64::MAX)) {
         if let Some(row) = rows.get(&place.1) {
             if row.operator_support && is_wish(row.wish, wish) {
                 return true;
@@ -129,11 +161,11 @@ pub fn has_kind(
     triple: Triple,
     kind: PrefKind,
 ) -> bool
-    ensures found { result ≡ list_any (λ q. is_kind q.wish.kind kind) (filter_map (λ e. row_at rows.now.entries e.0.1) (of_key (TripleKey triple.id triple.attr triple.value) index.now.entries)) }
-    ensures ordered { IsOrdered number_cmp index.now }
+    ensures found { result ≡ list_any (λ q. is_kind q.wish.kind kind) (filter_map (λ e. row_at rows.now.entries e.0.1) (of_key triple_cmp (triple.id, triple.attr, triple.value) index.now.triples.entries)) }
+    ensures ordered { IsOrdered (place_cmp triple_cmp) index.now.triples }
 {
-    let key = Key::Triple(triple.id, triple.attr, triple.value);
-    'numbers: for (place, _) in index.range((key, 0)..=(key, u64::MAX)) {
+    let key = (triple.id, triple.attr, triple.value);
+    'numbers: for (place, _) in index.triples.range((key, 0)..=(key, u64::MAX)) {
         if let Some(row) = rows.get(&place.1) {
             if row.wish.kind.is(kind) {
                 return true;

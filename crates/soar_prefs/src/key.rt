@@ -1,7 +1,7 @@
 use soar_sym::Sym;
 
 /// By what rows are found.
-#[derive(Clone, Copy, PartialEq, Eq, PartialOrd, Ord)]
+#[derive(Clone, Copy)]
 pub enum Key {
     /// Whether they have operator support, and their firing.
     Firing(bool, u64),

@@ -6,6 +6,7 @@ mod fault;
 mod index;
 mod journal;
 mod key;
+mod places;
 mod prefs;
 mod same;
 mod store;

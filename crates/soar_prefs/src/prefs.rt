@@ -29,7 +29,7 @@ impl Model for Prefs {
 
     ghost view = { λ p. record { rows = values_of p.store.rows.entries; limit = p.limit; settled = values_of (undone p.store.journal.items p.store.rows.entries) } };
 
-    ghost invariant = { λ p. IsStore p.store.rows.entries p.store.numbers.entries p.store.next × HasRoom p.store.rows.entries (vec_len p.store.journal) (vec_capacity p.store.journal) };
+    ghost invariant = { λ p. IsStore p.store.rows.entries p.store.numbers p.store.next × HasRoom p.store.rows.entries (vec_len p.store.journal) (vec_capacity p.store.journal) };
 }
 
 impl Prefs {
@@ -129,6 +129,6 @@ impl Prefs {
     pub fn slot(&self, alloc: Global, id: Sym, attr: Sym) -> Result<List<Preference>, NoMemory>
         ensures { IfOk result (λ rows. rows ≡ slot_of self.now.rows id attr) }
     {
-        self.store.of_key(alloc, Key::Variablized(id, attr))
+        self.store.of_slot(alloc, id, attr)
     }
 }

@@ -1,4 +1,4 @@
--- Cycles in a row, each written before the next begins.
+-- Cycles in a row, and what each says.
 use Rattle.std.specs.Prelude.{◌≡◌, ℕ, Bool, true, false, List, [], ◌++◌, Option, Some, Result, Ok, Err}
 use Rattle.soar_rule.specs.Repeat.{turns}
 use Rattle.soar_edge.specs.Outside.{Appends}

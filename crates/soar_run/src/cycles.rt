@@ -1,4 +1,4 @@
-// Cycles in a row, each written before the next begins.
+// Cycles in a row, and what each says.
 ghost use Rattle.std.specs.Prelude.{◌≡◌, ◌-◌, ◌<◌, ◌^◌, true, Ok, List as ListOf, IfOk, OnOk};
 ghost use Rattle.soar_edge.specs.Outside.{Appends, AppendsSome, HasPutCause};
 ghost use Rattle.defs_soar.specs.History.{RecordedFiring};
@@ -16,7 +16,7 @@ use soar_edge::{PutFault, Sink, put_all};
 use soar_sym::Text;
 use std::alloc::Global;
 
-/// Runs so many cycles, or until the agent is halted, and writes what each says before the next begins.
+/// Runs so many cycles, or until the agent is halted, and writes what each says.
 pub fn run_cycles<M: Outstanding, O: Sink>(
     alloc: Global,
     session: &mut Session<M>,

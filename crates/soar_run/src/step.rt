@@ -17,7 +17,7 @@ use soar_edge::{Command, PutFault, Sink, put_all};
 use soar_sym::Text;
 use std::alloc::Global;
 
-/// Carries a command of a source out, and writes what it says; what each of its cycles says before the next begins.
+/// Carries a command of a source out, and writes what it says.
 pub fn answer_command<M: Outstanding, O: Sink>(
     alloc: Global,
     session: &mut Session<M>,

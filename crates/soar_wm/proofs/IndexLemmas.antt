@@ -1,29 +1,30 @@
 -- What the maps by triple and by identifier have after a change.
 use Rattle.std.proofs.Common.{◌≡◌, ℕ, Bool, true, false, ◌&&◌, cond, Option, None, refl, sym, ap, ◌∙◌}
+use Rattle.std.specs.Map.{lookup}
 use Rattle.std.specs.Ordering.{is_eq}
 use Rattle.soar_sym.specs.Equality.{symbol_eq}
 use Rattle.soar_sym.specs.declared.symbol.Sym.{Sym}
 use Rattle.soar_sym.specs.declared.symbol.Triple.{Triple}
 use Rattle.soar_wm.specs.declared.element.Element.{Element}
-use Rattle.soar_wm.specs.Shelf.{Triples, Ids, at_triple, at_id, triple_cmp, id_cmp, is_id_of, Puts}
+use Rattle.soar_wm.specs.Shelf.{Key, Triples, Ids, at_triple, at_id, key_of, key_eq, id_cmp, is_id_of, Puts}
 use Rattle.soar_wm.specs.WorkingMemory.{has_triple, triple_of}
 use Rattle.soar_wm.proofs.KeyLemmas.{triple_same, id_same, triple_is, symbol_is, nat_is}
 
-abbrev pub WritesTriple : Triples → Triples → Triple → Option ℕ → Type 0
-WritesTriple old new u w = (t : Triple) → at_triple new t ≡ cond (is_eq (triple_cmp u t)) w (at_triple old t)
+abbrev pub WritesTriple : Triples → Triples → Key → Option ℕ → Type 0
+WritesTriple old new k w = (q : Key) → lookup (key_eq q) new ≡ cond (key_eq k q) w (lookup (key_eq q) old)
 
 abbrev pub WritesId : Ids → Ids → Element → Option ℕ → Type 0
 WritesId old new e w = (q : Sym × ℕ) → at_id new q ≡ cond (is_eq (id_cmp (e.id, e.tag) q)) w (at_id old q)
 
-put_triple : (old new : Triples) (e : Element) (u : Triple) (w : Option ℕ) → u ≡ triple_of e → WritesTriple old new u w → (t : Triple) → at_triple new t ≡ cond (has_triple t e) w (at_triple old t)
-put_triple old new e u w is up t = up t ∙ ap (λ v. cond (is_eq (triple_cmp v t)) w (at_triple old t)) is ∙ ap (λ b. cond b w (at_triple old t)) (triple_same e t)
+put_triple : (old new : Triples) (e : Element) (k : Key) (w : Option ℕ) → k ≡ key_of (triple_of e) → WritesTriple old new k w → (t : Triple) → at_triple new t ≡ cond (has_triple t e) w (at_triple old t)
+put_triple old new e k w is up t = up (key_of t) ∙ ap (λ x. cond (key_eq x (key_of t)) w (at_triple old t)) is ∙ ap (λ b. cond b w (at_triple old t)) (triple_same e t)
 
 put_id : (old new : Ids) (e : Element) (w : Option ℕ) → WritesId old new e w → (q : Sym × ℕ) → at_id new q ≡ cond (is_id_of e q) w (at_id old q)
 put_id old new e w up q = up q ∙ ap (λ b. cond b w (at_id old q)) (id_same e q)
 
-pub puts : (e : Element) (u : Triple) (tag key : Option ℕ) (triples new_triples : Triples) (ids new_ids : Ids) → u ≡ triple_of e → WritesTriple triples new_triples u tag → WritesId ids new_ids e key
+pub puts : (e : Element) (k : Key) (tag key : Option ℕ) (triples new_triples : Triples) (ids new_ids : Ids) → k ≡ key_of (triple_of e) → WritesTriple triples new_triples k tag → WritesId ids new_ids e key
     → Puts e tag key triples new_triples ids new_ids
-puts e u tag key triples new_triples ids new_ids is a b = record { by_triple = put_triple triples new_triples e u tag is a; by_id = put_id ids new_ids e key b }
+puts e k tag key triples new_triples ids new_ids is a b = record { by_triple = put_triple triples new_triples e k tag is a; by_id = put_id ids new_ids e key b }
 
 -- where there was nothing, nothing was taken away
 
@@ -66,11 +67,11 @@ taken_back true w x = refl
 taken_back false w x = refl
 
 -- put in and taken out again
-pub put_back : (e : Element) (u v : Triple) (w : Option ℕ) (triples between new_triples : Triples) (ids new_ids : Ids) → u ≡ triple_of e → v ≡ triple_of e → WritesTriple triples between u w → WritesTriple between new_triples v None
+pub put_back : (e : Element) (k : Key) (w : Option ℕ) (triples between new_triples : Triples) (ids new_ids : Ids) → k ≡ key_of (triple_of e) → WritesTriple triples between k w → WritesTriple between new_triples k None
     → at_id ids (e.id, e.tag) ≡ None → new_ids ≡ ids → Puts e None None triples new_triples ids new_ids
-put_back e u v w triples between new_triples ids new_ids is same up down b same_ids = record {
+put_back e k w triples between new_triples ids new_ids is up down b same_ids = record {
   by_triple = λ t.
-      put_triple between new_triples e v None same down t ∙ ap (λ x. cond (has_triple t e) None x) (put_triple triples between e u w is up t)
+      put_triple between new_triples e k None is down t ∙ ap (λ x. cond (has_triple t e) None x) (put_triple triples between e k w is up t)
       ∙ taken_back (has_triple t e) w (at_triple triples t);
   by_id = λ q. ap (λ m. at_id m q) same_ids ∙ no_id ids e b q;
 }

@@ -1,5 +1,6 @@
 -- The order of the maps' keys, and equality of what they hold.
 use Rattle.std.proofs.Common.{◌≡◌, ℕ, ◌<◌, Bool, true, false, ◌&&◌, ◌==◌, ℤ, refl, sym, ap, ap₂, ◌∙◌, arith}
+use Rattle.std.specs.Bool.{beq}
 use Rattle.std.specs.Cmp.{IsTotalOrder}
 use Rattle.std.proofs.lemmas.Cmp.{then_total, on_total, nat_cmp_total, tied_itself}
 use Rattle.std.proofs.lemmas.Map.Lookups.{CmpEqualImpliesEq, exact_pairs, exact_unsigned}
@@ -10,14 +11,19 @@ use Rattle.soar_sym.specs.Equality.{symbol_eq, mark_eq}
 use Rattle.soar_sym.specs.declared.symbol.Sym.{Sym}
 use Rattle.soar_sym.specs.declared.symbol.Sym.TheVariants.{Ident, Word, Int}
 use Rattle.soar_sym.specs.declared.symbol.Triple.{Triple}
+use Rattle.soar_sym.specs.contracts.symbol.SymPartialEq.TheImpl as equality
 use Rattle.soar_sym.specs.contracts.symbol.SymOrd.TheImpl.{ghosts}
 use Rattle.soar_sym.specs.contracts.symbol.SymOrd.TheImpl.Laws as laws
 use Rattle.soar_wm.specs.declared.element.Element.{Element}
-use Rattle.soar_wm.specs.Shelf.{triple_cmp, id_cmp, is_id_of}
+use Rattle.soar_sym.proofs.KeyLemmas.{symbol_derived}
+use Rattle.soar_wm.specs.Shelf.{key_of, key_eq, id_cmp, is_id_of}
 use Rattle.soar_wm.specs.WorkingMemory.{has_triple, triple_of}
 
 abbrev pub sym_cmp : Sym → Sym → Ordering
 sym_cmp = ghosts.cmp
+
+abbrev derived : Sym → Sym → Bool
+derived = equality.ghosts.eq
 
 pub nat_same : (m n : ℕ) → is_eq (nat_cmp m n) ≡ (m == n)
 nat_same m n = grind arith
@@ -53,14 +59,22 @@ mark_same true false = refl
 mark_same false true = refl
 mark_same false false = refl
 
+mark_derived : (a b : Bool) → beq a b ≡ mark_eq a b
+mark_derived true true = refl
+mark_derived true false = refl
+mark_derived false true = refl
+mark_derived false false = refl
+
+all_four : (a b c d : Bool) → (((a && b) && c) && d) ≡ (a && (b && (c && d)))
+all_four true true c d = refl
+all_four true false c d = refl
+all_four false b c d = refl
+
 -- a map finds a key that is equal, and no other
-pub triple_same : (e : Element) (t : Triple) → is_eq (triple_cmp (triple_of e) t) ≡ has_triple t e
+pub triple_same : (e : Element) (t : Triple) → key_eq (key_of (triple_of e)) (key_of t) ≡ has_triple t e
 triple_same e t =
-    then_same (sym_cmp e.id t.id) _
-    ∙ ap₂ (λ x y. x && y) (cmp_same e.id t.id)
-    (then_same (sym_cmp e.attr t.attr) _
-    ∙ ap₂ (λ x y. x && y) (cmp_same e.attr t.attr)
-    (then_same (sym_cmp e.value t.value) (bool_cmp e.accept t.accept) ∙ ap₂ (λ x y. x && y) (cmp_same e.value t.value) (mark_same e.accept t.accept)))
+    all_four (derived e.id t.id) (derived e.attr t.attr) (derived e.value t.value) (beq e.accept t.accept)
+    ∙ (λ i. symbol_derived e.id t.id i && (symbol_derived e.attr t.attr i && (symbol_derived e.value t.value i && mark_derived e.accept t.accept i)))
 
 pub id_same : (e : Element) (q : Sym × ℕ) → is_eq (id_cmp (e.id, e.tag) q) ≡ is_id_of e q
 id_same e q = then_same (sym_cmp e.id q.0) (nat_cmp e.tag q.1) ∙ ap₂ (λ x y. x && y) (cmp_same e.id q.0) (nat_same e.tag q.1)

@@ -1,5 +1,6 @@
 -- Elements in a slab, and what the maps of their keys find. No public clause cites this.
 use Rattle.std.specs.Prelude.{◌≡◌, ℕ, ◌-◌, ◌^◌, ◌==◌, Bool, true, false, ◌&&◌, cond, List, [], ◌∷◌, map, Option, Some, None, is_some, unwrap_or}
+use Rattle.std.specs.Bool.{beq}
 use Rattle.std.specs.BTreeMap.Range.{entries_between}
 use Rattle.std.specs.Map.{lookup}
 use Rattle.std.specs.Ordering.{is_eq, nat_cmp, ordering_then}
@@ -10,7 +11,7 @@ use Rattle.soar_sym.specs.declared.symbol.Sym.{Sym}
 use Rattle.soar_sym.specs.declared.symbol.Sym.TheVariants.{Word}
 use Rattle.soar_sym.specs.declared.symbol.Triple.{Triple}
 use Rattle.soar_sym.specs.contracts.symbol.SymOrd.TheImpl as sym_order
-use Rattle.soar_sym.specs.contracts.symbol.TripleOrd.TheImpl as triple_order
+use Rattle.soar_sym.specs.contracts.symbol.SymPartialEq.TheImpl as sym_equality
 use Rattle.soar_wm.specs.declared.element.Element.{Element}
 use Rattle.soar_wm.specs.WorkingMemory.{has_triple, tag_of}
 
@@ -25,9 +26,16 @@ element_at cells key = unwrap_or (cells key) blank
 abbrev pub Tags : Type 0
 Tags = List (ℕ × ℕ)
 
--- triples with their tags
+-- a triple as the key of a map: identifier, attribute, value and mark
+abbrev pub Key : Type 0
+Key = Sym × Sym × Sym × Bool
+
+abbrev pub key_of : Triple → Key
+key_of t = (t.id, t.attr, t.value, t.accept)
+
+-- the keys of triples with their tags
 abbrev pub Triples : Type 0
-Triples = List (Triple × ℕ)
+Triples = List (Key × ℕ)
 
 -- identifiers and tags with the keys of their elements
 abbrev pub Ids : Type 0
@@ -42,10 +50,11 @@ abbrev pub IsStored : (ℕ → Option Element) → Tags → Type 0
 IsStored cells [] = Unit {0}
 IsStored cells (e ∷ tags) = (is_some (cells e.1) ≡ true) × ((element_at cells e.1).tag ≡ e.0) × IsStored cells tags
 
--- the order of the maps' keys
-abbrev pub triple_cmp : Triple → Triple → Ordering
-triple_cmp = triple_order.ghosts.cmp
+-- whether the map by triple takes two keys for one
+abbrev pub key_eq : Key → Key → Bool
+key_eq x y = ((sym_equality.ghosts.eq x.0 y.0 && sym_equality.ghosts.eq x.1 y.1) && sym_equality.ghosts.eq x.2 y.2) && beq x.3 y.3
 
+-- the order of the map by identifier
 abbrev pub id_cmp : Sym × ℕ → Sym × ℕ → Ordering
 id_cmp a b = ordering_then (sym_order.ghosts.cmp a.0 b.0) (nat_cmp a.1 b.1)
 
@@ -54,7 +63,7 @@ abbrev pub at_tag : Tags → ℕ → Option ℕ
 at_tag tags tag = lookup (λ k. is_eq (nat_cmp tag k)) tags
 
 abbrev pub at_triple : Triples → Triple → Option ℕ
-at_triple triples t = lookup (λ k. is_eq (triple_cmp t k)) triples
+at_triple triples t = lookup (key_eq (key_of t)) triples
 
 abbrev pub at_id : Ids → Sym × ℕ → Option ℕ
 at_id ids q = lookup (λ k. is_eq (id_cmp q k)) ids

@@ -1,17 +1,17 @@
 // The tag of each triple, and the keys of each identifier.
 ghost use Rattle.std.specs.Prelude.{◌≡◌, [], None, Some, OnOk, OnErr};
-ghost use Rattle.soar_wm.specs.Shelf.{at_triple, at_id, Puts};
+ghost use Rattle.soar_wm.specs.Shelf.{at_triple, at_id, key_of, Puts};
 ghost use Rattle.soar_wm.specs.WorkingMemory.{triple_of};
 
 use crate::element::Element;
 use soar_sym::{NoMemory, Sym, Triple};
 use std::alloc::Global;
-use std::collections::BTreeMap;
+use std::collections::{BTreeMap, HashMap};
 
 /// Elements by triple, and by identifier in order of tag.
 #[derive(Drop)]
 pub struct Index {
-    pub triples: BTreeMap<Triple, u32>,
+    pub triples: HashMap<(Sym, Sym, Sym, bool), u32>,
     pub ids: BTreeMap<(Sym, u32), usize>,
 }
 
@@ -22,7 +22,7 @@ impl Index {
         ensures ids { result.ids.entries ≡ [] }
     {
         Index {
-            triples: BTreeMap::new(alloc),
+            triples: HashMap::new(alloc),
             ids: BTreeMap::new(alloc),
         }
     }
@@ -31,7 +31,7 @@ impl Index {
     pub fn tag(&self, triple: Triple) -> Option<u32>
         ensures { result ≡ at_triple self.now.triples.entries triple }
     {
-        self.triples.get(&triple).copied()
+        self.triples.get(&key_of(triple)).copied()
     }
 
     /// Adds an element that is kept under a key.
@@ -41,11 +41,12 @@ impl Index {
         ensures ok { OnOk result (Puts element (Some element.tag) (Some key) self.old.triples.entries self.new.triples.entries self.old.ids.entries self.new.ids.entries) }
         ensures err { OnErr result (Puts element None None self.old.triples.entries self.new.triples.entries self.old.ids.entries self.new.ids.entries) }
     {
-        self.triples.insert(triple_of(element), element.tag)?;
+        let parts = key_of(triple_of(element));
+        self.triples.insert(parts, element.tag)?;
         match self.ids.insert((element.id, element.tag), key) {
             Ok(_) => Ok(()),
             Err(_) => {
-                self.triples.remove(&triple_of(element));
+                self.triples.remove(&parts);
                 Err(NoMemory)
             }
         }
@@ -55,7 +56,7 @@ impl Index {
     pub fn remove(&mut self, element: Element)
         ensures { Puts element None None self.old.triples.entries self.new.triples.entries self.old.ids.entries self.new.ids.entries }
     {
-        self.triples.remove(&triple_of(element));
+        self.triples.remove(&key_of(triple_of(element)));
         self.ids.remove(&(element.id, element.tag));
     }
 }
@@ -69,4 +70,11 @@ fn triple_of(element: Element) -> Triple
         value: element.value,
         accept: element.accept,
     }
+}
+
+/// The parts of a triple, by which it is found.
+fn key_of(triple: Triple) -> (Sym, Sym, Sym, bool)
+    ensures { result ≡ key_of triple }
+{
+    (triple.id, triple.attr, triple.value, triple.accept)
 }

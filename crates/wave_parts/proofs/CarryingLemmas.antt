@@ -12,8 +12,7 @@ use Rattle.defs_soar.specs.Preferences.{rows_after, with_row, with_rows, without
 use Rattle.defs_soar.specs.Trimming.{numbers_of}
 use Rattle.defs_soar.specs.WaveAtHand.{Entry as EntryOf, Wave, all_fresh}
 use Rattle.defs_soar.specs.Waves.{is_retracted, live_of, without_spent}
-use Rattle.live_firings.specs.declared.live.Live.{Live}
-use Rattle.live_firings.specs.Living.{live_seen}
+use Rattle.live_firings.specs.Living.{Firings, live_seen}
 use Rattle.pending_work.specs.Firables.{IsPending}
 use Rattle.pending_work.specs.declared.work.Work.{Work}
 use Rattle.row_laws.specs.Kept.{WaveKeepsRange}
@@ -106,8 +105,8 @@ mid_stands old mid work change history w x retracted_are holds waves_are retract
     let renews = rows_old old x.worked mid.prefs (numbers_of (map live_seen work.retracted)) x.rows x.from x.renews in
     let rows_are : mid.prefs.rows ≡ rows_after old.prefs.rows (numbers_of w.retracted) (rows_made_in v) =
     ap (λ p. p.rows) renews.rows ∙ (λ k. rows_after old.prefs.rows (gone k) ((x.rows_are ∙ ap rows_in holds.entries_are) k)) in
-    let lives_are : map live_seen mid.live ≡ live_after a.holding.live w.retracted v =
-    x.lives ∙ (λ k. still_live (gone k) (map live_seen (x.from.same k).live) ++ (x.live_are ∙ ap (λ (es : List EntryOf). map live_of (all_fresh es)) holds.entries_are) k)
+    let lives_are : map live_seen mid.live.list ≡ live_after a.holding.live w.retracted v =
+    x.lives ∙ (λ k. still_live (gone k) (map live_seen (x.from.same k).live.list) ++ (x.live_are ∙ ap (λ (es : List EntryOf). map live_of (all_fresh es)) holds.entries_are) k)
     ∙ ap (λ ls. ls ++ map live_of (all_fresh v.entries)) (live_is w.retracted a.holding.live) in
     let program : program_of (mid_of old x.worked mid) ≡ without_spent w.retracted v.program =
     sym (ap program_of (mid_is old x.worked mid x.from is)) ∙ x.program_is ∙ (λ k. without_spent (retracted_are k) (holds.program_is k)) in
@@ -159,8 +158,8 @@ rows_after_of last rows made gone old new row is =
       | inr here ↦ new row here
     ]
 
-pub renewed_sound : (a : PartsKept) (prefs : PreferenceMemory) (live : List Live) (gone : List ℕ) (made : List Preference) (new : List LiveFiring) → WaveKeepsRange → IsSound a
-    → RenewsRows a.prefs prefs gone made → map live_seen live ≡ still_live gone (map live_seen a.live) ++ new → IsMadeFit a made new → IsSound (record a { prefs = prefs; live = live })
+pub renewed_sound : (a : PartsKept) (prefs : PreferenceMemory) (live : Firings) (gone : List ℕ) (made : List Preference) (new : List LiveFiring) → WaveKeepsRange → IsSound a
+    → RenewsRows a.prefs prefs gone made → map live_seen live.list ≡ still_live gone (map live_seen a.live.list) ++ new → IsMadeFit a made new → IsSound (record a { prefs = prefs; live = live })
 renewed_sound a prefs live gone made new keeps s renews lives fit =
     let rows = ap (λ (p : PreferenceMemory). p.rows) renews.rows in
     record {
@@ -195,9 +194,9 @@ renewed_sound a prefs live gone made new keeps s renews lives fit =
       output_known = s.output_known;
       live_known =
           subst (AreLiveKnown a.table) (sym lives)
-          (live_append a.table (still_live gone (map live_seen a.live)) new (live_filter a.table (λ l. not (has_left gone l)) (map live_seen a.live) s.live_known) fit.live_known);
-      live_given = λ l is. elim (in_append l (still_live gone (map live_seen a.live)) new (subst (IsIn l) lives is)) [
-        | inl old ↦ s.live_given l (filter_within (λ k. not (has_left gone k)) (map live_seen a.live) l old)
+          (live_append a.table (still_live gone (map live_seen a.live.list)) new (live_filter a.table (λ l. not (has_left gone l)) (map live_seen a.live.list) s.live_known) fit.live_known);
+      live_given = λ l is. elim (in_append l (still_live gone (map live_seen a.live.list)) new (subst (IsIn l) lives is)) [
+        | inl old ↦ s.live_given l (filter_within (λ k. not (has_left gone k)) (map live_seen a.live.list) l old)
         | inr here ↦ fit.live_given l here
       ];
       kept_up = kept_renewed a.prefs prefs a.inputs a.changed a.kept a.memory.elements (ap (λ (p : PreferenceMemory). p.settled) renews.rows) s.kept_up;

@@ -1,5 +1,5 @@
 -- What is kept of the state that was settled last, while preference memory changes, and when all is settled anew.
-use Rattle.std.proofs.Common.{◌≡◌, refl, sym, ap, subst, ◌∙◌, arith, ℕ, ◌≤◌, Bool, true, false, ◌||◌, inl, inr, List, [], ◌∷◌, ◌++◌, map}
+use Rattle.std.proofs.Common.{◌≡◌, refl, sym, ap, subst, ◌∙◌, arith, ℕ, ◌≤◌, Bool, true, false, ◌||◌, inl, inr, List, [], ◌∷◌, ◌++◌, map, Result, Ok, Err, OnOk}
 use Rattle.std.specs.List.{list_any}
 use Rattle.soar_sym.specs.Words.{Texts}
 use Rattle.soar_sym.specs.declared.symbol.Sym.{Sym}
@@ -161,6 +161,13 @@ first_rest goals old new inputs now kept none empty prefs_are inputs_are rest =
     let rows : new.rows ≡ [] = ap (λ (p : PreferenceMemory). p.rows) prefs_are ∙ (λ i. (settled_from goals (none i) (empty i)).rows) in
     let left : now ≡ [] = inputs_are ∙ (λ i. (settled_from goals (none i) (empty i)).inputs) in
     subst (λ (l : List Triple). IsAtRest goals [] l kept) left (subst (λ (r : List Preference). IsAtRest goals r now kept) rows rest)
+
+-- where it goes well
+pub first_rest_ok : {T E : Type 0} (result : Result T E) (goals : List Goal) (old new : PreferenceMemory) (inputs now : List Triple) (kept : KeptOf) → old.rows ≡ [] → inputs ≡ []
+    → OnOk result (new ≡ record old { rows = (settled_from goals old.rows inputs).rows; settled = (settled_from goals old.rows inputs).rows }) → OnOk result (now ≡ (settled_from goals old.rows inputs).inputs)
+    → OnOk result (IsAtRest goals new.rows now kept) → OnOk result (IsAtRest goals [] [] kept)
+first_rest_ok (Ok x) goals old new inputs now kept none empty prefs_are inputs_are rest = first_rest goals old new inputs now kept none empty prefs_are inputs_are rest
+first_rest_ok (Err fault) goals old new inputs now kept none empty prefs_are inputs_are rest = tt
 
 -- nothing is kept yet, and nothing changed
 pub nothing_tracked : NothingIsAtRest → (prefs : PreferenceMemory) (inputs changed : List Triple) (kept : KeptOf) → HoldsTriples [] [] [] kept → OwnIs [] kept → prefs.settled ≡ [] → inputs ≡ []

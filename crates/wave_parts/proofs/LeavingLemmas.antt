@@ -5,7 +5,7 @@ use Rattle.defs_soar.specs.declared.preference.Preference.{Preference}
 use Rattle.defs_soar.specs.Preferences.{without_firings}
 use Rattle.defs_soar.specs.Trimming.{numbers_of}
 use Rattle.defs_soar.specs.Waves.{is_spent, rows_added, without_spent}
-use Rattle.live_firings.specs.Living.{live_seen}
+use Rattle.live_firings.specs.Living.{Firings, live_seen}
 use Rattle.live_firings.specs.declared.live.Live.{Live}
 use Rattle.row_laws.specs.Kept.{WaveKeepsRange}
 use Rattle.soar_prefs.specs.Memory.{PreferenceMemory}
@@ -44,10 +44,10 @@ fit_dropped old dropped rows live drops fit =
       live_given = fit.live_given;
     })
 
-pub leaves_so : WaveKeepsRange → (old dropped : PartsKept) (prefs : PreferenceMemory) (now : List Live) (gone : List ℕ) (retracted live : List Live) (rows : List Preference) (gains : WaveLeft)
+pub leaves_so : WaveKeepsRange → (old dropped : PartsKept) (prefs : PreferenceMemory) (now : Firings) (gone : List ℕ) (retracted live : List Live) (rows : List Preference) (gains : WaveLeft)
     → IsSound dropped → IsMadeFit old rows (map live_seen live) → IsDropped old dropped → gone ≡ numbers_of (map live_seen retracted)
     → program_of dropped ≡ without_spent (map live_seen retracted) (program_of old)
-    → RenewsRows dropped.prefs prefs gone rows → map live_seen now ≡ still_live gone (map live_seen dropped.live) ++ map live_seen live
+    → RenewsRows dropped.prefs prefs gone rows → map live_seen now.list ≡ still_live gone (map live_seen dropped.live.list) ++ map live_seen live
     → gains.added ≡ rows_added (without_firings dropped.prefs.rows gone) rows → gains.spent ≡ numbers_where (is_spent (map live_seen retracted)) (map rule_seen old.rules)
     → HasLeft old (record dropped { prefs = prefs; live = now }) retracted rows live gains
 leaves_so keeps old dropped prefs now gone retracted live rows gains sound fit drops gone_is program renews lives added spent =
@@ -56,7 +56,7 @@ leaves_so keeps old dropped prefs now gone retracted live rows gains sound fit d
     record {
       program_is = program;
       renews = subst (λ (p : PreferenceMemory). RenewsRows p prefs (numbers_of (map live_seen retracted)) rows) prefs_same (subst (λ numbers. RenewsRows dropped.prefs prefs numbers rows) gone_is renews);
-      lives = lives ∙ (λ k. still_live (gone_is k) (map live_seen (live_same k)) ++ map live_seen live);
+      lives = lives ∙ (λ k. still_live (gone_is k) (map live_seen (live_same k).list) ++ map live_seen live);
       added_is = added ∙ (λ k. rows_added (without_firings (prefs_same k).rows (gone_is k)) rows);
       spent_is = spent;
       sound = renewed_sound dropped prefs now gone rows (map live_seen live) keeps sound renews lives (fit_dropped old dropped rows live drops fit);

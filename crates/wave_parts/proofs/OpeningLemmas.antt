@@ -1,23 +1,23 @@
 -- Starting anew: what lasts of an agent, beside a first state.
-use Rattle.std.proofs.Common.{rules, ℕ, ◌≡◌, ◌≤◌, List, [], ◌∷◌, map, length, refl, sym, ap, subst, arith}
+use Rattle.std.proofs.Common.{rules, ℕ, ◌≡◌, ◌≤◌, List, [], ◌∷◌, ◌++◌, map, flat_map, length, refl, sym, ap, subst, arith}
 use Rattle.soar_sym.specs.Words.{Texts}
 use Rattle.soar_sym.specs.declared.symbol.Triple.{Triple}
 use Rattle.soar_wm.specs.declared.element.Element.{Element}
 use Rattle.defs_soar.specs.History.{FiringOf}
 use Rattle.defs_soar.specs.declared.goal.Goal.{Goal}
 use Rattle.defs_soar.specs.declared.preference.Preference.{Preference}
-use Rattle.defs_soar.specs.Agents.{Agent, Program, Settings}
+use Rattle.defs_soar.specs.Agents.{Agent, LiveFiring, Program, Settings}
+use Rattle.defs_soar.specs.Standing.{makers_of_goal}
 use Rattle.defs_soar.specs.Start.{first_agent, first_elements, restarted, without_justifications}
+use Rattle.agent_laws.specs.Records.{IsPartOf}
 use Rattle.program_laws.specs.Knowing.{AreNamed}
 use Rattle.input_queue.specs.declared.queued.Queued.{Queued}
 use Rattle.input_queue.specs.Seen.{triple_queued}
-use Rattle.live_firings.specs.declared.live.Live.{Live}
-use Rattle.live_firings.specs.Living.{live_seen}
 use Rattle.soar_record.specs.Recorded.{recorded}
 use Rattle.soar_settle.specs.Known.{AreElementsKnown, AreRowsKnown, AreTriplesKnown}
 use Rattle.wave_parts.specs.Openings.{IsBare, begun_anew, top_goals}
 use Rattle.wave_parts.specs.Programs.{program_of}
-use Rattle.wave_parts.specs.Seen.{IsSound, AreLiveKnown, AreLiveGiven}
+use Rattle.wave_parts.specs.Seen.{IsSound}
 use Rattle.wave_parts.specs.Settings.{settings_seen}
 use Rattle.wave_parts.specs.Stands.{Stands}
 use Rattle.wave_parts.specs.declared.parts.Parts.{Parts as PartsKept}
@@ -33,7 +33,7 @@ anew_stands first old s watch f words program settings = record {
   goals = f.goals;
   rows = f.rows;
   inputs = f.inputs;
-  live = f.live;
+  live = refl;
   queues = f.queues;
   rules = ap (λ (p : Program). p.rules) program;
   last_rule = ap (λ (p : Program). p.last_rule) program;
@@ -44,7 +44,7 @@ anew_stands first old s watch f words program settings = record {
   output = f.output;
   halted = f.halted;
   remembers = record {
-    is_record = f.remembers.is_record;
+    is_record = subst (λ (ls : List LiveFiring). IsPartOf (recorded first.past) [] (map (λ (l : LiveFiring). l.number) ls ++ (map (λ (row : Preference). row.firing) first.prefs.rows ++ flat_map makers_of_goal first.goals))) f.live f.remembers.is_record;
     makers_kept = f.remembers.makers_kept;
     numbers_given = f.remembers.numbers_given;
     makers_earlier = f.remembers.makers_earlier;
@@ -81,8 +81,8 @@ anew_is_sound first old f bare o = record {
   inputs_known = subst (λ (ts : List Triple). AreTriplesKnown old.table ts) (sym bare.inputs) tt;
   queue_known = subst (λ (q : List Queued). AreTriplesKnown old.table (map triple_queued q)) (sym bare.queue) tt;
   output_known = subst (λ (ts : List Triple). AreTriplesKnown old.table ts) (sym bare.output) tt;
-  live_known = subst (λ (ls : List Live). AreLiveKnown old.table (map live_seen ls)) (sym bare.live) tt;
-  live_given = subst (λ (ls : List Live). AreLiveGiven old.last_rule (map live_seen ls)) (sym bare.live) (λ l is. absurd is);
+  live_known = tt;
+  live_given = λ l is. absurd is;
   past_named = subst (λ (fs : List FiringOf). AreNamed old.table fs) (sym bare.past) (λ f is. absurd is);
   chains_known = o.chains_known;
   chains_kept = o.chains_kept;

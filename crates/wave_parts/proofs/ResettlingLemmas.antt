@@ -18,9 +18,8 @@ use Rattle.agent_laws.proofs.PartLaws.{fewer_roots_need_less}
 use Rattle.agent_laws.proofs.RootLaws.{each_root, root_of_goal, root_of_live, root_of_row}
 use Rattle.goal_trimming.specs.Doubted.{AreDoubted}
 use Rattle.goal_trimming.specs.Held.{held_by, kept_held, supports_held}
-use Rattle.live_firings.specs.Living.{live_seen}
+use Rattle.live_firings.specs.Living.{Firings, live_seen}
 use Rattle.goal_trimming.specs.Trims.{KeepsFirst, Trims, remains_of}
-use Rattle.live_firings.specs.declared.live.Live.{Live}
 use Rattle.removal_laws.specs.Alone.{RemovalsAlone}
 use Rattle.removal_laws.specs.Nested.{RemovalsAreNested}
 use Rattle.soar_prefs.specs.Memory.{PreferenceMemory}
@@ -55,7 +54,7 @@ pub record Left : Type 0 where
   pub prefs : PreferenceMemory
   pub inputs : List Triple
   pub changed : List Triple
-  pub live : List Live
+  pub live : Firings
   pub kept : KeptOf
 
 abbrev pub with_left : PartsKept → Left → WorkingMemory → PartsKept
@@ -64,9 +63,9 @@ with_left a l memory = record a { goals = l.goals; depends = l.depends; doubted 
 -- what trimming says of them
 pub record HasTrimmed (a : PartsKept) (l : Left) (kept : List Triple) : Type 0 where
   pub trims : (history : List RecordedFiring) → RemembersGoals a history
-      → Trims history a.memory.elements (held_by a.goals a.depends a.prefs a.inputs a.live) (held_by l.goals l.depends l.prefs l.inputs l.live) kept
-  pub keeps : KeepsFirst (held_by a.goals a.depends a.prefs a.inputs a.live) (held_by l.goals l.depends l.prefs l.inputs l.live)
-  pub kept_is : kept ≡ kept_held (held_by l.goals l.depends l.prefs l.inputs l.live)
+      → Trims history a.memory.elements (held_by a.goals a.depends a.prefs a.inputs a.live.list) (held_by l.goals l.depends l.prefs l.inputs l.live.list) kept
+  pub keeps : KeepsFirst (held_by a.goals a.depends a.prefs a.inputs a.live.list) (held_by l.goals l.depends l.prefs l.inputs l.live.list)
+  pub kept_is : kept ≡ kept_held (held_by l.goals l.depends l.prefs l.inputs l.live.list)
 
 -- the goals behind those that are left
 pub record HasRemoved (a : PartsKept) (l : Left) (removed : List Removed) : Type 0 where
@@ -99,7 +98,7 @@ step_to a history t =
     }
 
 abbrev trimmed_of : PartsKept → List RecordedFiring → Remains
-trimmed_of a history = trimmed history a.memory.elements (remains_of (held_by a.goals a.depends a.prefs a.inputs a.live))
+trimmed_of a history = trimmed history a.memory.elements (remains_of (held_by a.goals a.depends a.prefs a.inputs a.live.list))
 
 step_is : (a : PartsKept) (history : List RecordedFiring) → resettled_now (agent_of a history) ≡ step_to a history (trimmed_of a history)
 unfolding resettled
@@ -151,9 +150,9 @@ within_left a l kept h g is = goal_left (length l.goals) a.goals g (subst (λ gs
 -- no explanation begins elsewhere
 roots_left : (a : PartsKept) (l : Left) (kept : List Triple) (memory : WorkingMemory) → HasTrimmed a l kept → (n : ℕ) → IsIn n (roots_in (with_left a l memory)) → IsIn n (roots_in a)
 roots_left a l kept memory h =
-    each_root (λ n. IsIn n (roots_in a)) (map live_seen l.live) l.prefs.rows l.goals (λ x is. root_of_live (map live_seen a.live) a.prefs.rows a.goals x (h.keeps.live_are x is))
-    (λ row is. root_of_row (map live_seen a.live) a.prefs.rows a.goals row (h.keeps.rows_are row is))
-    (λ g is n named. root_of_goal (map live_seen a.live) a.prefs.rows a.goals g (within_left a l kept h g is) n named)
+    each_root (λ n. IsIn n (roots_in a)) (map live_seen l.live.list) l.prefs.rows l.goals (λ x is. root_of_live (map live_seen a.live.list) a.prefs.rows a.goals x (h.keeps.live_are x is))
+    (λ row is. root_of_row (map live_seen a.live.list) a.prefs.rows a.goals row (h.keeps.rows_are row is))
+    (λ g is n named. root_of_goal (map live_seen a.live.list) a.prefs.rows a.goals g (within_left a l kept h g is) n named)
 
 remembers_left : (a : PartsKept) (l : Left) (kept : List Triple) (history : List RecordedFiring) (memory : WorkingMemory) → Remembers a history → HasTrimmed a l kept
     → Remembers (with_left a l memory) history
@@ -177,7 +176,7 @@ goals_removed nested alone a l kept removed history remembers h gone =
     gone.removed_are
     ∙ (λ k. at_depths (suc (length (same k))) (drop (length (same k)) a.goals))
     ∙ sym (alone (suc (length left.goals)) (drop (length left.goals) a.goals))
-    ∙ sym (nested history a.memory.elements (remains_of (held_by a.goals a.depends a.prefs a.inputs a.live)))
+    ∙ sym (nested history a.memory.elements (remains_of (held_by a.goals a.depends a.prefs a.inputs a.live.list)))
 
 events_left : RemovalsAreNested → RemovalsAlone → (a : PartsKept) (l : Left) (kept : List Triple) (removed : List Removed) (history : List RecordedFiring) (changes : Changes) → RemembersGoals a history
     → HasTrimmed a l kept → HasRemoved a l removed → changes.gone ≡ without_elements (elements_left a l kept) a.memory.elements
@@ -231,7 +230,7 @@ goals_left : (a : PartsKept) (l : Left) (kept : List Triple) → HasTrimmed a l 
 goals_left a l kept h sound g is = sound.goals_known g (within_left a l kept h g is)
 
 supports_left : (a : PartsKept) (l : Left) (kept : List Triple) → HasTrimmed a l kept → IsToSettle a
-    → KnowsSupports a.table (supports_held (held_by l.goals l.depends l.prefs l.inputs l.live))
+    → KnowsSupports a.table (supports_held (held_by l.goals l.depends l.prefs l.inputs l.live.list))
 supports_left a l kept h sound = record {
   rows_known = rows_left a.table a.prefs.rows l.prefs.rows h.keeps.rows_are sound.rows_known;
   inputs_known = triples_left a.table a.inputs l.inputs h.keeps.inputs_are sound.inputs_known;
@@ -240,7 +239,7 @@ supports_left a l kept h sound = record {
 pub kept_sound : (a : PartsKept) (l : Left) (kept : List Triple) → HasTrimmed a l kept → IsToSettle a → AreTriplesKnown a.table kept
 kept_sound a l kept h sound =
     subst (AreTriplesKnown a.table) (sym h.kept_is)
-    (kept_known a.table a.letters l.goals (supports_held (held_by l.goals l.depends l.prefs l.inputs l.live)) sound.first_words (goals_left a l kept h sound) (supports_left a l kept h sound))
+    (kept_known a.table a.letters l.goals (supports_held (held_by l.goals l.depends l.prefs l.inputs l.live.list)) sound.first_words (goals_left a l kept h sound) (supports_left a l kept h sound))
 
 pub left_sound : (a : PartsKept) (l : Left) (kept : List Triple) (memory : WorkingMemory) → HasTrimmed a l kept → IsToSettle a
     → memory ≡ record a.memory { elements = elements_left a l kept; last = last_of (elements_left a l kept) a.memory } → IsKeptUp l.prefs l.inputs l.changed l.kept memory.elements
@@ -272,7 +271,7 @@ left_sound a l kept memory h sound memory_is kept_up kept_ids doubted =
       inputs_known = (supports_left a l kept h sound).inputs_known;
       queue_known = sound.queue_known;
       output_known = sound.output_known;
-      live_known = live_left a.table (map live_seen a.live) (map live_seen l.live) h.keeps.live_are sound.live_known;
+      live_known = live_left a.table (map live_seen a.live.list) (map live_seen l.live.list) h.keeps.live_are sound.live_known;
       live_given = λ x is. sound.live_given x (h.keeps.live_are x is);
       kept_up = kept_up;
       kept_ids = kept_ids;

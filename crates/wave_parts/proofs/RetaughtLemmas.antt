@@ -21,9 +21,9 @@ use Rattle.wave_parts.proofs.WorkedSoundLemmas.{next_above}
 
 -- ---- what is retracted was live
 
-pending_live : (proposing : Bool) (a : PartsKept) (l : LiveFiring) → IsIn l (pending_in proposing (map rule_seen a.rules) a.memory.elements a.goals (map live_seen a.live)).retracted → IsIn l (map live_seen a.live)
+pending_live : (proposing : Bool) (a : PartsKept) (l : LiveFiring) → IsIn l (pending_in proposing (map rule_seen a.rules) a.memory.elements a.goals (map live_seen a.live.list)).retracted → IsIn l (map live_seen a.live.list)
 unfolding pending_in
-pending_live proposing a l is = filter_within _ (map live_seen a.live) l (filter_within _ _ l is)
+pending_live proposing a l is = filter_within _ (map live_seen a.live.list) l (filter_within _ _ l is)
 
 pub retracted_given : (old : PartsKept) (work : Work) → IsSound old → IsPendingIn old work → AreLiveGiven old.last_rule (map live_seen work.retracted)
 retracted_given old work sound pending l is =

@@ -22,7 +22,7 @@ use Rattle.wave_parts.specs.Stands.{Stands}
 use Rattle.wave_parts.specs.declared.parts.Parts.{Parts as PartsKept}
 
 -- parts with the same firings, count of firings, tags, goals, rows, live firings and letters remember the same
-pub remembers_same : (a b : PartsKept) (history : List RecordedFiring) → b.past ≡ a.past → b.firings ≡ a.firings → b.depends ≡ a.depends → b.goals ≡ a.goals → b.prefs.rows ≡ a.prefs.rows → b.live ≡ a.live
+pub remembers_same : (a b : PartsKept) (history : List RecordedFiring) → b.past ≡ a.past → b.firings ≡ a.firings → b.depends ≡ a.depends → b.goals ≡ a.goals → b.prefs.rows ≡ a.prefs.rows → b.live.list ≡ a.live.list
     → b.letters ≡ a.letters → Remembers a history → Remembers b history
 remembers_same a b history past firings depends goals rows live letters r = record {
   is_record =

@@ -257,7 +257,7 @@ module _ (laws : WaveLaws) (old new : PartsKept) (history : List RecordedFiring)
         inputs_known = triples_grown old.table new.table old.inputs grown sound.inputs_known;
         queue_known = triples_grown old.table new.table (map triple_queued old.queue) grown sound.queue_known;
         output_known = triples_grown old.table new.table old.output grown sound.output_known;
-        live_known = live_grown old.table new.table (map live_seen old.live) grown sound.live_known;
+        live_known = live_grown old.table new.table (map live_seen old.live.list) grown sound.live_known;
         live_given = λ l is. omega (arith, more, sound.live_given l is);
         kept_up = sound.kept_up;
         kept_ids = sound.kept_ids;

@@ -59,7 +59,7 @@ pub record HasChanged (old mid : PartsKept) (work : Work) (change : WaveChange) 
   pub retractions_are : mid.retractions ≡ old.retractions + length work.retracted
   pub program_is : program_of mid ≡ without_spent (map live_seen work.retracted) (program_of worked)
   pub renews : RenewsRows worked.prefs mid.prefs (numbers_of (map live_seen work.retracted)) rows
-  pub lives : map live_seen mid.live ≡ still_live (numbers_of (map live_seen work.retracted)) (map live_seen worked.live) ++ map live_seen live
+  pub lives : map live_seen mid.live.list ≡ still_live (numbers_of (map live_seen work.retracted)) (map live_seen worked.live.list) ++ map live_seen live
   pub added_is : change.added ≡ rows_added (without_firings worked.prefs.rows (numbers_of (map live_seen work.retracted))) rows
   pub spent_is : change.spent ≡ numbers_where (is_spent (map live_seen work.retracted)) (map rule_seen worked.rules)
   pub sound : IsSound mid

@@ -30,7 +30,7 @@ pub record IsMadeFit (a : PartsKept) (made : List Preference) (live : List LiveF
 pub record HasLeft (old new : PartsKept) (retracted : List Live) (rows : List Preference) (live : List Live) (left : WaveLeft) : Type 0 where
   pub program_is : program_of new ≡ without_spent (map live_seen retracted) (program_of old)
   pub renews : RenewsRows old.prefs new.prefs (numbers_of (map live_seen retracted)) rows
-  pub lives : map live_seen new.live ≡ still_live (numbers_of (map live_seen retracted)) (map live_seen old.live) ++ map live_seen live
+  pub lives : map live_seen new.live.list ≡ still_live (numbers_of (map live_seen retracted)) (map live_seen old.live.list) ++ map live_seen live
   pub added_is : left.added ≡ rows_added (without_firings old.prefs.rows (numbers_of (map live_seen retracted))) rows
   pub spent_is : left.spent ≡ numbers_where (is_spent (map live_seen retracted)) (map rule_seen old.rules)
   pub sound : IsSound new

@@ -2,7 +2,6 @@
 use Rattle.std.specs.Prelude.{ℕ, Bool, ◌==◌, not, List, filter}
 use Rattle.std.specs.List.{list_any}
 use Rattle.defs_soar.specs.Agents.{LiveFiring}
-use Rattle.live_firings.specs.declared.live.Live.{Live}
 
 -- the firing is of one of these numbers
 abbrev pub has_left : List ℕ → LiveFiring → Bool
@@ -10,7 +9,3 @@ has_left gone l = list_any (λ number. number == l.number) gone
 
 abbrev pub still_live : List ℕ → List LiveFiring → List LiveFiring
 still_live gone live = filter (λ l. not (has_left gone l)) live
-
--- the firings that have none of these numbers
-abbrev pub others_kept : List ℕ → List Live → List Live
-others_kept gone live = filter (λ l. not (list_any (λ number. number == l.number) gone)) live

@@ -30,10 +30,10 @@ pub record IsBare (a : PartsKept) : Type 0 where
   pub inputs : a.inputs ≡ []
   pub queue : a.queue ≡ []
   pub output : a.output ≡ []
-  pub live : a.live ≡ []
+  pub live : a.live ≡ record { list = []; told = [] }
   pub past : recorded a.past ≡ []
 
--- the first of these parts, with the words, the program and the settings of the second
+-- the first of these parts, with the words, the program and the settings of the second, and the live firings that it told
 abbrev pub begun_anew : PartsKept → PartsKept → PartsKept
 begun_anew first old = record first {
   table = old.table;
@@ -43,4 +43,5 @@ begun_anew first old = record first {
   chunks = old.chunks;
   justifications = old.justifications;
   settings = old.settings;
+  live = record { list = []; told = old.live.told };
 }

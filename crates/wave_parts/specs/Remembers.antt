@@ -20,7 +20,7 @@ PastGoalsAreNumbered letters history = (p : RecordedFiring) (s : Sym) → IsIn p
 
 -- the firings at which explanations begin: the live firings, those of rows, and those that a selection rests on
 abbrev pub roots_in : PartsKept → List ℕ
-roots_in a = map (λ l. l.number) (map live_seen a.live) ++ (map (λ row. row.firing) a.prefs.rows ++ flat_map makers_of_goal a.goals)
+roots_in a = map (λ l. l.number) (map live_seen a.live.list) ++ (map (λ row. row.firing) a.prefs.rows ++ flat_map makers_of_goal a.goals)
 
 -- of the firings all that the roots reach, with the makers of each that is kept, tables of the tags on which each goal below the top depends, and that the letters gave the
 -- goals; the numbers of all firings were given, those of makers before those of users

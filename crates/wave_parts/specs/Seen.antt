@@ -37,7 +37,7 @@ use Rattle.wave_parts.specs.declared.parts.Parts.{Parts as PartsKept}
 abbrev pub agent_of : PartsKept → List RecordedFiring → Agent
 agent_of a history = record {
   names = record { words = a.table; letters = a.letters; last_tag = a.memory.last };
-  holding = record { elements = a.memory.elements; goals = a.goals; rows = a.prefs.rows; inputs = a.inputs; live = map live_seen a.live };
+  holding = record { elements = a.memory.elements; goals = a.goals; rows = a.prefs.rows; inputs = a.inputs; live = map live_seen a.live.list };
   queues = queues_of a;
   program = record { rules = map rule_seen a.rules; last_rule = a.last_rule; chains = map learned_rule_seen a.chains; chunks = a.chunks; justifications = a.justifications };
   counts = counts_of a;
@@ -49,7 +49,7 @@ agent_of a history = record {
 
 -- the work that is pending
 abbrev pub pending_of : Bool → PartsKept → Work
-pending_of proposing a = pending_in proposing (map rule_seen a.rules) a.memory.elements a.goals (map live_seen a.live)
+pending_of proposing a = pending_in proposing (map rule_seen a.rules) a.memory.elements a.goals (map live_seen a.live.list)
 
 -- ---- what the parts keep
 
@@ -109,8 +109,8 @@ pub record IsSoundFor (ids : List Sym) (a : PartsKept) : Type 0 where
   pub inputs_known : AreTriplesKnown a.table a.inputs
   pub queue_known : AreTriplesKnown a.table (map triple_queued a.queue)
   pub output_known : AreTriplesKnown a.table a.output
-  pub live_known : AreLiveKnown a.table (map live_seen a.live)
-  pub live_given : AreLiveGiven a.last_rule (map live_seen a.live)
+  pub live_known : AreLiveKnown a.table (map live_seen a.live.list)
+  pub live_given : AreLiveGiven a.last_rule (map live_seen a.live.list)
   pub past_named : AreNamed a.table (recorded a.past)
   pub chains_known : AreChainsKnown a.table (map learned_rule_seen a.chains)
   pub chains_kept : AreExplained (map rule_seen a.rules) (map learned_rule_seen a.chains)

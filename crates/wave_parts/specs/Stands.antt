@@ -28,7 +28,7 @@ pub record Stands (a : PartsKept) (s : Agent) : Type 0 where
   pub goals : HoldsGoals a.goals s
   pub rows : HoldsRows a.prefs.rows s
   pub inputs : HoldsInputs a.inputs s
-  pub live : HoldsLive (map live_seen a.live) s
+  pub live : HoldsLive (map live_seen a.live.list) s
   pub queues : HoldsQueues (queues_of a) s
   pub rules : HoldsRules (map rule_seen a.rules) s
   pub last_rule : HoldsLastRule a.last_rule s

@@ -53,6 +53,7 @@ impl Parts {
         ensures known { IfOk result (λ done. AreEventsKnown self.new.table (report_events done.report)) }
         ensures rules { IfOk result (λ done. AreRetaught self.old self.new done.spent) }
         ensures settings { self.new.settings ≡ self.old.settings }
+        ensures live { self.new.live.told ≡ self.old.live.told }
         ensures sound { IfOk result (λ _. IsSound self.new) }
         ensures lawful { IfOk result (λ _. IsOfLawful self.new) }
     {
@@ -74,6 +75,7 @@ impl Parts {
         ensures known { IfOk result (λ done. AreEventsKnown self.new.table (report_events done.report)) }
         ensures rules { IfOk result (λ done. AreRetaught self.old self.new done.spent) }
         ensures settings { self.new.settings ≡ self.old.settings }
+        ensures live { self.new.live.told ≡ self.old.live.told }
         ensures sound { IfOk result (λ _. IsSound self.new) }
         ensures lawful { IfOk result (λ _. IsOfLawful self.new) }
     {

@@ -41,6 +41,7 @@ impl Parts {
         requires known { AreInstancesKnown self.old.table work.now.fired }
         ensures answer { Changes self.old self.new work.now result }
         ensures settings { self.new.settings ≡ self.old.settings }
+        ensures live { self.new.live.told ≡ self.old.live.told }
     {
         let waves = count_more(self.waves, 1)?;
         let retractions = count_more(self.retractions, work.retracted.len() as u64)?;

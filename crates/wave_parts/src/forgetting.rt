@@ -2,14 +2,15 @@
 ghost use Rattle.std.specs.Prelude.{◌≡◌, ◌++◌, flat_map, map, IfOk, OnOk};
 ghost use Rattle.defs_soar.specs.Agents.{Agent as AgentOf};
 ghost use Rattle.defs_soar.specs.Standing.{makers_of_goal};
+ghost use Rattle.live_firings.specs.Living.{live_seen};
 ghost use Rattle.wave_parts.specs.Forgetting.{with_past};
 ghost use Rattle.wave_parts.specs.Remembers.{roots_in};
 ghost use Rattle.wave_parts.specs.Seen.{IsSound};
 ghost use Rattle.wave_parts.specs.Stands.{Stands};
 
-use crate::living::numbers_of;
 use crate::parts::Parts;
 use defs_soar::Goal;
+use live_firings::LiveFirings;
 use record_keeping::keep_only;
 use soar_prefs::Prefs;
 use soar_sym::{List, NoMemory};
@@ -36,11 +37,22 @@ impl Parts {
     fn roots(&self, alloc: Global) -> Result<List<u64>, NoMemory>
         ensures { IfOk result (λ roots. roots ≡ roots_in self.now) }
     {
-        let mut roots = numbers_of(alloc, self.live.as_slice())?;
+        let mut roots = List::new(alloc);
+        add_live(&mut roots, &self.live)?;
         add_rows(&mut roots, &self.prefs)?;
         add_selections(&mut roots, self.goals.list().as_slice())?;
         Ok(roots)
     }
+}
+
+/// The firings that were not retracted yet.
+fn add_live(roots: &mut List<u64>, live: &LiveFirings) -> Result<(), NoMemory>
+    ensures { OnOk result (roots.new ≡ roots.old ++ map (λ l. l.number) (map live_seen live.now.list)) }
+{
+    'live: for firing in live.all() {
+        roots.push(firing.number)?;
+    }
+    Ok(())
 }
 
 /// The firings that made the rows of preference memory.

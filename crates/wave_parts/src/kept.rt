@@ -1,5 +1,6 @@
 // What is kept at the start.
-ghost use Rattle.std.specs.Prelude.{[], IfOk};
+ghost use Rattle.std.specs.Prelude.{[], IfOk, OnOk};
+ghost use Rattle.kept_triples.specs.Kept.{HoldsTriples, OwnIs};
 ghost use Rattle.settle_changes.specs.Rest.{IsAtRest};
 
 use defs_soar::Goal;
@@ -14,8 +15,18 @@ use std::alloc::Global;
 pub fn first_kept(alloc: Global, goals: &List<Goal>) -> Result<Kept, NoMemory>
     ensures { IfOk result (λ kept. IsAtRest goals.now [] [] kept) }
 {
-    changes_are_tracked();
     let mut kept = Kept::new(alloc)?;
+    keep_goals(alloc, goals, &mut kept)?;
+    Ok(kept)
+}
+
+/// Keeps what goals alone hold, where nothing was kept.
+fn keep_goals(alloc: Global, goals: &List<Goal>, kept: &mut Kept) -> Result<(), NoMemory>
+    requires holds { HoldsTriples [] [] [] kept.old }
+    requires own { OwnIs [] kept.old }
+    ensures { OnOk result (IsAtRest goals.now [] [] kept.new) }
+{
+    changes_are_tracked();
     let mut prefs = Prefs::new(alloc, 0)?;
     let mut inputs = Inputs::new(alloc);
     let mut changed = List::new(alloc);
@@ -26,8 +37,7 @@ pub fn first_kept(alloc: Global, goals: &List<Goal>) -> Result<Kept, NoMemory>
         &mut prefs,
         &mut inputs,
         &mut changed,
-        &mut kept,
+        kept,
         &mut touched,
-    )?;
-    Ok(kept)
+    )
 }

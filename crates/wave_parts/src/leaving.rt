@@ -34,13 +34,14 @@ impl Parts {
         requires fit { IsMadeFit self.old rows.now (map live_seen live) }
         ensures answer { LeavesHere self.old self.new retracted.now rows.now live result }
         ensures same { self.new ≡ record self.old { rules = self.new.rules; chains = self.new.chains; prefs = self.new.prefs; live = self.new.live } }
+        ensures live { self.new.live.told ≡ self.old.live.told }
     {
         rows_fit_decisions();
         let numbers = numbers_of(alloc, retracted)?;
         let gone = numbers.as_slice();
         let spent = self.drop_spent(alloc, retracted)?;
         let added = renew(alloc, &mut self.prefs, gone, rows)?;
-        renew_live(alloc, &mut self.live, gone, live)?;
+        renew_live(&mut self.live, gone, live)?;
         Ok(WaveLeft { added, spent })
     }
 }

@@ -3,7 +3,7 @@ use dependency_tables::Dependencies;
 use input_memory::Inputs;
 use input_queue::Queued;
 use kept_triples::Kept;
-use live_firings::Live;
+use live_firings::LiveFirings;
 use rule_shelf::Rules;
 use soar_goals::Goals;
 use soar_prefs::Prefs;
@@ -45,7 +45,7 @@ pub struct Parts {
     pub queue: List<Queued>,
     /// The random words that wait for draws, the next of them first.
     pub random: List<u64>,
-    pub live: List<Live>,
+    pub live: LiveFirings,
     pub cycles: u64,
     pub waves: u64,
     pub firings: u64,

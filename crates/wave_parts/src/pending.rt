@@ -20,7 +20,7 @@ impl Parts {
     /// set (Soar manual, chapter 2, elaboration cycle). `proposing` leaves out the instances of operator kind.
     pub fn pending(&self, alloc: Global, proposing: bool, left: Open) -> Result<Work, NoMemory>
         requires sound { IsSound self.now }
-        requires left { IsOpen (conflict (map rule_seen self.now.rules) self.now.memory.elements) self.now.live left }
+        requires left { IsOpen (conflict (map rule_seen self.now.rules) self.now.memory.elements) self.now.live.list left }
         ensures work { IfOk result (λ work. IsPending (map rule_seen self.now.rules) self.now.memory.elements work (pending_of proposing self.now)) }
         ensures none { IfOk result (λ work. is_nothing work ≡ is_none (pending_of proposing self.now)) }
         // What carrying it out asks.

@@ -34,6 +34,7 @@ impl Parts {
         ensures told { IfOk result (λ settled. IsTold self.old.memory.elements self.new.memory.elements settled.changes) }
         ensures known { IfOk result (λ settled. AreEventsKnown self.new.table (settled_events settled)) }
         ensures left { IsLeft self.old self.new }
+        ensures live { self.new.live.told ≡ self.old.live.told }
         ensures sound { IfOk result (λ _. IsSound self.new) }
     {
         changes_are_told();

@@ -1,4 +1,4 @@
-ghost use Rattle.std.specs.Prelude.{◌≡◌, map, IfOk, OnOk};
+ghost use Rattle.std.specs.Prelude.{◌≡◌, [], map, IfOk, OnOk};
 ghost use Rattle.defs_match.specs.Rules.{rule_seen};
 ghost use Rattle.defs_soar.specs.Agents.{Agent as AgentOf};
 ghost use Rattle.defs_soar.specs.Start.{first_elements, restarted};
@@ -21,11 +21,13 @@ impl Parts {
         ensures kept { (self.new.table ≡ self.old.table) × (self.new.settings ≡ self.old.settings) }
         ensures spent { IfOk result (λ spent. (spent ≡ numbers_among spent (map rule_seen self.old.rules))
             × (map rule_seen self.new.rules ≡ without_numbers spent (map rule_seen self.old.rules))) }
+        ensures live { self.new.live.told ≡ self.old.live.told }
         ensures memory { OnOk result (self.new.memory.elements ≡ first_elements) }
         ensures sound { OnOk result (IsSound self.new) }
     {
+        let spent = self.rules.justifications(alloc)?;
         let first = Parts::first(alloc, self.settings.watch)?;
-        let spent = self.drop_justifications(alloc)?;
+        self.drop_justifications(spent.as_slice());
         self.begin_anew(first);
         Ok(spent)
     }
@@ -34,6 +36,7 @@ impl Parts {
     fn begin_anew(&mut self, first: Parts)
         ensures { self.new ≡ begun_anew first self.old }
     {
+        self.end_firings();
         let Parts {
             table,
             rules,
@@ -42,6 +45,7 @@ impl Parts {
             chunks,
             justifications,
             settings,
+            live,
             ..
         } = replace(self, first);
         self.table = table;
@@ -51,5 +55,13 @@ impl Parts {
         self.chunks = chunks;
         self.justifications = justifications;
         self.settings = settings;
+        self.live = live;
+    }
+
+    /// No firing is live any more, and those that were told are told still. It takes no memory.
+    fn end_firings(&mut self)
+        ensures { self.new ≡ record self.old { prefs = self.new.prefs; live = record { list = []; told = self.old.live.told } } }
+    {
+        self.live.leave_goals(0, &mut self.prefs);
     }
 }

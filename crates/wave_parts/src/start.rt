@@ -1,10 +1,11 @@
 // The agent at the start.
 ghost use Rattle.std.specs.Prelude.{◌≡◌, ◌<◌, ◌-◌, ◌^◌, false, [], None, length, IfOk, OnOk};
 ghost use Rattle.defs_soar.specs.Start.{first_agent, first_elements, first_letters, first_settings};
+ghost use Rattle.settle_changes.specs.Rest.{IsAtRest};
 ghost use Rattle.soar_wm.specs.WorkingMemory.{tag_of, with_triple};
 ghost use Rattle.soar_sym.specs.Words.{architecture};
 ghost use Rattle.wave_parts.specs.Lawful.{IsOfLawful};
-ghost use Rattle.wave_parts.specs.Openings.{IsBare, IsOpening};
+ghost use Rattle.wave_parts.specs.Openings.{IsBare, IsOpening, top_goals};
 ghost use Rattle.wave_parts.specs.Seen.{IsSound};
 ghost use Rattle.wave_parts.specs.Settings.{settings_seen};
 ghost use Rattle.wave_parts.specs.Stands.{Stands};
@@ -17,6 +18,7 @@ use dependency_tables::Dependencies;
 use input_memory::Inputs;
 use kept_triples::Kept;
 use learning_laws::agents_stay_lawful;
+use live_firings::LiveFirings;
 use rule_shelf::Rules;
 use settle_changes::rest_is_kept;
 use soar_goals::Goals;
@@ -57,6 +59,7 @@ impl Parts {
         ensures stands { IfOk result (λ parts. Stands parts (first_agent watch)) }
         ensures sound { IfOk result (λ parts. IsSound parts) }
         ensures lawful { IfOk result (λ parts. IsOfLawful parts) }
+        ensures live { IfOk result (λ parts. parts.live ≡ record { list = []; told = [] }) }
     {
         agents_stay_lawful();
         Parts::first(alloc, watch)
@@ -107,7 +110,7 @@ impl Parts {
             kept,
             queue: List::new(alloc),
             random: List::new(alloc),
-            live: List::new(alloc),
+            live: LiveFirings::new(alloc),
             cycles: 0,
             waves: 0,
             firings: 0,
@@ -134,11 +137,9 @@ pub struct Opening {
 fn made_opening(alloc: Global) -> Result<Opening, NoMemory>
     ensures { IfOk result (λ opening. IsOpening opening) }
 {
-    let memory = first_memory(alloc)?;
-    let prefs = Prefs::new(alloc, MOST_ROWS)?;
-    let goals = Goals::new(alloc, TOP)?;
     let past = Record::new(alloc)?;
-    let kept = first_kept(alloc, goals.list())?;
+    let (goals, kept) = first_goals(alloc)?;
+    let (memory, prefs) = first_contents(alloc)?;
     Ok(Opening {
         memory,
         prefs,
@@ -146,6 +147,26 @@ fn made_opening(alloc: Global) -> Result<Opening, NoMemory>
         past,
         kept,
     })
+}
+
+/// The top goal, and what is kept of it.
+fn first_goals(alloc: Global) -> Result<(Goals, Kept), NoMemory>
+    ensures goals { IfOk result (λ made. made.0 ≡ top_goals) }
+    ensures rest { IfOk result (λ made. IsAtRest made.0 [] [] made.1) }
+{
+    let goals = Goals::new(alloc, TOP)?;
+    let kept = first_kept(alloc, goals.list())?;
+    Ok((goals, kept))
+}
+
+/// Working memory at the start, and preference memory without rows.
+fn first_contents(alloc: Global) -> Result<(Memory, Prefs), NoMemory>
+    ensures memory { IfOk result (λ made. made.0 ≡ record { elements = first_elements; limit = 4000000; last = 5 }) }
+    ensures prefs { IfOk result (λ made. made.1 ≡ record { rows = []; limit = 1000000; settled = [] }) }
+{
+    let prefs = Prefs::new(alloc, MOST_ROWS)?;
+    let memory = first_memory(alloc)?;
+    Ok((memory, prefs))
 }
 
 /// The settings of the start, at a watch level.

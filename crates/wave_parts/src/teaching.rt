@@ -22,18 +22,17 @@ use std::collections::BTreeSet;
 use wave_learning::LearnedRule;
 
 impl Parts {
-    /// Takes all justifications away, with their explanations. Gives their numbers.
-    pub(crate) fn drop_justifications(&mut self, alloc: Global) -> Result<List<u64>, NoMemory>
-        requires { IsSound self.old }
-        ensures program { OnOk result (program_of self.new ≡ without_justifications (program_of self.old)) }
-        ensures rules { IfOk result (λ numbers. map rule_seen self.new.rules ≡ without_numbers numbers (map rule_seen self.old.rules)) }
-        ensures numbers { IfOk result (λ numbers. numbers ≡ numbers_among numbers (map rule_seen self.old.rules)) }
+    /// Takes all justifications away, which have these numbers, with their explanations.
+    pub(crate) fn drop_justifications(&mut self, numbers: &[u64])
+        requires sound { IsSound self.old }
+        requires numbers { numbers.now ≡ numbers_where is_justified (map rule_seen self.old.rules) }
+        ensures program { program_of self.new ≡ without_justifications (program_of self.old) }
+        ensures rules { map rule_seen self.new.rules ≡ without_numbers numbers.now (map rule_seen self.old.rules) }
+        ensures numbers { numbers.now ≡ numbers_among numbers.now (map rule_seen self.old.rules) }
         ensures same { self.new ≡ record self.old { rules = self.new.rules; chains = self.new.chains } }
         ensures sound { IsSound self.new }
     {
-        let numbers = self.rules.justifications(alloc)?;
-        self.drop_numbered(numbers.as_slice());
-        Ok(numbers)
+        self.drop_numbered(numbers);
     }
 
     /// Takes the justifications of these firings away, with their explanations. Gives their numbers.

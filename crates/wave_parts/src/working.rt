@@ -51,14 +51,6 @@ impl Parts {
         learning_is_known();
         records_stay();
         new_goals_depend_on_nothing();
-        let program = take_program(
-            alloc,
-            &mut self.rules,
-            self.last_rule,
-            &mut self.chains,
-            self.chunks,
-            self.justifications,
-        );
         let before = Before::new(
             alloc,
             self.goals.list(),
@@ -71,12 +63,20 @@ impl Parts {
             &mut self.table,
             &mut self.letters,
             &before,
-            &program.rules,
+            &self.rules,
             &work.fired,
             self.firings,
         )?;
         let Fired { entries, halted } = fired;
         let last = count_more(self.firings, work.fired.len() as u64)?;
+        let program = take_program(
+            alloc,
+            &mut self.rules,
+            self.last_rule,
+            &mut self.chains,
+            self.chunks,
+            self.justifications,
+        );
         let hand = learn(
             &mut self.table,
             &before,

@@ -1,16 +1,15 @@
 // Lists of calls of a matcher, and what the live firings make of what is outstanding.
-ghost use Rattle.std.specs.Prelude.{◌≡◌, false, [], OnOk};
+ghost use Rattle.std.specs.Prelude.{◌≡◌, false, [], OnOk, List as ListOf};
 ghost use Rattle.defs_match.specs.Contents.{Works};
+ghost use Rattle.live_firings.specs.declared.live.Live.{Live as LiveOf};
 ghost use Rattle.outstanding_tests.specs.Worlds.{AreTold};
 
-use super::live::{fire, forget, retract};
+use super::live::{Fired, fire, forget, none_fired, retract};
 use super::rules::{Ready, attribute};
 use super::shown::add_outstanding;
 use super::world::{World, add, excise, load, nothing, remove};
-use defs_match::Matcher;
-use live_firings::Live;
 use outstanding::{Open, Outstanding};
-use soar_sym::{List, NoMemory, Sym, Triple};
+use soar_sym::{NoMemory, Sym, Triple};
 use std::alloc::Global;
 use std::test::Fail;
 
@@ -86,13 +85,14 @@ pub fn answers_of<M: Outstanding>(
     requires working { M.failed matcher.old ≡ false }
     requires rules { M.rules matcher.old ≡ [] }
     requires elements { M.elements matcher.old ≡ [] }
+    requires knows { M.knows matcher.old [] }
 {
     let mut world = nothing(alloc)?;
-    let mut live = List::new(alloc);
+    let mut fired = none_fired(alloc);
     let mut text = String::new(alloc);
     'calls: for call in calls {
         if asks(*call) {
-            live = answer(alloc, matcher, live, *call, &mut text)?;
+            answer(alloc, matcher, &mut fired, *call, &mut text)?;
         } else {
             carry_out(&mut world, matcher, rules, *call)?;
         }
@@ -108,58 +108,63 @@ fn asks(call: Call) -> bool {
 fn answer<M: Outstanding>(
     alloc: Global,
     matcher: &mut M,
-    live: List<Live>,
+    fired: &mut Fired,
     call: Call,
     out: &mut String,
-) -> Result<List<Live>, NoMemory>
+) -> Result<(), NoMemory>
+    requires knows { M.knows matcher.old fired.old.live.told }
     ensures works { OnOk result (Works (M.failed matcher.old) (M.failed matcher.new)) }
     ensures rules { OnOk result (M.rules matcher.new ≡ M.rules matcher.old) }
     ensures elements { OnOk result (M.elements matcher.new ≡ M.elements matcher.old) }
+    ensures knows { OnOk result (M.knows matcher.new fired.new.live.told) }
 {
-    let answer = ask(alloc, matcher, &live, out)?;
-    live_after(alloc, answer, live, call)
+    let answer = ask(alloc, matcher, fired, out)?;
+    fire_or_not(alloc, answer, fired, call)
 }
 
 /// What is outstanding, and behind a text too.
 fn ask<M: Outstanding>(
     alloc: Global,
     matcher: &mut M,
-    live: &List<Live>,
+    fired: &mut Fired,
     out: &mut String,
 ) -> Result<Open, NoMemory>
+    requires knows { M.knows matcher.old fired.old.live.told }
     ensures works { OnOk result (Works (M.failed matcher.old) (M.failed matcher.new)) }
     ensures rules { OnOk result (M.rules matcher.new ≡ M.rules matcher.old) }
     ensures elements { OnOk result (M.elements matcher.new ≡ M.elements matcher.old) }
+    ensures knows { OnOk result (M.knows matcher.new fired.new.live.told) }
 {
-    let answer = matcher.outstanding(alloc, live)?;
+    let answer = matcher.outstanding(alloc, &mut fired.live)?;
     add_outstanding(alloc, &answer, out)?;
     Ok(answer)
 }
 
 /// The live firings after a call.
-fn live_after(
-    alloc: Global,
-    answer: Open,
-    live: List<Live>,
-    call: Call,
-) -> Result<List<Live>, NoMemory> {
+fn fire_or_not(alloc: Global, answer: Open, fired: &mut Fired, call: Call) -> Result<(), NoMemory>
+    ensures { OnOk result (fired.new.live.told ≡ fired.old.live.told) }
+{
     match call {
-        Call::Fire => fire(answer.unfired, live),
-        Call::Retract => retract(alloc, &answer.unmatched, live),
-        Call::Forget => forget(alloc, live),
-        _ => Ok(live),
+        Call::Fire => fire(answer.unfired, fired),
+        Call::Retract => retract(alloc, &answer.unmatched, fired),
+        Call::Forget => {
+            forget(fired);
+            Ok(())
+        }
+        _ => Ok(()),
     }
 }
 
 /// Carries a call out, if it is lawful. A rule is the one at its place.
-pub fn carry_out<M: Matcher>(
+pub fn carry_out<M: Outstanding>(
     world: &mut World,
     matcher: &mut M,
     rules: &[Ready],
     call: Call,
 ) -> Result<(), Fail>
     requires { AreTold (M.failed matcher.old) (M.rules matcher.old) (M.elements matcher.old) world.old.memory world.old.numbers.items }
-    ensures { OnOk result (AreTold (M.failed matcher.new) (M.rules matcher.new) (M.elements matcher.new) world.new.memory world.new.numbers.items) }
+    ensures told { OnOk result (AreTold (M.failed matcher.new) (M.rules matcher.new) (M.elements matcher.new) world.new.memory world.new.numbers.items) }
+    ensures knows { OnOk result ((live : ListOf LiveOf) → M.knows matcher.old live → M.knows matcher.new live) }
 {
     match call {
         Call::Add(triple) => add(world, matcher, triple),
@@ -173,14 +178,15 @@ pub fn carry_out<M: Matcher>(
     }
 }
 
-fn load_numbered<M: Matcher>(
+fn load_numbered<M: Outstanding>(
     world: &mut World,
     matcher: &mut M,
     rules: &[Ready],
     number: u64,
 ) -> Result<(), Fail>
     requires { AreTold (M.failed matcher.old) (M.rules matcher.old) (M.elements matcher.old) world.old.memory world.old.numbers.items }
-    ensures { OnOk result (AreTold (M.failed matcher.new) (M.rules matcher.new) (M.elements matcher.new) world.new.memory world.new.numbers.items) }
+    ensures told { OnOk result (AreTold (M.failed matcher.new) (M.rules matcher.new) (M.elements matcher.new) world.new.memory world.new.numbers.items) }
+    ensures knows { OnOk result ((live : ListOf LiveOf) → M.knows matcher.old live → M.knows matcher.new live) }
 {
     match rules.get(number.saturating_sub(1) as usize) {
         Some(ready) => load(world, matcher, ready),

@@ -1,11 +1,12 @@
 // What a matcher was told: a list of calls is lawful where it follows this.
-ghost use Rattle.std.specs.Prelude.{◌≡◌, ◌==◌, [], IfOk, OnOk};
+ghost use Rattle.std.specs.Prelude.{◌≡◌, ◌==◌, [], IfOk, OnOk, List as ListOf};
 ghost use Rattle.std.specs.List.{list_any};
 ghost use Rattle.soar_wm.specs.WorkingMemory.{element_for};
+ghost use Rattle.live_firings.specs.declared.live.Live.{Live as LiveOf};
 ghost use Rattle.outstanding_tests.specs.Worlds.{AreTold};
 
 use super::rules::Ready;
-use defs_match::Matcher;
+use outstanding::Outstanding;
 use soar_sym::{NoMemory, Sym, Triple};
 use soar_wm::{AddFault, Element, Memory};
 use std::alloc::Global;
@@ -30,13 +31,14 @@ pub fn nothing(alloc: Global) -> Result<World, NoMemory>
 }
 
 /// Tells of a triple under the next tag, unless it is there.
-pub fn add<M: Matcher>(world: &mut World, matcher: &mut M, triple: Triple) -> Result<(), Fail>
+pub fn add<M: Outstanding>(world: &mut World, matcher: &mut M, triple: Triple) -> Result<(), Fail>
     requires { AreTold (M.failed matcher.old) (M.rules matcher.old) (M.elements matcher.old) world.old.memory world.old.numbers.items }
-    ensures { OnOk result (AreTold (M.failed matcher.new) (M.rules matcher.new) (M.elements matcher.new) world.new.memory world.new.numbers.items) }
+    ensures told { OnOk result (AreTold (M.failed matcher.new) (M.rules matcher.new) (M.elements matcher.new) world.new.memory world.new.numbers.items) }
+    ensures knows { OnOk result ((live : ListOf LiveOf) → M.knows matcher.old live → M.knows matcher.new live) }
 {
     let of_state = is_state(triple.id);
     match world.memory.add(triple, of_state) {
-        Ok(tag) => Ok(matcher.add_element(element_for(tag, triple, of_state))?),
+        Ok(tag) => Ok(matcher.element_comes(element_for(tag, triple, of_state))?),
         Err(AddFault::Twice(_)) => Ok(()),
         Err(fault) => Err(Fail::new(fault)),
     }
@@ -61,15 +63,20 @@ fn element_for(tag: u32, triple: Triple, of_state: bool) -> Element
 }
 
 /// Takes a triple out, if it is there.
-pub fn remove<M: Matcher>(world: &mut World, matcher: &mut M, triple: Triple) -> Result<(), Fail>
+pub fn remove<M: Outstanding>(
+    world: &mut World,
+    matcher: &mut M,
+    triple: Triple,
+) -> Result<(), Fail>
     requires { AreTold (M.failed matcher.old) (M.rules matcher.old) (M.elements matcher.old) world.old.memory world.old.numbers.items }
-    ensures { OnOk result (AreTold (M.failed matcher.new) (M.rules matcher.new) (M.elements matcher.new) world.new.memory world.new.numbers.items) }
+    ensures told { OnOk result (AreTold (M.failed matcher.new) (M.rules matcher.new) (M.elements matcher.new) world.new.memory world.new.numbers.items) }
+    ensures knows { OnOk result ((live : ListOf LiveOf) → M.knows matcher.old live → M.knows matcher.new live) }
 {
     let Some(tag) = world.memory.find(triple) else {
         return Ok(());
     };
     let _gone = world.memory.remove(tag);
-    Ok(matcher.remove_element(tag)?)
+    Ok(matcher.element_goes(tag)?)
 }
 
 fn has(numbers: &[u64], number: u64) -> bool
@@ -79,25 +86,27 @@ fn has(numbers: &[u64], number: u64) -> bool
 }
 
 /// Loads a rule, unless its number is there.
-pub fn load<M: Matcher>(world: &mut World, matcher: &mut M, ready: &Ready) -> Result<(), Fail>
+pub fn load<M: Outstanding>(world: &mut World, matcher: &mut M, ready: &Ready) -> Result<(), Fail>
     requires { AreTold (M.failed matcher.old) (M.rules matcher.old) (M.elements matcher.old) world.old.memory world.old.numbers.items }
-    ensures { OnOk result (AreTold (M.failed matcher.new) (M.rules matcher.new) (M.elements matcher.new) world.new.memory world.new.numbers.items) }
+    ensures told { OnOk result (AreTold (M.failed matcher.new) (M.rules matcher.new) (M.elements matcher.new) world.new.memory world.new.numbers.items) }
+    ensures knows { OnOk result ((live : ListOf LiveOf) → M.knows matcher.old live → M.knows matcher.new live) }
 {
     let number = ready.rule.number;
     if has(world.numbers.as_slice(), number) {
         return Ok(());
     }
     world.numbers.push(number)?;
-    Ok(matcher.add_rule(&ready.rule)?)
+    Ok(matcher.rule_comes(&ready.rule)?)
 }
 
 /// Takes the rule of a number out, if it is there.
-pub fn excise<M: Matcher>(world: &mut World, matcher: &mut M, number: u64)
+pub fn excise<M: Outstanding>(world: &mut World, matcher: &mut M, number: u64)
     requires { AreTold (M.failed matcher.old) (M.rules matcher.old) (M.elements matcher.old) world.old.memory world.old.numbers.items }
-    ensures { AreTold (M.failed matcher.new) (M.rules matcher.new) (M.elements matcher.new) world.new.memory world.new.numbers.items }
+    ensures told { AreTold (M.failed matcher.new) (M.rules matcher.new) (M.elements matcher.new) world.new.memory world.new.numbers.items }
+    ensures knows { (live : ListOf LiveOf) → M.knows matcher.old live → M.knows matcher.new live }
 {
     if has(world.numbers.as_slice(), number) {
         world.numbers.retain(|n| *n != number);
-        matcher.remove_rule(number);
+        matcher.rule_goes(number);
     }
 }

@@ -7,7 +7,7 @@ ghost use Rattle.pending_work.specs.Firables.{AreNumbered};
 
 use defs_match::{Instance, Rule};
 use defs_soar::{Goal, Impasse};
-use live_firings::Live;
+use live_firings::{Live, LiveFirings};
 use rule_shelf::Rules;
 use soar_rule::{Atom, Cond, Field, Kind, Pattern, Production, Support, Test};
 use soar_sym::architecture::NAME;
@@ -119,8 +119,8 @@ fn field(alloc: Global, atom: Atom) -> Result<Field, NoMemory>
 }
 
 /// Firings, each with its number, its depth, and the rule and the tag of its instance.
-pub fn live_of(alloc: Global, firings: &[(u64, usize, u64, u32)]) -> Result<List<Live>, NoMemory> {
-    let mut live = List::new(alloc);
+pub fn live_of(alloc: Global, firings: &[(u64, usize, u64, u32)]) -> Result<LiveFirings, NoMemory> {
+    let mut live = LiveFirings::new(alloc);
     for (number, depth, rule, tag) in firings {
         let tags = List::from_slice(alloc, &[*tag])?;
         live.push(Live {

@@ -99,6 +99,26 @@ fn each_write_may_fail(alloc: Global) -> Result<bool, AllocError> {
     ends_at_write(alloc, 8, Status::Refusals, 41)
 }
 
+/// Whether a run of many commands that one read brings writes once: the second write is the one that fails.
+fn many_are_written_at_once(alloc: Global) -> Result<bool, AllocError> {
+    let mut bytes: List<u8> = List::new(alloc);
+    let mut text: List<u8> = List::new(alloc);
+    for _ in 0..100 {
+        bytes.extend_from_slice(b"matches\n")?;
+        text.extend_from_slice(b"no matches\n")?;
+    }
+    let mut source = FineSource::new(bytes, 4096);
+    let mut sink = MemSink::new(alloc, 8192, List::from_slice(alloc, &[2])?);
+    let ended = run(alloc, &mut source, &mut sink);
+    Ok(ended == Status::Done && sink.bytes() == text.as_slice())
+}
+
+#[test]
+fn small_texts_are_written_together(rt: HostRuntime) -> Result<(), Fail> {
+    assert!(rt; many_are_written_at_once(rt.alloc())?);
+    Ok(())
+}
+
 #[test]
 fn source_and_sink_fail_at_each_call_in_turn(rt: HostRuntime) -> Result<(), Fail> {
     assert!(rt; each_read_may_fail(rt.alloc())? && each_write_may_fail(rt.alloc())?);

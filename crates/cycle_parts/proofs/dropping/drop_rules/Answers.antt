@@ -23,6 +23,7 @@ rules-preserved g c = record {
   numbered = subst AreNumbered (sym c.drop_numbered.ensures.dropped) (numbered_filter _ (map rule_seen c.rules.rules) c.rules.invariant.numbered);
   kept = ap (unnamed c.args.name) c.drop_numbered.ensures.dropped ∙ named_goes c.args.name (map rule_seen c.rules.rules) c.in-Some.number c.rules.invariant.numbered c.in-Some.ensures
       ∙ c.rules.invariant.kept;
+  knows = λ live is. c.drop_numbered.ensures.knows live (c.rules.invariant.knows live is);
 }
 
 pub returns-in-None-clause-dropped : goal.returns-in-None-clause-dropped

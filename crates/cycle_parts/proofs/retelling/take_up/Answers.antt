@@ -15,4 +15,5 @@ rules-init g c =
       elements = refl;
       new = subst (AreEachNew held) (sym given) (later_new c.args.last held rules c.requires.new);
       whole = ap (with_each_rule held) given ∙ later_whole c.args.last held rules;
+      knows = λ live is. is;
     }

@@ -1,4 +1,5 @@
-use Rattle.std.proofs.Common.{◌≡◌, false, drop}
+use Rattle.std.proofs.Common.{◌≡◌, List, false, drop}
+use Rattle.live_firings.specs.declared.live.Live.{Live}
 use Rattle.matching_laws.specs.Telling.{AreRemovable}
 use Rattle.soar_settle.specs.Tagging.{without_each}
 use Rattle.cycle_parts.proofs.telling.let_go.Given as goal
@@ -9,3 +10,4 @@ invariant-gone g l =
     × (g.M.Matcher.rules l.matcher ≡ g.M.Matcher.rules l.initial.matcher)
     × AreRemovable (g.M.Matcher.elements l.matcher) (drop l.element-index l.gone)
     × (without_each (g.M.Matcher.elements l.matcher) (drop l.element-index l.gone) ≡ without_each (g.M.Matcher.elements l.initial.matcher) l.gone)
+    × ((live : List Live) → g.M.Outstanding.knows l.initial.matcher live → g.M.Outstanding.knows l.matcher live)

@@ -1,7 +1,10 @@
-use Rattle.std.proofs.Common.{◌-◌, ◌∙◌, Ok, Err, ap, refl, sym, subst}
+use Rattle.std.proofs.Common.{◌-◌, ◌∙◌, Result, Ok, Err, OnOk, ap, refl, sym, subst}
 use Rattle.std.proofs.lemmas.Result.{err_from_is_err_and}
+use Rattle.wave_parts.specs.Lawful.{IsOfLawful}
+use Rattle.wave_parts.specs.Seen.{IsSound}
 use Rattle.cycle_parts.specs.Waving.{is_proposing}
 use Rattle.cycle_parts.specs.declared.waving.Waved.TheVariants as waved
+use Rattle.cycle_parts.proofs.ToldLemmas.{told_lawful, told_sound}
 use Rattle.cycle_phases.specs.Courses.{phased}
 use Rattle.cycle_phases.specs.Going.{GoesPhase}
 use Rattle.cycle_phases.proofs.GoingLemmas.{goes, halts, is_over, rests, some_left, starts, stops, waves_at}
@@ -74,3 +77,15 @@ returns-clause-waves g c = λ s stands.
     let left = c.waves.invariant.going s stands in
     is_over c.args.engine.now.parts.settings.watch on c.waves.engine.parts c.has_work.new.self.parts c.waves.left s c.args.mid_line.now c.waves.mid_line c.args.out.now c.waves.out c.has_work.result c.waves-test.false left
     c.has_work.ensures.parts (c.has_work.ensures.work left.course.agent left.went.stands)
+
+on_ok : {T E P : Type 0} (result : Result T E) → P → OnOk result P
+on_ok (Ok done) p = p
+on_ok (Err why) p = tt
+
+pub returns-clause-sound : goal.returns-clause-sound
+returns-clause-sound g c =
+    on_ok c.has_work.result (subst IsSound (sym c.has_work.ensures.parts) (told_sound c.waves.engine.parts c.has_work.new.self.parts.live.told c.waves.invariant.sound))
+
+pub returns-clause-lawful : goal.returns-clause-lawful
+returns-clause-lawful g c =
+    on_ok c.has_work.result (subst IsOfLawful (sym c.has_work.ensures.parts) (told_lawful c.waves.engine.parts c.has_work.new.self.parts.live.told c.waves.invariant.lawful))

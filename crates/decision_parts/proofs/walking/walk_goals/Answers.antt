@@ -33,8 +33,8 @@ returns-clause-stands c =
     let goals_are = subst (λ random. c.walk.new.goals ≡ (walked (view_with a random) None a.goals).goals) c.as_slice.ensures c.in_ok-decided.ensures.goals in
     let rooted : AreRooted a c.walk.new.goals =
     λ g is n named. walks_name_roots (agent_of a lawful.agent.history) g n (lawful_at a lawful) (subst (IsIn g) goals_are is) named in
-    walked_stands a c.walk.new.goals c.cut.new.self c.leave_goals.new.prefs c.leave_goals.new.live c.in_ok-decided.ensures.first
-    (has_left a c.walk.new.goals c.len-left.result c.cut.new.self c.leave_goals.new.prefs c.leave_goals.new.live (c.len-left.ensures ∙ ap length c.list.ensures.goals) c.cut.ensures c.leave_goals.ensures.rows c.leave_goals.ensures.live) rooted
+    walked_stands a c.walk.new.goals c.cut.new.self c.leave_goals.new.prefs c.leave_goals.new.self c.in_ok-decided.ensures.first
+    (has_left a c.walk.new.goals c.len-left.result c.cut.new.self c.leave_goals.new.prefs c.leave_goals.new.self (c.len-left.ensures ∙ ap length c.list.ensures.goals) c.cut.ensures c.leave_goals.ensures.rows c.leave_goals.ensures.live) rooted
     (λ history. subst (λ random. c.walk.new.goals ≡ (walked (view_with a random) None a.goals).goals) c.as_slice.ensures c.in_ok-decided.ensures.goals)
 
 pub returns-clause-known : goal.returns-clause-known
@@ -53,7 +53,7 @@ returns-clause-sound c =
     (list_of a.table a.letters a.goals c.requires.sound.goals_known) (selections_of a.table a.letters a.goals c.requires.sound.goals_known) in
     let makers = c.walks_keep_goals.ensures.makers v a.goals a.firings (rows_up_to a.firings a.prefs.rows c.requires.sound.rows_of_firings) (makers_up_to a.firings a.goals c.requires.sound.makers_of_firings) in
     let goals_are = subst (λ random. c.walk.new.goals ≡ (walked (view_with a random) None a.goals).goals) c.as_slice.ensures c.in_ok-decided.ensures.goals in
-    walked_sound a c.walk.new.goals c.cut.new.self c.leave_goals.new.prefs c.leave_goals.new.live c.rows_fit_decisions.ensures.retracted c.requires.sound c.in_ok-decided.ensures.first
-    (has_left a c.walk.new.goals c.len-left.result c.cut.new.self c.leave_goals.new.prefs c.leave_goals.new.live (c.len-left.ensures ∙ ap length c.list.ensures.goals) c.cut.ensures c.leave_goals.ensures.rows c.leave_goals.ensures.live)
+    walked_sound a c.walk.new.goals c.cut.new.self c.leave_goals.new.prefs c.leave_goals.new.self c.rows_fit_decisions.ensures.retracted c.requires.sound c.in_ok-decided.ensures.first
+    (has_left a c.walk.new.goals c.len-left.result c.cut.new.self c.leave_goals.new.prefs c.leave_goals.new.self (c.len-left.ensures ∙ ap length c.list.ensures.goals) c.cut.ensures c.leave_goals.ensures.rows c.leave_goals.ensures.live)
     (subst (AreGoalsKnown a.table) (sym goals_are) walk.goals) (subst (AreSelectionsKnown a.table) (sym goals_are) walk.selections)
     (subst (AreMakersUpTo a.firings) (sym goals_are) makers)

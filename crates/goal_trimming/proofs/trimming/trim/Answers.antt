@@ -21,12 +21,12 @@ highest_broken-requires c =
 
 -- ---- where no goal is broken
 
-at_end : (c : goal.In-None) → IsEnd c.args.memory.now.elements (held_by c.args.goals.now c.args.depends.now c.args.prefs.now c.args.inputs.now c.args.live.now)
-    (held_by c.rounds.goals c.rounds.depends c.settle_changes.new.prefs c.settle_changes.new.inputs c.rounds.live)
-    (kept_held (settled_held (held_by c.rounds.goals c.rounds.depends c.rounds.prefs c.rounds.inputs c.rounds.live)))
+at_end : (c : goal.In-None) → IsEnd c.args.memory.now.elements (held_by c.args.goals.now c.args.depends.now c.args.prefs.now c.args.inputs.now c.args.live.now.list)
+    (held_by c.rounds.goals c.rounds.depends c.settle_changes.new.prefs c.settle_changes.new.inputs c.rounds.live.list)
+    (kept_held (settled_held (held_by c.rounds.goals c.rounds.depends c.rounds.prefs c.rounds.inputs c.rounds.live.list)))
 at_end c =
-    ends_round c.args.memory.now.elements _ (held_by c.rounds.goals c.rounds.depends c.rounds.prefs c.rounds.inputs c.rounds.live) _ _ c.rounds.invariant.rest
-    (round_settles c.args.memory.now.elements _ _ _ _ _ _ _ _ c.rounds.live _ None (round_of c.rest_is_kept.ensures c.args.memory.now.elements c.rounds.goals c.list.result.now c.rounds.depends c.rounds.depends c.rounds.prefs c.settle_changes.new.prefs c.rounds.inputs c.settle_changes.new.inputs c.settle_changes.new.kept None
+    ends_round c.args.memory.now.elements _ (held_by c.rounds.goals c.rounds.depends c.rounds.prefs c.rounds.inputs c.rounds.live.list) _ _ c.rounds.invariant.rest
+    (round_settles c.args.memory.now.elements _ _ _ _ _ _ _ _ c.rounds.live.list _ None (round_of c.rest_is_kept.ensures c.args.memory.now.elements c.rounds.goals c.list.result.now c.rounds.depends c.rounds.depends c.rounds.prefs c.settle_changes.new.prefs c.rounds.inputs c.settle_changes.new.inputs c.settle_changes.new.kept None
     c.list.ensures.goals refl c.in_ok-settle_changes.ensures.prefs c.in_ok-settle_changes.ensures.inputs c.in_ok-settle_changes.ensures.rest (sym c.in-None.is ∙ c.in_ok-broken.ensures)))
 
 pub returns-in-None-clause-trims : goal.returns-in-None-clause-trims
@@ -43,28 +43,28 @@ returns-in-None-clause-whole c = nothing_lost c.rounds.depends c.args.memory.now
 pub remove_from-requires-clause-substate : goal.remove_from-requires-clause-substate
 remove_from-requires-clause-substate c =
     let k =
-    round_there c.args.memory.now.elements (held_by c.rounds.goals c.rounds.depends c.rounds.prefs c.rounds.inputs c.rounds.live) _ _ c.in-Some.depth c.rounds.invariant.fits
-    (round_settles c.args.memory.now.elements _ _ _ _ _ _ _ _ c.rounds.live _ (Some c.in-Some.depth) (round_of c.rest_is_kept.ensures c.args.memory.now.elements c.rounds.goals c.list.result.now c.rounds.depends c.rounds.depends c.rounds.prefs c.settle_changes.new.prefs c.rounds.inputs c.settle_changes.new.inputs c.settle_changes.new.kept (Some c.in-Some.depth)
+    round_there c.args.memory.now.elements (held_by c.rounds.goals c.rounds.depends c.rounds.prefs c.rounds.inputs c.rounds.live.list) _ _ c.in-Some.depth c.rounds.invariant.fits
+    (round_settles c.args.memory.now.elements _ _ _ _ _ _ _ _ c.rounds.live.list _ (Some c.in-Some.depth) (round_of c.rest_is_kept.ensures c.args.memory.now.elements c.rounds.goals c.list.result.now c.rounds.depends c.rounds.depends c.rounds.prefs c.settle_changes.new.prefs c.rounds.inputs c.settle_changes.new.inputs c.settle_changes.new.kept (Some c.in-Some.depth)
     c.list.ensures.goals refl c.in_ok-settle_changes.ensures.prefs c.in_ok-settle_changes.ensures.inputs c.in_ok-settle_changes.ensures.rest (sym c.in-Some.is ∙ c.in_ok-broken.ensures))) in
     k.0
 
 pub remove_from-requires-clause-there : goal.remove_from-requires-clause-there
 remove_from-requires-clause-there c =
     let k =
-    round_there c.args.memory.now.elements (held_by c.rounds.goals c.rounds.depends c.rounds.prefs c.rounds.inputs c.rounds.live) _ _ c.in-Some.depth c.rounds.invariant.fits
-    (round_settles c.args.memory.now.elements _ _ _ _ _ _ _ _ c.rounds.live _ (Some c.in-Some.depth) (round_of c.rest_is_kept.ensures c.args.memory.now.elements c.rounds.goals c.list.result.now c.rounds.depends c.rounds.depends c.rounds.prefs c.settle_changes.new.prefs c.rounds.inputs c.settle_changes.new.inputs c.settle_changes.new.kept (Some c.in-Some.depth)
+    round_there c.args.memory.now.elements (held_by c.rounds.goals c.rounds.depends c.rounds.prefs c.rounds.inputs c.rounds.live.list) _ _ c.in-Some.depth c.rounds.invariant.fits
+    (round_settles c.args.memory.now.elements _ _ _ _ _ _ _ _ c.rounds.live.list _ (Some c.in-Some.depth) (round_of c.rest_is_kept.ensures c.args.memory.now.elements c.rounds.goals c.list.result.now c.rounds.depends c.rounds.depends c.rounds.prefs c.settle_changes.new.prefs c.rounds.inputs c.settle_changes.new.inputs c.settle_changes.new.kept (Some c.in-Some.depth)
     c.list.ensures.goals refl c.in_ok-settle_changes.ensures.prefs c.in_ok-settle_changes.ensures.inputs c.in_ok-settle_changes.ensures.rest (sym c.in-Some.is ∙ c.in_ok-broken.ensures))) in
     k.1
 
-goes : (c : goal.After-remove_from) → GoesOn c.args.memory.now.elements (held_by c.rounds.goals c.rounds.depends c.rounds.prefs c.rounds.inputs c.rounds.live)
-    (held_by c.remove_from.new.goals c.remove_from.new.depends c.remove_from.new.prefs c.settle_changes.new.inputs c.remove_from.new.live)
+goes : (c : goal.After-remove_from) → GoesOn c.args.memory.now.elements (held_by c.rounds.goals c.rounds.depends c.rounds.prefs c.rounds.inputs c.rounds.live.list)
+    (held_by c.remove_from.new.goals c.remove_from.new.depends c.remove_from.new.prefs c.settle_changes.new.inputs c.remove_from.new.live.list)
 goes c =
-    let left : Removes c.in-Some.depth c.rounds.goals c.remove_from.new.goals c.rounds.depends c.remove_from.new.depends c.settle_changes.new.prefs c.remove_from.new.prefs c.rounds.live c.remove_from.new.live
+    let left : Removes c.in-Some.depth c.rounds.goals c.remove_from.new.goals c.rounds.depends c.remove_from.new.depends c.settle_changes.new.prefs c.remove_from.new.prefs c.rounds.live.list c.remove_from.new.live.list
     = record { goals_are = c.remove_from.ensures.goals; depends_are = c.remove_from.ensures.depends; rows_are = ap room_of c.remove_from.ensures.rows; live_are = c.remove_from.ensures.live } in
-    round_goes_on c.args.memory.now.elements (held_by c.rounds.goals c.rounds.depends c.rounds.prefs c.rounds.inputs c.rounds.live) _ _ _ c.in-Some.depth c.rounds.invariant.fits
-    (round_settles c.args.memory.now.elements _ _ _ _ _ _ _ _ c.rounds.live _ (Some c.in-Some.depth) (round_of c.rest_is_kept.ensures c.args.memory.now.elements c.rounds.goals c.list.result.now c.rounds.depends c.rounds.depends c.rounds.prefs c.settle_changes.new.prefs c.rounds.inputs c.settle_changes.new.inputs c.settle_changes.new.kept (Some c.in-Some.depth)
+    round_goes_on c.args.memory.now.elements (held_by c.rounds.goals c.rounds.depends c.rounds.prefs c.rounds.inputs c.rounds.live.list) _ _ _ c.in-Some.depth c.rounds.invariant.fits
+    (round_settles c.args.memory.now.elements _ _ _ _ _ _ _ _ c.rounds.live.list _ (Some c.in-Some.depth) (round_of c.rest_is_kept.ensures c.args.memory.now.elements c.rounds.goals c.list.result.now c.rounds.depends c.rounds.depends c.rounds.prefs c.settle_changes.new.prefs c.rounds.inputs c.settle_changes.new.inputs c.settle_changes.new.kept (Some c.in-Some.depth)
     c.list.ensures.goals refl c.in_ok-settle_changes.ensures.prefs c.in_ok-settle_changes.ensures.inputs c.in_ok-settle_changes.ensures.rest (sym c.in-Some.is ∙ c.in_ok-broken.ensures)))
-    (removed_is c.in-Some.depth c.rounds.goals _ c.rounds.depends _ c.settle_changes.new.prefs _ c.settle_changes.new.inputs c.rounds.live _ left)
+    (removed_is c.in-Some.depth c.rounds.goals _ c.rounds.depends _ c.settle_changes.new.prefs _ c.settle_changes.new.inputs c.rounds.live.list _ left)
 
 pub rounds-smaller : goal.rounds-smaller
 rounds-smaller c = (goes c).less
@@ -79,6 +79,7 @@ rounds-preserved c =
     record {
       fits = k.fits;
       rest = k.rest ∙ c.rounds.invariant.rest;
+      told = c.remove_from.ensures.told ∙ c.rounds.invariant.told;
       tracked = c.changes_are_tracked.ensures.goes_on c.settle_changes.new.prefs c.remove_from.new.prefs c.settle_changes.new.inputs c.settle_changes.new.inputs [] c.settle_changes.new.changed c.settle_changes.new.kept now
           (ap (λ (p : PreferenceMemory). p.settled) c.remove_from.ensures.rows) (λ t h. refl) (λ t h. refl);
       grows = grows_on c.args.touched.now c.rounds.touched c.settle_changes.new.touched c.args.kept.now c.rounds.kept c.settle_changes.new.kept c.rounds.invariant.grows answer.touched;

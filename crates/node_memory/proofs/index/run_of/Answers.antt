@@ -1,6 +1,6 @@
 use Rattle.std.proofs.Common.{◌≡◌, ◌∙◌, ◌++◌, ◌&&◌, ap, filter, true}
 use Rattle.std.specs.Ordering.{is_le}
-use Rattle.node_memory.specs.declared.index.ElementKey.{ElementKey}
+use Rattle.node_memory.specs.declared.key.ElementKey.{ElementKey}
 use Rattle.node_memory.specs.declared.index.Marks.{Marks}
 use Rattle.node_memory.specs.Entries.{elements_in}
 use Rattle.node_memory.specs.Keys.{key_cmp, key_meets, entries_from, least_key}

@@ -1,6 +1,8 @@
-use Rattle.outstanding.proofs.FollowLemmas.{meets_more}
+use Rattle.outstanding.proofs.FollowLemmas.{meets_none, meets_on}
 use Rattle.outstanding.proofs.following.meet_all.Goals as goal
 
-pub live-preserved : goal.live-preserved
-live-preserved c =
-    meets_more c.args.live.now c.live.firing-index c.firing-item.result c.args.kept.now c.live.kept c.meet.new.kept c.live-test.true c.firing-item.is c.live.invariant c.in_ok-meet.ensures
+pub keys-preserved : goal.keys-preserved
+keys-preserved c = meets_on c.keys.yielded c.in-Some.key c.args.kept.now c.keys.kept c.meet.new.kept c.keys.invariant c.in_ok-meet.ensures
+
+pub keys-init : goal.keys-init
+keys-init c = meets_none c.args.kept.now

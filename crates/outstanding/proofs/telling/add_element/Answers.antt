@@ -8,4 +8,4 @@ returns-clause-holds g c =
     on_ok_weaker c.told.result
     (λ noted. element_added (g.M.Matcher.rules c.args.matcher.now) (g.M.Matcher.elements c.args.matcher.now) c.args.kept.now c.told.new.kept c.requires.holds
     c.in_ok-keys.keys noted c.args.element c.requires.new (g.M.Matcher.rules c.add_element_told.new.self) told.rules (g.M.Matcher.elements c.add_element_told.new.self) told.elements told.told)
-    c.told.ensures
+    c.told.ensures.fits

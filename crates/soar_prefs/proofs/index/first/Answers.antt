@@ -1,9 +1,28 @@
-use Rattle.std.proofs.Common.{rules, arith}
-use Rattle.soar_prefs.proofs.FirstLemmas.{first_stands, none_stands}
+use Rattle.std.proofs.Common.{◌≡◌, ℕ, true, false, IfSome, IfNone, sym, subst}
+use Rattle.soar_prefs.specs.Store.{has}
+use Rattle.soar_prefs.specs.declared.key.Key.{Key}
 use Rattle.soar_prefs.proofs.index.first.Goals as goal
 
-pub returns-in-Some-clause-some : goal.returns-in-Some-clause-some
-returns-in-Some-clause-some c = first_stands c.args.key c.args.index.now c.range.result c.new.result.start c.new.result.end c.new.ensures.start c.new.ensures.end (c.range.ensures.in_range (search rules)) _ _ c.in-Some.ensures.steps
+pub returns-in-Firing-clause-some : goal.returns-in-Firing-clause-some
+returns-in-Firing-clause-some c = subst (λ (key : Key). IfSome c.first.result (λ n. has c.args.index.now (key, n) ≡ true)) (sym c.in-Firing.is) c.first.ensures.some
 
-pub returns-in-None-clause-none : goal.returns-in-None-clause-none
-returns-in-None-clause-none c n small = none_stands c.args.key c.args.index.now c.range.result c.new.result.start c.new.result.end c.new.ensures.start c.new.ensures.end (c.range.ensures.in_range (search rules)) c.in-None.ensures.steps.0 n (omega (arith, small))
+pub returns-in-Firing-clause-none : goal.returns-in-Firing-clause-none
+returns-in-Firing-clause-none c = subst (λ (key : Key). IfNone c.first.result ((n : ℕ) → has c.args.index.now (key, n) ≡ false)) (sym c.in-Firing.is) c.first.ensures.none
+
+pub returns-in-Id-clause-some : goal.returns-in-Id-clause-some
+returns-in-Id-clause-some c = subst (λ (key : Key). IfSome c.first-in-Id.result (λ n. has c.args.index.now (key, n) ≡ true)) (sym c.in-Id.is) c.first-in-Id.ensures.some
+
+pub returns-in-Id-clause-none : goal.returns-in-Id-clause-none
+returns-in-Id-clause-none c = subst (λ (key : Key). IfNone c.first-in-Id.result ((n : ℕ) → has c.args.index.now (key, n) ≡ false)) (sym c.in-Id.is) c.first-in-Id.ensures.none
+
+pub returns-in-Variablized-clause-some : goal.returns-in-Variablized-clause-some
+returns-in-Variablized-clause-some c = subst (λ (key : Key). IfSome c.first-in-Variablized.result (λ n. has c.args.index.now (key, n) ≡ true)) (sym c.in-Variablized.is) c.first-in-Variablized.ensures.some
+
+pub returns-in-Variablized-clause-none : goal.returns-in-Variablized-clause-none
+returns-in-Variablized-clause-none c = subst (λ (key : Key). IfNone c.first-in-Variablized.result ((n : ℕ) → has c.args.index.now (key, n) ≡ false)) (sym c.in-Variablized.is) c.first-in-Variablized.ensures.none
+
+pub returns-in-Triple-clause-some : goal.returns-in-Triple-clause-some
+returns-in-Triple-clause-some c = subst (λ (key : Key). IfSome c.first-in-Triple.result (λ n. has c.args.index.now (key, n) ≡ true)) (sym c.in-Triple.is) c.first-in-Triple.ensures.some
+
+pub returns-in-Triple-clause-none : goal.returns-in-Triple-clause-none
+returns-in-Triple-clause-none c = subst (λ (key : Key). IfNone c.first-in-Triple.result ((n : ℕ) → has c.args.index.now (key, n) ≡ false)) (sym c.in-Triple.is) c.first-in-Triple.ensures.none

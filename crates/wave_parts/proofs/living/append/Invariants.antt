@@ -1,6 +1,8 @@
-use Rattle.std.proofs.Common.{◌≡◌, ◌++◌, map}
-use Rattle.live_firings.specs.Living.{live_seen}
+use Rattle.std.proofs.Common.{◌≡◌, ◌++◌}
 use Rattle.wave_parts.proofs.living.append.Given as goal
 
 abbrev pub invariant-fired : goal.invariant-fired
-invariant-fired l = map live_seen l.live ≡ map live_seen l.initial.live ++ map live_seen l.yielded
+invariant-fired l = record {
+  list : l.live.list ≡ l.initial.live.list ++ l.yielded;
+  told : l.live.told ≡ l.initial.live.told;
+}

@@ -46,4 +46,6 @@ returns-clause-bond g c =
           ∙ all_are_told old new spent (g.M.Matcher.rules c.forget.new.matcher) c.requires.sound c.in_ok-done.ensures.rules held;
       elements_are = c.in_ok-take_up.ensures.elements ∙ c.forget.ensures.elements ∙ c.in_ok-tell.ensures.elements
           ∙ ap (λ elements. with_each (without_each elements changes.gone) changes.new) c.requires.bond.elements_are ∙ c.in_ok-done.ensures.told.whole;
+      known = subst (g.M.Outstanding.knows c.take_up.new.matcher) (sym c.carry_out.ensures.live)
+          (c.in_ok-take_up.ensures.knows old.live.told (c.forget.ensures.knows old.live.told (c.in_ok-tell.ensures.knows old.live.told c.requires.bond.known)));
     }

@@ -10,14 +10,14 @@ use Rattle.wave_parts.specs.Seen.{IsSound, Stepped}
 use Rattle.wave_parts.specs.Stands.{Stands}
 use Rattle.wave_parts.specs.declared.parts.Parts.{Parts as PartsKept}
 use Rattle.cycle_parts.specs.Calls.{load_step}
-use Rattle.cycle_parts.proofs.ExcisedLemmas.{elements_stay}
+use Rattle.cycle_parts.proofs.ExcisedLemmas.{elements_stay, told_stays}
 use Rattle.cycle_parts.proofs.LawfulLemmas.{lawful_loaded}
 use Rattle.cycle_parts.proofs.LoadLemmas.{joins_last, loaded_from, loads, more_rules, number_is_last, number_is_new}
 use Rattle.cycle_parts.proofs.SoundLemmas.{sound_loaded}
 use Rattle.cycle_parts.proofs.engine.Engine.load.Goals as goal
 
-pub add_rule-requires : goal.add_rule-requires
-add_rule-requires g c =
+pub rule_comes-requires : goal.rule_comes-requires
+rule_comes-requires g c =
     let number = c.in_ok-number.number in
     record {
       new = λ _. record {
@@ -68,8 +68,10 @@ returns-clause-bond g c =
     let a = c.args.self.now.parts in
     let dropped = c.drop_named.new.parts in
     record {
-      works = c.in_ok-add_rule.ensures.works.works;
-      rules_are = c.in_ok-add_rule.ensures.rules ∙ ap (λ rules. with_rule rules (rule_seen rule)) c.drop_named.ensures.held
+      works = c.in_ok-rule_comes.ensures.works.works;
+      rules_are = c.in_ok-rule_comes.ensures.rules ∙ ap (λ rules. with_rule rules (rule_seen rule)) c.drop_named.ensures.held
           ∙ joins_last a dropped.rules c.push.new.self rule c.args.production.name c.requires.sound c.drop_named.ensures.dropped.rules_are c.in_ok-number.ensures.count.0 c.in_ok-push.ensures.ok;
-      elements_are = c.in_ok-add_rule.ensures.elements ∙ c.drop_named.ensures.elements ∙ c.requires.bond.elements_are ∙ elements_stay a dropped c.args.production.name c.drop_named.ensures.dropped;
+      elements_are = c.in_ok-rule_comes.ensures.elements ∙ c.drop_named.ensures.elements ∙ c.requires.bond.elements_are ∙ elements_stay a dropped c.args.production.name c.drop_named.ensures.dropped;
+      known = subst (g.M.Outstanding.knows c.rule_comes.new.self) (told_stays a dropped c.args.production.name c.drop_named.ensures.dropped)
+          (c.in_ok-rule_comes.ensures.knows a.live.told (c.drop_named.ensures.knows a.live.told c.requires.bond.known));
     }

@@ -32,4 +32,6 @@ returns-clause-bond g c =
           ∙ spent_are_gone spent (map rule_seen old.rules) c.requires.sound.numbered c.in_ok-spent.ensures.spent.0
           ∙ sym c.in_ok-spent.ensures.spent.1;
       elements_are = c.in_ok-tell_anew.ensures.elements ∙ c.as_slice-3.ensures ∙ c.in_ok-new.ensures.elements;
+      known = subst (g.M.Outstanding.knows c.tell_anew.new.matcher) (sym c.restart.ensures.live)
+          (c.in_ok-tell_anew.ensures.knows old.live.told (c.forget.ensures.knows old.live.told c.requires.bond.known));
     }

@@ -15,4 +15,4 @@ pub returns-in-Ok-clause-ok : goal.returns-in-Ok-clause-ok
 returns-in-Ok-clause-ok c = values_push c.args.self.now.next _ _ c.args.triple c.requires.numbered c.in-Ok.ensures.entries
 
 pub returns-in-Err-clause-sound : goal.returns-in-Err-clause-sound
-returns-in-Err-clause-sound c = kept _ _ _ _ _ c.args.triple c.requires c.in-Err.ensures.err (put_back c.args.triple _ _ _ _ c.in_ok-note.ensures.ok c.forget.ensures)
+returns-in-Err-clause-sound c = kept _ _ _ _ _ c.args.triple c.requires c.in-Err.ensures.err (put_back c.args.triple _ c.args.self.now.numbers c.note.new.index c.forget.new.index c.in_ok-note.ensures.ok c.forget.ensures)

@@ -1,4 +1,4 @@
-use Rattle.std.proofs.Common.{◌∙◌, sym, arith}
+use Rattle.std.proofs.Common.{◌∙◌, sym}
 use Rattle.input_memory.proofs.StoreLemmas.{dropped, dropped_fewer, all_dropped}
 use Rattle.input_memory.proofs.store.Store.drop_key.Goals as goal
 
@@ -12,4 +12,4 @@ triples-preserved c = record {
 }
 
 pub returns-clause-triples : goal.returns-clause-triples
-returns-clause-triples c = sym (all_dropped _ _ _ c.args.key c.triples.invariant.sound (λ n small. c.in_default.ensures.none n (omega (arith, small)))) ∙ c.triples.invariant.same
+returns-clause-triples c = sym (all_dropped _ _ _ c.args.key c.triples.invariant.sound c.in_default.ensures.none) ∙ c.triples.invariant.same

@@ -5,7 +5,7 @@ use Rattle.input_memory.proofs.store.Store.drop_key.Given as goal
 
 abbrev pub invariant-triples : goal.invariant-triples
 invariant-triples l = record {
-  sound : IsStore l.self.triples.entries l.self.numbers.entries l.self.next;
+  sound : IsStore l.self.triples.entries l.self.numbers l.self.next;
   same : without l.key l.self.triples.entries ≡ without l.key l.initial.self.triples.entries;
 }
 

@@ -1,4 +1,4 @@
-use Rattle.std.proofs.Common.{◌∙◌, ◌&&◌, ◌∷◌, not, ap}
+use Rattle.std.proofs.Common.{◌∙◌, ◌&&◌, not, ap}
 use Rattle.defs_soar.specs.Values.{has_triple_among, triple_eq}
 use Rattle.kept_triples.specs.Counts.{how_many}
 use Rattle.kept_triples.proofs.KeyLemmas.{removed_same, found_same, removed}
@@ -6,13 +6,14 @@ use Rattle.kept_triples.proofs.triples.TripleSet.remove.Goals as goal
 
 pub returns-clause-has : goal.returns-clause-has
 returns-clause-has c = λ t.
-    removed_same c.self.inside.tree.keys c.remove.new.self.keys c.args.triple c.remove.ensures.updates.0 t
+    removed_same c.self.inside.table.keys c.remove.new.self.keys c.key_of.result c.args.triple c.key_of.ensures c.remove.ensures.updates.0 t
     ∙ ap (λ l. not (triple_eq t c.args.triple) && has_triple_among l t) c.self.view_is
 
 pub returns-clause-once : goal.returns-clause-once
 returns-clause-once c = λ found p.
-    let keys = c.self.inside.tree.keys in
+    let keys = c.self.inside.table.keys in
     let triple = c.args.triple in
-    ap (λ l. how_many p (triple ∷ l)) c.remove.ensures.keys
-    ∙ removed p keys triple (found_same keys triple ∙ ap (λ l. has_triple_among l triple) c.self.view_is ∙ found)
+    removed p keys c.remove.new.self.keys c.key_of.result triple c.key_of.ensures
+    (found_same keys c.key_of.result triple c.key_of.ensures ∙ ap (λ l. has_triple_among l triple) c.self.view_is ∙ found)
+    c.remove.ensures.keys
     ∙ ap (how_many p) c.self.view_is

@@ -3,10 +3,10 @@ use Rattle.std.proofs.lemmas.Fn.{filter_same}
 use Rattle.outstanding_tests.proofs.WorldLemmas.{told_excised}
 use Rattle.outstanding_tests.proofs.tests.world.excise.Goals as goal
 
-pub returns-then-has : goal.returns-then-has
-returns-then-has g c =
-    let told = c.remove_rule.ensures in
+pub returns-then-has-clause-told : goal.returns-then-has-clause-told
+returns-then-has-clause-told g c =
+    let told = c.rule_goes.ensures in
     let left = filter_same _ (λ n. not (n == c.args.number)) _ (λ x b f' k. search rules) _ _ c.retain.ensures.filtered in
-    told_excised (g.M.Matcher.failed c.args.matcher.now) (g.M.Matcher.failed c.remove_rule.new.self) (g.M.Matcher.rules c.args.matcher.now) (g.M.Matcher.rules c.remove_rule.new.self)
-    (g.M.Matcher.elements c.args.matcher.now) (g.M.Matcher.elements c.remove_rule.new.self) c.args.world.now.memory c.args.world.now.numbers.items c.retain.new.self.items
+    told_excised (g.M.Matcher.failed c.args.matcher.now) (g.M.Matcher.failed c.rule_goes.new.self) (g.M.Matcher.rules c.args.matcher.now) (g.M.Matcher.rules c.rule_goes.new.self)
+    (g.M.Matcher.elements c.args.matcher.now) (g.M.Matcher.elements c.rule_goes.new.self) c.args.world.now.memory c.args.world.now.numbers.items c.retain.new.self.items
     c.args.number c.requires told.works told.elements told.rules left

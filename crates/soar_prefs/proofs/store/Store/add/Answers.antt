@@ -17,7 +17,7 @@ pub returns-in-Ok-clause-ok : goal.returns-in-Ok-clause-ok
 returns-in-Ok-clause-ok c = values_push c.args.self.now.next _ _ c.args.row c.requires.sound.numbered c.in-Ok.ensures.entries
 
 pub returns-in-Err-clause-sound : goal.returns-in-Err-clause-sound
-returns-in-Err-clause-sound c = kept _ _ _ _ _ c.args.row c.requires.sound c.in-Err.ensures.err (put_back c.args.row _ _ _ _ c.in_ok-note.ensures.ok c.forget.ensures)
+returns-in-Err-clause-sound c = kept _ _ _ _ _ c.args.row c.requires.sound c.in-Err.ensures.err (put_back c.args.row _ c.args.self.now.numbers c.note.new.index c.forget.new.index c.in_ok-note.ensures.ok c.forget.ensures)
 
 pub returns-in-Ok-clause-settled : goal.returns-in-Ok-clause-settled
 returns-in-Ok-clause-settled c = settled_add _ _ _ _ c.args.self.now.next c.args.row _ c.requires.sound.numbered c.in-Ok.ensures.entries c.append.ensures.items refl ∙ ap (λ j. undone j c.args.self.now.rows.entries) c.reserve.ensures.items

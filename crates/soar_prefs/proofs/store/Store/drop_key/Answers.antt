@@ -1,4 +1,4 @@
-use Rattle.std.proofs.Common.{◌∙◌, sym, arith}
+use Rattle.std.proofs.Common.{◌∙◌, sym}
 use Rattle.soar_prefs.proofs.StoreLemmas.{dropped, dropped_fewer, all_dropped}
 use Rattle.soar_prefs.proofs.store.Store.drop_key.Goals as goal
 
@@ -14,4 +14,4 @@ rows-preserved c = record {
 }
 
 pub returns-clause-rows : goal.returns-clause-rows
-returns-clause-rows c = sym (all_dropped _ _ _ c.args.key c.rows.invariant.sound (λ n small. c.in_default.ensures.none n (omega (arith, small)))) ∙ c.rows.invariant.same
+returns-clause-rows c = sym (all_dropped _ _ _ c.args.key c.rows.invariant.sound c.in_default.ensures.none) ∙ c.rows.invariant.same

@@ -5,7 +5,7 @@ use Rattle.soar_prefs.proofs.store.Store.drop_key.Given as goal
 
 abbrev pub invariant-rows : goal.invariant-rows
 invariant-rows l = record {
-  sound : IsStore l.self.rows.entries l.self.numbers.entries l.self.next;
+  sound : IsStore l.self.rows.entries l.self.numbers l.self.next;
   room : HasRoom l.self.rows.entries (vec_len l.self.journal) (vec_capacity l.self.journal);
   settled : undone l.self.journal.items l.self.rows.entries ≡ undone l.initial.self.journal.items l.initial.self.rows.entries;
   same : without l.key l.self.rows.entries ≡ without l.key l.initial.self.rows.entries;

@@ -9,6 +9,9 @@ use Rattle.soar_wm.proofs.shelf.Shelf.push.Goals as goal
 pub invariant_of-self : goal.invariant_of-self
 invariant_of-self c = subst (λ cells. IsShelf cells c.self.inside.tags.entries c.self.inside.index.triples.entries c.self.inside.index.ids.entries) (sym (ap get c.reserve.ensures.rest_kept)) c.self.invariant
 
+pub add-requires-clause-triple : goal.add-requires-clause-triple
+add-requires-clause-triple c = c.self.invariant.by_triple (triple_of c.args.element) ∙ ap (tag_of (triple_of c.args.element)) c.self.view_is ∙ c.requires.new
+
 pub add-requires-clause-id : goal.add-requires-clause-id
 add-requires-clause-id c = no_place _ _ _ _ c.args.last c.args.element c.self.invariant (subst (IsGiven c.args.last) (sym c.self.view_is) c.requires.given) c.requires.later
 

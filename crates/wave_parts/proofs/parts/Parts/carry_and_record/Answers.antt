@@ -128,3 +128,6 @@ pub returns-clause-told : goal.returns-clause-told
 returns-clause-told c =
     subst (λ (m : WorkingMemory). IsTold m.elements c.resettle.new.self.memory.elements c.in_ok-settled.settled.changes)
     (memory_is c.args.self.now c.change.new.self c.args.work c.in_ok-change.change c.requires.sound c.in_ok-change.ensures.answer) c.in_ok-settled.ensures.told
+
+pub returns-clause-live : goal.returns-clause-live
+returns-clause-live c = c.resettle.ensures.live ∙ c.change.ensures.live

@@ -32,3 +32,6 @@ returns-clause-settings c = ap (λ (a : PartsKept). a.settings) c.forget.ensures
 
 pub returns-clause-lawful : goal.returns-clause-lawful
 returns-clause-lawful c = lawful_left c.carry_and_record.new.self c.forget.new.self c.in_ok-forget.ensures.stands c.in_ok-done.ensures.lawful
+
+pub returns-clause-live : goal.returns-clause-live
+returns-clause-live c = ap (λ (a : PartsKept). a.live.told) c.forget.ensures.same ∙ c.carry_and_record.ensures.live

@@ -81,3 +81,6 @@ returns-clause-answer c =
 
 pub returns-clause-settings : goal.returns-clause-settings
 returns-clause-settings c = ap (λ (a : PartsKept). a.settings) c.leave.ensures.same ∙ ap (λ (a : PartsKept). a.settings) c.work_out.ensures.from.same
+
+pub returns-clause-live : goal.returns-clause-live
+returns-clause-live c = c.leave.ensures.live ∙ ap (λ (a : PartsKept). a.live.told) c.work_out.ensures.from.same

@@ -1,8 +1,10 @@
-use Rattle.std.proofs.Common.{rules, ◌∙◌, [], drop, refl, ap, sym}
+use Rattle.std.proofs.Common.{rules, ◌∙◌, [], drop, map, refl, ap, subst, sym}
 use Rattle.defs_soar.specs.Goals.{goal_ids}
 use Rattle.defs_soar.specs.Standing.{dependencies_from}
 use Rattle.dependency_tables.specs.Tables.{tables_of}
 use Rattle.goal_trimming.proofs.LostLemmas.{none_doubted}
+use Rattle.live_firings.specs.Living.{Firings, live_seen}
+use Rattle.wave_parts.specs.Seen.{AreLiveGiven, AreLiveKnown}
 use Rattle.wave_parts.proofs.KeptUpLemmas.{first_goals_known, first_kept_up}
 use Rattle.wave_parts.proofs.StandsLemmas.{none_kept, none_recorded}
 use Rattle.wave_parts.proofs.parts.Parts.of_opening.Goals as goal
@@ -18,7 +20,7 @@ returns-clause-stands c =
       goals = o.goals;
       rows = ap (λ p. p.rows) o.prefs;
       inputs = search rules;
-      live = search rules;
+      live = ap (λ (f : Firings). map live_seen f.list) c.new-8.ensures;
       queues = search rules;
       rules = search rules;
       last_rule = search rules;
@@ -29,7 +31,7 @@ returns-clause-stands c =
       output = search rules;
       halted = search rules;
       remembers = record {
-        is_record = none_recorded c.args.opening.past c.new-8.result c.args.opening.prefs.rows c.args.opening.goals o.past c.new-8.ensures (ap (λ p. p.rows) o.prefs) o.goals;
+        is_record = none_recorded c.args.opening.past c.new-8.result.list c.args.opening.prefs.rows c.args.opening.goals o.past (ap (λ (f : Firings). f.list) c.new-8.ensures) (ap (λ p. p.rows) o.prefs) o.goals;
         makers_kept = none_kept c.args.opening.past o.past;
         numbers_given = λ f is. absurd is;
         makers_earlier = λ f is. absurd is;
@@ -65,8 +67,8 @@ returns-clause-sound c =
       inputs_known = search rules;
       queue_known = search rules;
       output_known = search rules;
-      live_known = search rules;
-      live_given = search rules;
+      live_known = subst (λ (f : Firings). AreLiveKnown c.args.table (map live_seen f.list)) (sym c.new-8.ensures) tt;
+      live_given = subst (λ (f : Firings). AreLiveGiven 0 (map live_seen f.list)) (sym c.new-8.ensures) (λ l is. absurd is);
       past_named = search rules;
       chains_known = search rules;
       chains_kept = search rules;

@@ -14,8 +14,8 @@ returns c =
     let a = c.args.self.now in
     let rules = map rule_seen a.rules in
     let work : IfOk c.pending.result (λ work. IsPending rules a.memory.elements work (pending_of c.args.proposing a)) =
-    subst (λ gs. IfOk c.pending.result (λ work. IsPending rules a.memory.elements work (pending_in c.args.proposing rules a.memory.elements gs (map live_seen a.live))))
-    c.list.ensures.goals (c.pending.ensures.work a.live c.requires.left) in
+    subst (λ gs. IfOk c.pending.result (λ work. IsPending rules a.memory.elements work (pending_in c.args.proposing rules a.memory.elements gs (map live_seen a.live.list))))
+    c.list.ensures.goals (c.pending.ensures.work a.live.list c.requires.left) in
     record {
       work = work;
       none = same_answer rules a.memory.elements (pending_of c.args.proposing a) c.pending.result work c.pending.ensures.bound;
@@ -24,6 +24,6 @@ returns c =
       names =
           IfOk-weaker c.pending.result _ _
           (λ work (is : IsPending rules a.memory.elements work (pending_of c.args.proposing a)).
-          subst (AreLiveKnown a.table) (sym is.retracted_are) (pending_named a.table c.args.proposing rules a.memory.elements a.goals (map live_seen a.live) c.requires.sound.live_known))
+          subst (AreLiveKnown a.table) (sym is.retracted_are) (pending_named a.table c.args.proposing rules a.memory.elements a.goals (map live_seen a.live.list) c.requires.sound.live_known))
           work;
     }

@@ -37,7 +37,7 @@ pub retag_touched-requires-clause-known : goal.retag_touched-requires-clause-kno
 retag_touched-requires-clause-known c =
     let a = c.args.self.now in
     let left : Left = record { goals = c.trim.new.goals; depends = c.trim.new.depends; doubted = c.args.self.now.doubted; prefs = c.trim.new.prefs; inputs = c.trim.new.inputs; changed = c.trim.new.changed; live = c.trim.new.live; kept = c.trim.new.kept } in
-    let all : List Triple = kept_held (held_by c.trim.new.goals c.trim.new.depends c.trim.new.prefs c.trim.new.inputs c.trim.new.live) in
+    let all : List Triple = kept_held (held_by c.trim.new.goals c.trim.new.depends c.trim.new.prefs c.trim.new.inputs c.trim.new.live.list) in
     let has : HasTrimmed a left all = record { trims = λ history remembers. c.in_ok-trim.ensures.trims history remembers.depends_are; keeps = c.in_ok-trim.ensures.keeps; kept_is = refl } in
     let members = c.rest_is_kept.ensures c.trim.new.goals c.trim.new.prefs.rows c.trim.new.inputs c.trim.new.kept c.in_ok-trim.ensures.rest in
     those_known a.table all c.trim.new.kept.triples members (kept_sound a left all has c.requires.sound)
@@ -54,7 +54,7 @@ pub returns-in_err-changes-clause-resettled : goal.returns-in_err-changes-clause
 returns-in_err-changes-clause-resettled c =
     let a = c.args.self.now in
     let left : Left = record { goals = c.trim.new.goals; depends = c.trim.new.depends; doubted = c.args.self.now.doubted; prefs = c.trim.new.prefs; inputs = c.trim.new.inputs; changed = c.trim.new.changed; live = c.trim.new.live; kept = c.trim.new.kept } in
-    let all : List Triple = kept_held (held_by c.trim.new.goals c.trim.new.depends c.trim.new.prefs c.trim.new.inputs c.trim.new.live) in
+    let all : List Triple = kept_held (held_by c.trim.new.goals c.trim.new.depends c.trim.new.prefs c.trim.new.inputs c.trim.new.live.list) in
     let has : HasTrimmed a left all = record { trims = λ history remembers. c.in_ok-trim.ensures.trims history remembers.depends_are; keeps = c.in_ok-trim.ensures.keeps; kept_is = refl } in
     let members = c.rest_is_kept.ensures c.trim.new.goals c.trim.new.prefs.rows c.trim.new.inputs c.trim.new.kept c.in_ok-trim.ensures.rest in
     let result = c.from_residual-in_err-changes.result in
@@ -67,7 +67,7 @@ pub returns-clause-resettled : goal.returns-clause-resettled
 returns-clause-resettled c =
     let a = c.args.self.now in
     let left : Left = record { goals = c.trim.new.goals; depends = c.trim.new.depends; doubted = c.in_ok-doubted.doubted; prefs = c.trim.new.prefs; inputs = c.trim.new.inputs; changed = c.trim.new.changed; live = c.trim.new.live; kept = c.trim.new.kept } in
-    let all : List Triple = kept_held (held_by c.trim.new.goals c.trim.new.depends c.trim.new.prefs c.trim.new.inputs c.trim.new.live) in
+    let all : List Triple = kept_held (held_by c.trim.new.goals c.trim.new.depends c.trim.new.prefs c.trim.new.inputs c.trim.new.live.list) in
     let has : HasTrimmed a left all = record { trims = λ history remembers. c.in_ok-trim.ensures.trims history remembers.depends_are; keeps = c.in_ok-trim.ensures.keeps; kept_is = refl } in
     let members = c.rest_is_kept.ensures c.trim.new.goals c.trim.new.prefs.rows c.trim.new.inputs c.trim.new.kept c.in_ok-trim.ensures.rest in
     let gone =
@@ -81,7 +81,7 @@ pub returns-in_err-changes-clause-each : goal.returns-in_err-changes-clause-each
 returns-in_err-changes-clause-each c =
     let a = c.args.self.now in
     let left : Left = record { goals = c.trim.new.goals; depends = c.trim.new.depends; doubted = c.args.self.now.doubted; prefs = c.trim.new.prefs; inputs = c.trim.new.inputs; changed = c.trim.new.changed; live = c.trim.new.live; kept = c.trim.new.kept } in
-    let all : List Triple = kept_held (held_by c.trim.new.goals c.trim.new.depends c.trim.new.prefs c.trim.new.inputs c.trim.new.live) in
+    let all : List Triple = kept_held (held_by c.trim.new.goals c.trim.new.depends c.trim.new.prefs c.trim.new.inputs c.trim.new.live.list) in
     let has : HasTrimmed a left all = record { trims = λ history remembers. c.in_ok-trim.ensures.trims history remembers.depends_are; keeps = c.in_ok-trim.ensures.keeps; kept_is = refl } in
     let members = c.rest_is_kept.ensures c.trim.new.goals c.trim.new.prefs.rows c.trim.new.inputs c.trim.new.kept c.in_ok-trim.ensures.rest in
     let result = c.from_residual-in_err-changes.result in
@@ -93,7 +93,7 @@ pub returns-clause-each : goal.returns-clause-each
 returns-clause-each c =
     let a = c.args.self.now in
     let left : Left = record { goals = c.trim.new.goals; depends = c.trim.new.depends; doubted = c.in_ok-doubted.doubted; prefs = c.trim.new.prefs; inputs = c.trim.new.inputs; changed = c.trim.new.changed; live = c.trim.new.live; kept = c.trim.new.kept } in
-    let all : List Triple = kept_held (held_by c.trim.new.goals c.trim.new.depends c.trim.new.prefs c.trim.new.inputs c.trim.new.live) in
+    let all : List Triple = kept_held (held_by c.trim.new.goals c.trim.new.depends c.trim.new.prefs c.trim.new.inputs c.trim.new.live.list) in
     let has : HasTrimmed a left all = record { trims = λ history remembers. c.in_ok-trim.ensures.trims history remembers.depends_are; keeps = c.in_ok-trim.ensures.keeps; kept_is = refl } in
     let members = c.rest_is_kept.ensures c.trim.new.goals c.trim.new.prefs.rows c.trim.new.inputs c.trim.new.kept c.in_ok-trim.ensures.rest in
     let gone =
@@ -114,7 +114,7 @@ returns-clause-removed c =
 pub returns-clause-told : goal.returns-clause-told
 returns-clause-told c =
     let a = c.args.self.now in
-    let all : List Triple = kept_held (held_by c.trim.new.goals c.trim.new.depends c.trim.new.prefs c.trim.new.inputs c.trim.new.live) in
+    let all : List Triple = kept_held (held_by c.trim.new.goals c.trim.new.depends c.trim.new.prefs c.trim.new.inputs c.trim.new.live.list) in
     let members = c.rest_is_kept.ensures c.trim.new.goals c.trim.new.prefs.rows c.trim.new.inputs c.trim.new.kept c.in_ok-trim.ensures.rest in
     let tagged = subst (λ gs. Retags a.table gs all a.memory c.retag_touched.new.memory (Ok c.in_ok-changes.changes)) c.list-3.ensures.goals (c.in_ok-changes.ensures.retags all (λ t. sym (members t))) in
     c.changes_are_told.ensures.told a.table c.trim.new.goals all a.memory c.retag_touched.new.memory c.in_ok-changes.changes tagged.lawful tagged
@@ -123,7 +123,7 @@ pub returns-clause-known : goal.returns-clause-known
 returns-clause-known c =
     let a = c.args.self.now in
     let left : Left = record { goals = c.trim.new.goals; depends = c.trim.new.depends; doubted = c.in_ok-doubted.doubted; prefs = c.trim.new.prefs; inputs = c.trim.new.inputs; changed = c.trim.new.changed; live = c.trim.new.live; kept = c.trim.new.kept } in
-    let all : List Triple = kept_held (held_by c.trim.new.goals c.trim.new.depends c.trim.new.prefs c.trim.new.inputs c.trim.new.live) in
+    let all : List Triple = kept_held (held_by c.trim.new.goals c.trim.new.depends c.trim.new.prefs c.trim.new.inputs c.trim.new.live.list) in
     let has : HasTrimmed a left all = record { trims = λ history remembers. c.in_ok-trim.ensures.trims history remembers.depends_are; keeps = c.in_ok-trim.ensures.keeps; kept_is = refl } in
     let members = c.rest_is_kept.ensures c.trim.new.goals c.trim.new.prefs.rows c.trim.new.inputs c.trim.new.kept c.in_ok-trim.ensures.rest in
     let gone =
@@ -136,7 +136,7 @@ pub returns-clause-sound : goal.returns-clause-sound
 returns-clause-sound c =
     let a = c.args.self.now in
     let left : Left = record { goals = c.trim.new.goals; depends = c.trim.new.depends; doubted = c.in_ok-doubted.doubted; prefs = c.trim.new.prefs; inputs = c.trim.new.inputs; changed = c.trim.new.changed; live = c.trim.new.live; kept = c.trim.new.kept } in
-    let all : List Triple = kept_held (held_by c.trim.new.goals c.trim.new.depends c.trim.new.prefs c.trim.new.inputs c.trim.new.live) in
+    let all : List Triple = kept_held (held_by c.trim.new.goals c.trim.new.depends c.trim.new.prefs c.trim.new.inputs c.trim.new.live.list) in
     let has : HasTrimmed a left all = record { trims = λ history remembers. c.in_ok-trim.ensures.trims history remembers.depends_are; keeps = c.in_ok-trim.ensures.keeps; kept_is = refl } in
     let members = c.rest_is_kept.ensures c.trim.new.goals c.trim.new.prefs.rows c.trim.new.inputs c.trim.new.kept c.in_ok-trim.ensures.rest in
     let tagged = subst (λ gs. Retags a.table gs all a.memory c.retag_touched.new.memory (Ok c.in_ok-changes.changes)) c.list-3.ensures.goals (c.in_ok-changes.ensures.retags all (λ t. sym (members t))) in

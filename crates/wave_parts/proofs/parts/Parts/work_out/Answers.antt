@@ -37,8 +37,8 @@ learn-requires c =
     let old = c.args.self.now in
     let work = c.args.work.now in
     let same : standing c.in_ok-before.before ≡ standing_now old = λ k. record { goals = (c.in_ok-before.ensures.goals ∙ c.list.ensures.goals) k; rows = (c.in_ok-before.ensures.prefs k).rows; elements = (c.in_ok-before.ensures.memory k).elements } in
-    let all = fires_so old (standing c.in_ok-before.before) (map rule_seen c.take_program-program.result.rules) work c.fire_all.new.table c.fire_all.new.letters (Ok c.in_ok-fired.fired) same
-    (ap (λ p. map rule_seen p.rules) c.take_program-program.ensures) c.in_ok-fired.ensures.answer in
+    let all = fires_so old (standing c.in_ok-before.before) (map rule_seen c.args.self.now.rules) work c.fire_all.new.table c.fire_all.new.letters (Ok c.in_ok-fired.fired) same
+    refl c.in_ok-fired.ensures.answer in
     to_learn c.agents_stay_lawful.ensures.firings old work (standing c.in_ok-before.before) c.fire_all.new.table c.fire_all.new.letters c.in_ok-fired.fired c.take_program-program.result c.in_ok-last.last
     c.requires.lawful c.requires.pending same all (ap program_seen c.take_program-program.ensures) (c.in_ok-last.ensures.count.0 ∙ ap (λ n. old.firings + n) c.len.ensures)
 
@@ -49,16 +49,16 @@ returns-in_err-fired-clause-answer c =
     let same : standing c.in_ok-before.before ≡ standing_now old = λ k. record { goals = (c.in_ok-before.ensures.goals ∙ c.list.ensures.goals) k; rows = (c.in_ok-before.ensures.prefs k).rows; elements = (c.in_ok-before.ensures.memory k).elements } in
     let p = err_from_is_err_and c.from_residual-in_err-fired.result c.from_residual-in_err-fired.ensures.1 in
     stops_in_firing c.rules_join.ensures.teaches old _ work c.fire_all.new.table c.fire_all.new.letters c.from_residual-in_err-fired.result c.in_err-fired.field-0.0 (p.1 ∙ ap Err p.2)
-    (fires_so old (standing c.in_ok-before.before) (map rule_seen c.take_program-program.result.rules) work c.fire_all.new.table c.fire_all.new.letters (Err c.in_err-fired.field-0.0) same
-    (ap (λ p. map rule_seen p.rules) c.take_program-program.ensures) c.in_err-fired.ensures.answer)
+    (fires_so old (standing c.in_ok-before.before) (map rule_seen c.args.self.now.rules) work c.fire_all.new.table c.fire_all.new.letters (Err c.in_err-fired.field-0.0) same
+    refl c.in_err-fired.ensures.answer)
 
 pub returns-in_err-last-clause-answer : goal.returns-in_err-last-clause-answer
 returns-in_err-last-clause-answer c =
     let old = c.args.self.now in
     let work = c.args.work.now in
     let same : standing c.in_ok-before.before ≡ standing_now old = λ k. record { goals = (c.in_ok-before.ensures.goals ∙ c.list.ensures.goals) k; rows = (c.in_ok-before.ensures.prefs k).rows; elements = (c.in_ok-before.ensures.memory k).elements } in
-    let all = fires_so old (standing c.in_ok-before.before) (map rule_seen c.take_program-program.result.rules) work c.fire_all.new.table c.fire_all.new.letters (Ok c.in_ok-fired.fired) same
-    (ap (λ p. map rule_seen p.rules) c.take_program-program.ensures) c.in_ok-fired.ensures.answer in
+    let all = fires_so old (standing c.in_ok-before.before) (map rule_seen c.args.self.now.rules) work c.fire_all.new.table c.fire_all.new.letters (Ok c.in_ok-fired.fired) same
+    refl c.in_ok-fired.ensures.answer in
     let p = err_from_is_err_and c.from_residual-in_err-last.result c.from_residual-in_err-last.ensures.1 in
     stops_in_counting old _ work c.fire_all.new.table c.fire_all.new.letters c.in_ok-fired.fired c.len.result c.from_residual-in_err-last.result c.in_err-last.field-0.0 (p.1 ∙ ap Err p.2)
     all c.in_err-last.ensures.fits c.len.ensures c.in_err-last.ensures.count
@@ -68,8 +68,8 @@ returns-in_err-hand-clause-answer c =
     let old = c.args.self.now in
     let work = c.args.work.now in
     let same : standing c.in_ok-before.before ≡ standing_now old = λ k. record { goals = (c.in_ok-before.ensures.goals ∙ c.list.ensures.goals) k; rows = (c.in_ok-before.ensures.prefs k).rows; elements = (c.in_ok-before.ensures.memory k).elements } in
-    let all = fires_so old (standing c.in_ok-before.before) (map rule_seen c.take_program-program.result.rules) work c.fire_all.new.table c.fire_all.new.letters (Ok c.in_ok-fired.fired) same
-    (ap (λ p. map rule_seen p.rules) c.take_program-program.ensures) c.in_ok-fired.ensures.answer in
+    let all = fires_so old (standing c.in_ok-before.before) (map rule_seen c.args.self.now.rules) work c.fire_all.new.table c.fire_all.new.letters (Ok c.in_ok-fired.fired) same
+    refl c.in_ok-fired.ensures.answer in
     let p = err_from_is_err_and c.from_residual-in_err-hand.result c.from_residual-in_err-hand.ensures.1 in
     works_each c.agents_stay_lawful.ensures.firings old _ work c.from_residual-in_err-hand.result c.requires.lawful c.requires.pending
     (λ w pend. stops_in_learning old _ (recorded_alone old) w c.learn.new.table c.from_residual-in_err-hand.result c.in_err-hand.field-0.0 (p.1 ∙ ap Err p.2)
@@ -96,8 +96,8 @@ returns-clause-answer c =
     let old = c.args.self.now in
     let work = c.args.work.now in
     let same : standing c.in_ok-before.before ≡ standing_now old = λ k. record { goals = (c.in_ok-before.ensures.goals ∙ c.list.ensures.goals) k; rows = (c.in_ok-before.ensures.prefs k).rows; elements = (c.in_ok-before.ensures.memory k).elements } in
-    let all = fires_so old (standing c.in_ok-before.before) (map rule_seen c.take_program-program.result.rules) work c.fire_all.new.table c.fire_all.new.letters (Ok c.in_ok-fired.fired) same
-    (ap (λ p. map rule_seen p.rules) c.take_program-program.ensures) c.in_ok-fired.ensures.answer in
+    let all = fires_so old (standing c.in_ok-before.before) (map rule_seen c.args.self.now.rules) work c.fire_all.new.table c.fire_all.new.letters (Ok c.in_ok-fired.fired) same
+    refl c.in_ok-fired.ensures.answer in
     works_each c.agents_stay_lawful.ensures.firings old _ work (Ok (record { entries = c.in_ok-hand.hand.entries; halted = c.in_ok-fired.fired.halted })) c.requires.lawful c.requires.pending
     (λ w pend. holds_wave c.rules_join.ensures.teaches old (recorded_alone old) w _ c.fire_all.new.table c.fire_all.new.letters c.in_ok-fired.fired c.learn.new.table c.in_ok-hand.hand
     (has_fired old (recorded_alone old) work w c.fire_all.new.table c.fire_all.new.letters c.in_ok-fired.fired pend all)
@@ -122,8 +122,8 @@ returns-clause-worked c =
       goals = c.new_goals_depend_on_nothing.ensures.learning;
     } in
     let same : standing c.in_ok-before.before ≡ standing_now old = λ k. record { goals = (c.in_ok-before.ensures.goals ∙ c.list.ensures.goals) k; rows = (c.in_ok-before.ensures.prefs k).rows; elements = (c.in_ok-before.ensures.memory k).elements } in
-    let all = fires_so old (standing c.in_ok-before.before) (map rule_seen c.take_program-program.result.rules) work c.fire_all.new.table c.fire_all.new.letters (Ok c.in_ok-fired.fired) same
-    (ap (λ p. map rule_seen p.rules) c.take_program-program.ensures) c.in_ok-fired.ensures.answer in
+    let all = fires_so old (standing c.in_ok-before.before) (map rule_seen c.args.self.now.rules) work c.fire_all.new.table c.fire_all.new.letters (Ok c.in_ok-fired.fired) same
+    refl c.in_ok-fired.ensures.answer in
     let at = learns_here c.agents_stay_lawful.ensures.firings old work w (standing c.in_ok-before.before) c.fire_all.new.table c.fire_all.new.letters c.in_ok-fired.fired c.take_program-program.result c.in_ok-last.last
     c.learn.new.table (Ok c.in_ok-hand.hand) c.requires.lawful c.requires.pending pend same all (ap program_seen c.take_program-program.ensures)
     (c.in_ok-last.ensures.count.0 ∙ ap (λ n. old.firings + n) c.len.ensures) c.in_ok-hand.ensures.learns in

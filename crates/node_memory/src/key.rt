@@ -1,0 +1,184 @@
+// The keys of elements, and the short form in which an index keeps them.
+ghost use Rattle.std.specs.Prelude.{◌≡◌, Some, refl};
+ghost use Rattle.std.specs.Cmp.{eq_by_cmp_equiv, partial_equiv_from_equiv, partial_order_from_agreeing_total};
+ghost use Rattle.std.specs.Ordering.{eq_by_cmp};
+ghost use Rattle.node_memory.specs.contracts.key.ElementKeyOrd.TheImpl.Laws as key_laws;
+ghost use Rattle.node_memory.specs.Keys.{key_cmp};
+ghost use Rattle.node_memory.specs.Packed.{attributes_cmp, key_with, kind_of, symbol_at, values_cmp};
+
+use soar_sym::Sym;
+use std::cmp::Ordering;
+use std::marker::Model;
+
+/// The key of an element: by identifier, then attribute, then value, then tag.
+#[derive(Clone, Copy, PartialEq, Eq, PartialOrd, Ord)]
+pub struct ElementKey {
+    pub id: Sym,
+    pub attr: Sym,
+    pub value: Sym,
+    pub tag: u32,
+}
+
+/// Which of the three a symbol is.
+#[derive(Clone, Copy)]
+pub enum Kind {
+    Identifier,
+    Name,
+    Integer,
+}
+
+/// The key of an element in 32 bytes: each symbol is a number with its kind.
+#[derive(Drop)]
+pub struct PackedKey {
+    id: i64,
+    attr: i64,
+    value: i64,
+    tag: u32,
+    id_kind: Kind,
+    attr_kind: Kind,
+    value_kind: Kind,
+}
+
+const _: () = prove!(size_of::<PackedKey>() == 32);
+
+impl Model for PackedKey {
+    ghost use Rattle.node_memory.specs.contracts.key.ElementKey as key;
+    ghost use Rattle.node_memory.specs.declared.key.ElementKey.{ElementKey as KeyOf};
+    ghost use Rattle.node_memory.specs.Packed.{key_with, symbol_at};
+
+    ghost Value = { KeyOf };
+
+    ghost coded = { key.the_row.coded };
+
+    ghost view = { λ k. key_with (symbol_at k.id_kind k.id) (symbol_at k.attr_kind k.attr) (symbol_at k.value_kind k.value) k.tag };
+}
+
+impl PackedKey {
+    /// The key of these parts.
+    pub fn new(id: Sym, attr: Sym, value: Sym, tag: u32) -> PackedKey
+        ensures { result ≡ key_with id attr value tag }
+    {
+        PackedKey {
+            id: number_of(id),
+            attr: number_of(attr),
+            value: number_of(value),
+            tag,
+            id_kind: kind_of(id),
+            attr_kind: kind_of(attr),
+            value_kind: kind_of(value),
+        }
+    }
+
+    /// The key itself.
+    pub fn key(&self) -> ElementKey
+        ensures { result ≡ self.now }
+    {
+        ElementKey {
+            id: symbol_at(self.id_kind, self.id),
+            attr: symbol_at(self.attr_kind, self.attr),
+            value: symbol_at(self.value_kind, self.value),
+            tag: self.tag,
+        }
+    }
+
+    /// How keys of one identifier compare.
+    fn cmp_attributes(&self, other: &PackedKey) -> Ordering
+        ensures { result ≡ attributes_cmp self.now other.now }
+    {
+        let attr = symbol_at(self.attr_kind, self.attr);
+        match attr.cmp(&symbol_at(other.attr_kind, other.attr)) {
+            Ordering::Equal => self.cmp_values(other),
+            order => order,
+        }
+    }
+
+    /// How keys of one identifier and one attribute compare.
+    fn cmp_values(&self, other: &PackedKey) -> Ordering
+        ensures { result ≡ values_cmp self.now other.now }
+    {
+        let value = symbol_at(self.value_kind, self.value);
+        match value.cmp(&symbol_at(other.value_kind, other.value)) {
+            Ordering::Equal => self.tag.cmp(&other.tag),
+            order => order,
+        }
+    }
+}
+
+impl PartialEq for PackedKey {
+    ghost eq = { λ x y. eq_by_cmp key_cmp x y };
+
+    ghost laws = { partial_equiv_from_equiv (eq_by_cmp_equiv key_laws.total-law) };
+
+    fn eq(&self, other: &PackedKey) -> bool {
+        self.cmp(other).is_eq()
+    }
+}
+
+impl Eq for PackedKey {
+    ghost laws = { eq_by_cmp_equiv key_laws.total-law };
+}
+
+impl PartialOrd for PackedKey {
+    ghost partial_cmp = { λ x y. Some (key_cmp x y) };
+
+    ghost laws = { partial_order_from_agreeing_total key_cmp key_laws.total-law (λ x y. refl) (λ x y. refl) };
+
+    fn partial_cmp(&self, other: &PackedKey) -> Option<Ordering> {
+        Some(self.cmp(other))
+    }
+}
+
+impl Ord for PackedKey {
+    ghost cmp = { λ x y. key_cmp x y };
+
+    ghost total = { key_laws.total-law };
+
+    ghost matches_partial_cmp = { λ x y. refl };
+
+    ghost matches_eq = { λ x y. refl };
+
+    fn cmp(&self, other: &PackedKey) -> Ordering {
+        let id = symbol_at(self.id_kind, self.id);
+        match id.cmp(&symbol_at(other.id_kind, other.id)) {
+            Ordering::Equal => self.cmp_attributes(other),
+            order => order,
+        }
+    }
+}
+
+/// Which of the three a symbol is.
+fn kind_of(symbol: Sym) -> Kind
+    ensures { result ≡ kind_of symbol }
+{
+    match symbol {
+        Sym::Ident { .. } => Kind::Identifier,
+        Sym::Word(_) => Kind::Name,
+        Sym::Int(_) => Kind::Integer,
+    }
+}
+
+/// The number of a symbol, which tells it from all others of its kind: of an identifier 2^32 times its letter, and its number.
+fn number_of(symbol: Sym) -> i64
+    ensures { symbol_at (kind_of symbol) result ≡ symbol }
+{
+    match symbol {
+        Sym::Ident { letter, number } => (letter as u64 * 4294967296 + number as u64) as i64,
+        Sym::Word(word) => word as i64,
+        Sym::Int(value) => value,
+    }
+}
+
+/// The symbol of a kind and a number.
+fn symbol_at(kind: Kind, number: i64) -> Sym
+    ensures { result ≡ symbol_at kind number }
+{
+    let size = number.unsigned_abs();
+    match kind {
+        Kind::Identifier => Sym::Ident {
+            letter: (size / 4294967296 % 256) as u8,
+            number: (size % 4294967296) as u32,
+        },
+        Kind::Name => Sym::Word((size % 4294967296) as u32),
+        Kind::Integer => Sym::Int(number),
+    }
+}
