@@ -2,10 +2,10 @@
 use Rattle.std.proofs.Common.{◌≡◌, ℕ, Bool, true, false, cond, List, [], ◌∷◌, Option, Some, None, is_some, unwrap_or, refl, sym, ap, subst, ◌∙◌}
 use Rattle.std.specs.FinMap as map
 use Rattle.std.specs.BTreeMap.{is_at}
-use Rattle.std.specs.Cmp.{IsTotalOrder}
+use Rattle.std.specs.Cmp.{IsTotalOrder, nat_cmp_total}
 use Rattle.std.specs.List.Sorted.{IsStrictlySortedBy}
 use Rattle.std.specs.Map.{lookup, keys_of}
-use Rattle.std.specs.Ordering.{is_eq, ordering_then}
+use Rattle.std.specs.Ordering.{is_eq, nat_cmp, ordering_then}
 use Rattle.std.specs.declared.cmp.Ordering.{Ordering}
 use Rattle.std.specs.declared.cmp.Ordering.TheVariants.{Less, Equal, Greater}
 use Rattle.std.proofs.lemmas.Cmp.{then_total, on_total, eq_by_cmp_equiv}
@@ -14,49 +14,44 @@ use Rattle.std.proofs.lemmas.Map.Entries.{none_past_head}
 use Rattle.std.proofs.lemmas.Map.Keys.{IsDistinct-from_sorted}
 use Rattle.soar_sym.specs.declared.symbol.Sym.{Sym}
 use Rattle.soar_sym.specs.declared.symbol.Triple.{Triple}
-use Rattle.soar_sym.specs.contracts.symbol.SymOrd.TheImpl.Laws as sym_laws
-use Rattle.level_laws.proofs.SymbolLemmas.{symbol_same}
 use Rattle.level_laws.specs.Labels.{Links, Labels}
 use Rattle.level_graph.specs.Spreading.{Spreads}
-use Rattle.level_graph.proofs.KeyLemmas.{sym_cmp, cmp_same}
-use Rattle.level_change.specs.contracts.end.EndOrd.TheImpl as end_order
-use Rattle.level_change.specs.contracts.end.EndOrd.TheImpl.Laws as end_laws
-use Rattle.level_change.specs.declared.end.End.{End}
-use Rattle.level_change.specs.declared.end.End.TheVariants.{First, At, Last}
 use Rattle.level_change.specs.declared.store.Store.{Store}
-use Rattle.level_change.specs.Graph.{Graph, Numbers, Stands, times_in, merged, merged_map, put_over}
+use Rattle.level_change.specs.Graph.{Graph, Numbers, Stands, times_in, number_at, merged, merged_map, put_over}
 use Rattle.level_change.specs.Holds.{Holds, told_in}
-use Rattle.level_change.specs.Links.{Place, place_cmp, Facts, Late, value_in, is_linked}
+use Rattle.level_change.specs.Links.{Id, id_of, id_cmp, link_place, level_place, Place, place_cmp, Facts, Late, value_in, value_if, is_linked}
 use Rattle.level_change.proofs.LinkLemmas.{value_is}
 use Rattle.level_change.proofs.StandLemmas.{nothing_spreads}
 
 -- ---- the order of places
 
-pub place_total : IsTotalOrder place_cmp
-place_total = then_total (on_total (λ q. q.0) sym_laws.total-law) (on_total (λ q. q.1) end_laws.total-law)
+id_total : IsTotalOrder id_cmp
+id_total = then_total (on_total (λ q. q.0) nat_cmp_total) (on_total (λ q. q.1) nat_cmp_total)
 
-end_exact : (a b : End) → end_order.ghosts.cmp a b ≡ Equal → a ≡ b
-end_exact First First e = refl
-end_exact (At a) (At b) e = ap At (symbol_same a b (sym (cmp_same a b) ∙ ap is_eq e))
-end_exact Last Last e = refl
-end_exact First (At b) e = cc
-end_exact First Last e = cc
-end_exact (At a) First e = cc
-end_exact (At a) Last e = cc
-end_exact Last First e = cc
-end_exact Last (At b) e = cc
+pub place_total : IsTotalOrder place_cmp
+place_total = then_total (on_total (λ q. q.0) id_total) (on_total (λ q. q.1) id_total)
+
+both : (x y : Ordering) → ordering_then x y ≡ Equal → (x ≡ Equal) × (y ≡ Equal)
+both Less y e = absurd (cc)
+both Equal y e = (refl, e)
+both Greater y e = absurd (cc)
+
+nat_exact : (m n : ℕ) → nat_cmp m n ≡ Equal → m ≡ n
+nat_exact = map.nat_cmp-IsAntisymmetric
+
+id_exact : (a b : Id) → id_cmp a b ≡ Equal → a ≡ b
+id_exact a b e =
+    let parts = both (nat_cmp a.0 b.0) (nat_cmp a.1 b.1) e in
+    let one : a.0 ≡ b.0 = nat_exact a.0 b.0 parts.0 in
+    let two : a.1 ≡ b.1 = nat_exact a.1 b.1 parts.1 in
+    λ i. (one i, two i)
 
 place_exact : (p q : Place) → place_cmp p q ≡ Equal → p ≡ q
 place_exact p q e =
-    let parts = both (sym_cmp p.0 q.0) (end_order.ghosts.cmp p.1 q.1) e in
-    let one : p.0 ≡ q.0 = symbol_same p.0 q.0 (sym (cmp_same p.0 q.0) ∙ ap is_eq parts.0) in
-    let two : p.1 ≡ q.1 = end_exact p.1 q.1 parts.1 in
+    let parts = both (id_cmp p.0 q.0) (id_cmp p.1 q.1) e in
+    let one : p.0 ≡ q.0 = id_exact p.0 q.0 parts.0 in
+    let two : p.1 ≡ q.1 = id_exact p.1 q.1 parts.1 in
     λ i. (one i, two i)
-  where
-    both : (x y : Ordering) → ordering_then x y ≡ Equal → (x ≡ Equal) × (y ≡ Equal)
-    both Less y e = absurd (cc)
-    both Equal y e = (refl, e)
-    both Greater y e = absurd (cc)
 
 -- ---- what is kept, with what came later
 
@@ -74,6 +69,10 @@ get_map base (e ∷ late) q = by e.1 (get_map base late q)
 
 pub get_merged : (base : Facts) (late : Late) (q : Place) → map.find place_cmp q (merged base late) ≡ value_in base late q
 get_merged base late q = sym (map.get-entries (merged_map base late) q) ∙ get_map base late q
+
+pub get_number : (base : Facts) (late : Late) (o : Option Place) → number_at (merged base late) o ≡ value_if base late o
+get_number base late None = refl
+get_number base late (Some q) = get_merged base late q
 
 pub merged_same : (a b : Facts) (s t : Late) → ((q : Place) → value_in a s q ≡ value_in b t q) → merged a s ≡ merged b t
 merged_same a b s t same = ap map.entries (map.same_map place_total place_exact (merged_map a s) (merged_map b t) (λ q. get_map a s q ∙ same q ∙ sym (get_map b t q)))
@@ -140,34 +139,35 @@ spread_as a b goals s t links labels spreads =
 pub holds_of : (told out into : Store) (triples : List Triple) (goals moved : List Sym) (now : List Sym) → Stands (record { told = shown told; out = shown out; into = shown into; goals = now; moved = moved }) triples goals → Holds told out into triples now
 holds_of told out into triples goals moved now stands =
     record {
-      out_is = λ x y. sym (get_merged out.base.entries out.late.entries (x, At y)) ∙ stands.out x y;
-      into_is = λ y x. sym (get_merged into.base.entries into.late.entries (y, At x)) ∙ stands.into x y;
+      out_is = λ x y. sym (get_number out.base.entries out.late.entries (link_place (id_of x) (id_of y))) ∙ stands.out x y;
+      into_is = λ y x. sym (get_number into.base.entries into.late.entries (link_place (id_of y) (id_of x))) ∙ stands.into x y;
       levels = subst (λ g. Spreads (is_linked out) g (told_in told) []) (sym stands.same_goals)
-          (spread_as (λ x y. is_some (times_in (shown out) x y)) (is_linked out) goals (λ s. map.find place_cmp (s, First) (shown told)) (told_in told)
-          (λ x y. ap is_some (get_merged out.base.entries out.late.entries (x, At y))) (λ s. get_merged told.base.entries told.late.entries (s, First)) stands.levels);
+          (spread_as (λ x y. is_some (times_in (shown out) x y)) (is_linked out) goals (λ s. number_at (shown told) (level_place (id_of s))) (told_in told)
+          (λ x y. ap is_some (get_number out.base.entries out.late.entries (link_place (id_of x) (id_of y)))) (λ s. get_number told.base.entries told.late.entries (level_place (id_of s))) stands.levels);
     }
 
 pub stands_of : (told out into : Store) (triples : List Triple) (goals moved now : List Sym) → now ≡ goals → Holds told out into triples goals
     → Stands (record { told = shown told; out = shown out; into = shown into; goals = now; moved = moved }) triples goals
 stands_of told out into triples goals moved now same holds =
     record {
-      out = λ x y. get_merged out.base.entries out.late.entries (x, At y) ∙ holds.out_is x y;
-      into = λ x y. get_merged into.base.entries into.late.entries (y, At x) ∙ holds.into_is y x;
+      out = λ x y. get_number out.base.entries out.late.entries (link_place (id_of x) (id_of y)) ∙ holds.out_is x y;
+      into = λ x y. get_number into.base.entries into.late.entries (link_place (id_of y) (id_of x)) ∙ holds.into_is y x;
       same_goals = same;
-      levels = spread_as (is_linked out) (λ x y. is_some (times_in (shown out) x y)) goals (told_in told) (λ s. map.find place_cmp (s, First) (shown told))
-          (λ x y. sym (ap is_some (get_merged out.base.entries out.late.entries (x, At y)))) (λ s. sym (get_merged told.base.entries told.late.entries (s, First))) holds.levels;
+      levels = spread_as (is_linked out) (λ x y. is_some (times_in (shown out) x y)) goals (told_in told) (λ s. number_at (shown told) (level_place (id_of s)))
+          (λ x y. sym (ap is_some (get_number out.base.entries out.late.entries (link_place (id_of x) (id_of y))))) (λ s. sym (get_number told.base.entries told.late.entries (level_place (id_of s)))) holds.levels;
     }
 
 pub kept_as : (a b : Store) → a.base ≡ b.base → a.late.entries ≡ [] → b.late.entries ≡ [] → shown a ≡ shown b
 kept_as a b base none nothing = let late : a.late.entries ≡ b.late.entries = none ∙ sym nothing in λ i. merged (base i).entries (late i)
 
-nothing_in : (base : Facts) (late : Late) → base ≡ [] → late ≡ [] → (q : Place) → value_in base late q ≡ None
-nothing_in base late b l q = ap (λ t. value_in base t q) l ∙ ap (λ f. value_in f [] q) b
+nothing_in : (base : Facts) (late : Late) → base ≡ [] → late ≡ [] → (o : Option Place) → value_if base late o ≡ None
+nothing_in base late b l None = refl
+nothing_in base late b l (Some q) = ap (λ t. value_in base t q) l ∙ ap (λ f. value_in f [] q) b
 
 pub empty_holds : (told out into : Store) → told.base.entries ≡ [] → told.late.entries ≡ [] → out.base.entries ≡ [] → out.late.entries ≡ [] → into.base.entries ≡ [] → into.late.entries ≡ [] → Holds told out into [] []
 empty_holds told out into tb tl ob ol ib il =
     record {
-      out_is = λ x y. nothing_in out.base.entries out.late.entries ob ol (x, At y);
-      into_is = λ y x. nothing_in into.base.entries into.late.entries ib il (y, At x);
-      levels = nothing_spreads (is_linked out) (told_in told) (λ s. nothing_in told.base.entries told.late.entries tb tl (s, First));
+      out_is = λ x y. nothing_in out.base.entries out.late.entries ob ol (link_place (id_of x) (id_of y));
+      into_is = λ y x. nothing_in into.base.entries into.late.entries ib il (link_place (id_of y) (id_of x));
+      levels = nothing_spreads (is_linked out) (told_in told) (λ s. nothing_in told.base.entries told.late.entries tb tl (level_place (id_of s)));
     }

@@ -1,29 +1,38 @@
 -- What a map of links and a map of levels have after a step.
-use Rattle.std.proofs.Common.{◌≡◌, ℕ, zero, suc, ◌+◌, ◌-◌, ◌≤◌, ◌&&◌, ◌||◌, not, Bool, true, false, cond, List, [], ◌∷◌, ◌++◌, filter, filter_map, Option, Some, None, is_some, unwrap_or, Result, Ok, Err, IfOk, OnErr, OnOk, refl, sym, ap, ap₂, ◌∙◌, arith}
+use Rattle.std.proofs.Common.{◌≡◌, ℕ, zero, suc, ◌+◌, ◌-◌, ◌≤◌, ◌==◌, ◌&&◌, ◌||◌, not, Bool, true, false, cond, List, [], ◌∷◌, ◌++◌, filter, map, Option, Some, None, is_some, unwrap_or, Result, Ok, Err, IfOk, OnErr, OnOk, refl, sym, ap, ap₂, ◌∙◌, arith}
 use Rattle.std.specs.BTreeMap.Range.{range_contains}
 use Rattle.std.specs.Map.{lookup}
-use Rattle.std.specs.Ordering.{is_eq, is_le, is_lt, ordering_then}
+use Rattle.std.specs.Ordering.{is_eq, is_le, nat_cmp, ordering_then}
 use Rattle.std.specs.declared.cmp.Ordering.{Ordering}
 use Rattle.std.specs.declared.cmp.Ordering.TheVariants.{Less, Equal, Greater}
-use Rattle.std.specs.declared.ops.Bound.TheVariants.{Included}
+use Rattle.std.specs.declared.ops.Bound.TheVariants.{Included, Excluded}
 use Rattle.std.proofs.lemmas.List.Folds.{list_any-append}
 use Rattle.soar_sym.specs.Equality.{symbol_eq}
 use Rattle.soar_sym.specs.declared.symbol.Sym.{Sym}
+use Rattle.soar_sym.specs.declared.symbol.Sym.TheVariants.{Ident, Word, Int}
 use Rattle.defs_soar.specs.Sorted.{has_symbol}
 use Rattle.level_laws.proofs.SymbolLemmas.{symbol_same}
-use Rattle.level_graph.proofs.KeyLemmas.{sym_cmp, cmp_same}
-use Rattle.level_change.specs.declared.end.End.TheVariants.{First, At, Last}
 use Rattle.level_change.specs.declared.store.Store.{Store}
-use Rattle.level_change.specs.Links.{Place, Facts, Late, value_in, level_at, place_cmp, times, is_linked, Counts, if_any, IsCounted, raised, lowered, links_from, symbol_at}
+use Rattle.level_change.specs.Links.{Id, id_of, symbol_of, id_cmp, link_place, level_place, Place, Facts, Late, value_in, level_at, place_cmp, times, is_linked, Counts, if_any, IsCounted, raised, lowered, links_from}
 
 then_same : (x y : Ordering) → is_eq (ordering_then x y) ≡ (is_eq x && is_eq y)
 then_same Less y = refl
 then_same Equal y = refl
 then_same Greater y = refl
 
+nat_same : (m n : ℕ) → is_eq (nat_cmp m n) ≡ (m == n)
+nat_same m n = grind arith
+
+id_same : (a b : Id) → is_eq (id_cmp a b) ≡ symbol_eq (symbol_of a) (symbol_of b)
+id_same a b = then_same (nat_cmp a.0 b.0) (nat_cmp a.1 b.1) ∙ ap₂ (λ c d. c && d) (nat_same a.0 b.0) (nat_same a.1 b.1)
+
 -- the same link
-pub link_same : (a b x y : Sym) → is_eq (place_cmp (a, At b) (x, At y)) ≡ (symbol_eq a x && symbol_eq b y)
-link_same a b x y = then_same (sym_cmp a x) (sym_cmp b y) ∙ ap (λ c. c && is_eq (sym_cmp b y)) (cmp_same a x) ∙ ap (λ c. symbol_eq a x && c) (cmp_same b y)
+pub link_same : (a b x y : Id) → is_eq (place_cmp (a, b) (x, y)) ≡ (symbol_eq (symbol_of a) (symbol_of x) && symbol_eq (symbol_of b) (symbol_of y))
+link_same a b x y = then_same (id_cmp a x) (id_cmp b y) ∙ ap₂ (λ c d. c && d) (id_same a x) (id_same b y)
+
+and_false : (b : Bool) → (b && false) ≡ false
+and_false true = refl
+and_false false = refl
 
 and_parts : (a b : Bool) → (a && b) ≡ true → (a ≡ true) × (b ≡ true)
 and_parts true b h = (refl, h)
@@ -58,8 +67,26 @@ put_late base old new p w up q = sym (value_is base new q) ∙ ap (λ o. unwrap_
     by true h = refl
     by false h = h
 
-put_at : (base : Facts) (old new : Late) (from to : Sym) (w : Option ℕ) → IsPut base old new (from, At to) w → (x y : Sym) → times base new x y ≡ cond (symbol_eq from x && symbol_eq to y) w (times base old x y)
-put_at base old new from to w up x y = up (x, At y) ∙ ap (λ b. cond b w (times base old x y)) (link_same from to x y)
+put_at : (base : Facts) (old new : Late) (from to : Sym) (p : Place) (w : Option ℕ) → link_place (id_of from) (id_of to) ≡ Some p → IsPut base old new p w
+    → (x y : Sym) → times base new x y ≡ cond (symbol_eq from x && symbol_eq to y) w (times base old x y)
+put_at base old new (Ident l n) (Ident k m) p w is up x y = by x y
+  where
+    here : ((l, n), (k, m)) ≡ p
+    here = ap (λ o. unwrap_or o p) is
+
+    by : (x y : Sym) → times base new x y ≡ cond (symbol_eq (Ident l n) x && symbol_eq (Ident k m) y) w (times base old x y)
+    by (Ident a b) (Ident c d) =
+        up ((a, b), (c, d))
+        ∙ ap (λ q. cond (is_eq (place_cmp q ((a, b), (c, d)))) w (value_in base old ((a, b), (c, d)))) (sym here)
+        ∙ ap (λ t. cond t w (value_in base old ((a, b), (c, d)))) (link_same (l, n) (k, m) (a, b) (c, d))
+    by (Ident a b) (Word c) = sym (ap (λ t. cond t w None) (and_false (symbol_eq (Ident l n) (Ident a b))))
+    by (Ident a b) (Int c) = sym (ap (λ t. cond t w None) (and_false (symbol_eq (Ident l n) (Ident a b))))
+    by (Word a) y = refl
+    by (Int a) y = refl
+put_at base old new (Ident l n) (Word k) p w is up x y = cc
+put_at base old new (Ident l n) (Int k) p w is up x y = cc
+put_at base old new (Word l) to p w is up x y = cc
+put_at base old new (Int l) to p w is up x y = cc
 
 -- the number that stands at the link
 counted_here : (base : Facts) (old : Late) (from to x y : Sym) (counts : Counts) → IsCounted counts base old → (symbol_eq from x && symbol_eq to y) ≡ true → (n : ℕ) → n ≡ unwrap_or (times base old from to) 0 → n ≡ counts x y
@@ -67,8 +94,8 @@ counted_here base old from to x y counts counted same n is =
     let p = and_parts (symbol_eq from x) (symbol_eq to y) same in
     is ∙ ap (λ o. unwrap_or o 0) (counted from to) ∙ number_of (counts from to) ∙ ap (λ a. counts a to) (symbol_same from x p.0) ∙ ap (counts x) (symbol_same to y p.1)
 
-pub put_more : (base : Facts) (old new : Late) (from to : Sym) (n : ℕ) → n ≡ unwrap_or (times base old from to) 0 → IsPut base old new (from, At to) (Some (n + 1)) → (counts : Counts) → IsCounted counts base old → IsCounted (raised from to counts) base new
-put_more base old new from to n is up counts counted x y = put_at base old new from to (Some (n + 1)) up x y ∙ by (symbol_eq from x && symbol_eq to y) refl
+pub put_more : (base : Facts) (old new : Late) (from to : Sym) (n : ℕ) (p : Place) → link_place (id_of from) (id_of to) ≡ Some p → n ≡ unwrap_or (times base old from to) 0 → IsPut base old new p (Some (n + 1)) → (counts : Counts) → IsCounted counts base old → IsCounted (raised from to counts) base new
+put_more base old new from to n p at is up counts counted x y = put_at base old new from to p (Some (n + 1)) at up x y ∙ by (symbol_eq from x && symbol_eq to y) refl
   where
     one_more : (n m : ℕ) → n ≡ m → n + 1 ≡ suc m
     one_more n m e = omega (arith, e)
@@ -77,8 +104,8 @@ put_more base old new from to n is up counts counted x y = put_at base old new f
     by true e = ap Some (one_more n (counts x y) (counted_here base old from to x y counts counted e n is))
     by false e = counted x y
 
-pub put_less : (base : Facts) (old new : Late) (from to : Sym) (n : ℕ) (w : Option ℕ) → n ≡ unwrap_or (times base old from to) 0 → w ≡ if_any (n - 1) → IsPut base old new (from, At to) w → (counts : Counts) → IsCounted counts base old → IsCounted (lowered from to counts) base new
-put_less base old new from to n w is less up counts counted x y = put_at base old new from to w up x y ∙ by (symbol_eq from x && symbol_eq to y) refl
+pub put_less : (base : Facts) (old new : Late) (from to : Sym) (n : ℕ) (w : Option ℕ) (p : Place) → link_place (id_of from) (id_of to) ≡ Some p → n ≡ unwrap_or (times base old from to) 0 → w ≡ if_any (n - 1) → IsPut base old new p w → (counts : Counts) → IsCounted counts base old → IsCounted (lowered from to counts) base new
+put_less base old new from to n w p at is less up counts counted x y = put_at base old new from to p w at up x y ∙ by (symbol_eq from x && symbol_eq to y) refl
   where
     by : (b : Bool) → (symbol_eq from x && symbol_eq to y) ≡ b → cond b w (times base old x y) ≡ if_any (cond b (counts x y - 1) (counts x y))
     by true e = less ∙ ap (λ m. if_any (m - 1)) (counted_here base old from to x y counts counted e n is)
@@ -99,51 +126,42 @@ none_less n h = ap if_any (zero_is (n - 1) (omega (arith, h)))
 
 -- ---- the links from a symbol
 
-in_first : (o : Ordering) → (is_le (ordering_then o Less) && not (is_lt (ordering_then o Greater))) ≡ is_eq o
-in_first Less = refl
-in_first Equal = refl
-in_first Greater = refl
+-- the part of an identifier has its places and no others
+in_part : (id a b : Id) → range_contains place_cmp (Included (id, (0, 0))) (Excluded ((id.0, id.1 + 1), (0, 0))) (a, b) ≡ symbol_eq (symbol_of id) (symbol_of a)
+in_part id a b = by (nat_cmp id.0 a.0) (id_cmp (0, 0) b) (least b) ∙ ap (λ c. c && (id.1 == a.1)) (nat_same id.0 a.0)
+  where
+    least : (b : Id) → is_le (id_cmp (0, 0) b) ≡ true
+    least b = grind arith
 
-never_more : (o : Ordering) → is_eq (ordering_then o Greater) ≡ false
-never_more Less = refl
-never_more Equal = refl
-never_more Greater = refl
+    at_number : (m n : ℕ) (z : Ordering) → is_le z ≡ true → (is_le (ordering_then (nat_cmp m n) z) && not (is_le (ordering_then (nat_cmp (m + 1) n) z))) ≡ (m == n)
+    at_number m n Less h = grind arith
+    at_number m n Equal h = grind arith
+    at_number m n Greater h = cc
 
-never_less : (o : Ordering) → is_eq (ordering_then o Less) ≡ false
-never_less Less = refl
-never_less Equal = refl
-never_less Greater = refl
+    by : (o z : Ordering) → is_le z ≡ true
+        → (is_le (ordering_then (ordering_then o (nat_cmp id.1 a.1)) z) && not (is_le (ordering_then (ordering_then o (nat_cmp (id.1 + 1) a.1)) z))) ≡ (is_eq o && (id.1 == a.1))
+    by Less z h = refl
+    by Equal z h = at_number id.1 a.1 z h
+    by Greater z h = refl
 
-abbrev Has : {X : Type 0} → List (Place × X) → Sym → Sym → Bool
-Has places id y = is_some (lookup (λ k. is_eq (place_cmp (id, At y) k)) places)
+abbrev Has : {X : Type 0} → List (Place × X) → Id → Id → Bool
+Has places id y = is_some (lookup (λ k. is_eq (place_cmp (id, y) k)) places)
 
 abbrev ends : {X : Type 0} → List (Place × X) → List Sym
-ends places = filter_map (λ e. symbol_at e.0.1) places
+ends places = map (λ e. symbol_of e.0.1) places
 
-ends_linked : {X : Type 0} (id : Sym) (places : List (Place × X)) (y : Sym) → has_symbol (ends (links_from id places)) y ≡ Has places id y
+ends_linked : {X : Type 0} (id : Id) (places : List (Place × X)) (y : Id) → has_symbol (ends (links_from id places)) (symbol_of y) ≡ Has places id y
 ends_linked id [] y = refl
-ends_linked {X} id (((a, At b), n) ∷ places) y =
-    ap (λ c. has_symbol (ends (cond c (((a, At b), n) ∷ links_from id places) (links_from id places))) y) (in_first (sym_cmp id a) ∙ cmp_same id a)
-    ∙ by (symbol_eq id a) (symbol_eq y b) refl (ends_linked id places y)
-    ∙ ap (λ c. is_some (cond c (Some n) (lookup (λ k. is_eq (place_cmp (id, At y) k)) places))) (sym (link_same id y a b))
+ends_linked {X} id (((a, b), n) ∷ places) y =
+    ap (λ c. has_symbol (ends (cond c (((a, b), n) ∷ links_from id places) (links_from id places))) (symbol_of y)) (in_part id a b)
+    ∙ by (symbol_eq (symbol_of id) (symbol_of a)) (symbol_eq (symbol_of y) (symbol_of b)) refl (ends_linked id places y)
+    ∙ ap (λ c. is_some (cond c (Some n) (lookup (λ k. is_eq (place_cmp (id, y) k)) places))) (sym (link_same id y a b))
   where
-    by : (c d : Bool) → symbol_eq y b ≡ d → has_symbol (ends (links_from id places)) y ≡ Has places id y
-        → has_symbol (ends (cond c (((a, At b), n) ∷ links_from id places) (links_from id places))) y ≡ is_some (cond (c && d) (Some n) (lookup (λ k. is_eq (place_cmp (id, At y) k)) places))
-    by true true e h = ap (λ z. z || has_symbol (ends (links_from id places)) y) e
-    by true false e h = ap (λ z. z || has_symbol (ends (links_from id places)) y) e ∙ h
+    by : (c d : Bool) → symbol_eq (symbol_of y) (symbol_of b) ≡ d → has_symbol (ends (links_from id places)) (symbol_of y) ≡ Has places id y
+        → has_symbol (ends (cond c (((a, b), n) ∷ links_from id places) (links_from id places))) (symbol_of y) ≡ is_some (cond (c && d) (Some n) (lookup (λ k. is_eq (place_cmp (id, y) k)) places))
+    by true true e h = ap (λ z. z || has_symbol (ends (links_from id places)) (symbol_of y)) e
+    by true false e h = ap (λ z. z || has_symbol (ends (links_from id places)) (symbol_of y)) e ∙ h
     by false d e h = h
-ends_linked {X} id (((a, First), n) ∷ places) y =
-    by (range_contains place_cmp (Included (id, First)) (Included (id, Last)) (a, First)) ∙ ends_linked id places y ∙ ap (λ c. is_some (cond c (Some n) (lookup (λ k. is_eq (place_cmp (id, At y) k)) places))) (sym (never_more (sym_cmp id a)))
-  where
-    by : (c : Bool) → has_symbol (ends (cond c (((a, First), n) ∷ links_from id places) (links_from id places))) y ≡ has_symbol (ends (links_from id places)) y
-    by true = refl
-    by false = refl
-ends_linked {X} id (((a, Last), n) ∷ places) y =
-    by (range_contains place_cmp (Included (id, First)) (Included (id, Last)) (a, Last)) ∙ ends_linked id places y ∙ ap (λ c. is_some (cond c (Some n) (lookup (λ k. is_eq (place_cmp (id, At y) k)) places))) (sym (never_less (sym_cmp id a)))
-  where
-    by : (c : Bool) → has_symbol (ends (cond c (((a, Last), n) ∷ links_from id places) (links_from id places))) y ≡ has_symbol (ends (links_from id places)) y
-    by true = refl
-    by false = refl
 
 kept_in : (p : Sym → Bool) (xs : List Sym) (y : Sym) → has_symbol (filter p xs) y ≡ (p y && has_symbol xs y)
 kept_in p [] y = none (p y)
@@ -159,35 +177,50 @@ kept_in p (x ∷ xs) y = by (symbol_eq y x) refl (p x) refl (kept_in p xs y)
     by false e true f h = ap (λ z. z || has_symbol (filter p xs) y) e ∙ h
     by false e false f h = h
 
-late_or_base : (base : Facts) (late : Late) (id y : Sym) → is_some (times base late id y) ≡ true → (Has base id y || Has late id y) ≡ true
+late_or_base : (base : Facts) (late : Late) (id y : Id) → is_some (value_in base late (id, y)) ≡ true → (Has base id y || Has late id y) ≡ true
 late_or_base base [] id y h = or_it (Has base id y) h
   where
     or_it : (b : Bool) → b ≡ true → (b || false) ≡ true
     or_it true h = refl
     or_it false h = h
-late_or_base base (e ∷ late) id y h = by (is_eq (place_cmp (id, At y) e.0)) h (late_or_base base late id y)
+late_or_base base (e ∷ late) id y h = by (is_eq (place_cmp (id, y) e.0)) h (late_or_base base late id y)
   where
     or_true : (b : Bool) → (b || true) ≡ true
     or_true true = refl
     or_true false = refl
 
-    by : (b : Bool) → is_some (cond b e.1 (times base late id y)) ≡ true → (is_some (times base late id y) ≡ true → (Has base id y || Has late id y) ≡ true)
-        → (Has base id y || is_some (cond b (Some e.1) (lookup (λ k. is_eq (place_cmp (id, At y) k)) late))) ≡ true
+    by : (b : Bool) → is_some (cond b e.1 (value_in base late (id, y))) ≡ true → (is_some (value_in base late (id, y)) ≡ true → (Has base id y || Has late id y) ≡ true)
+        → (Has base id y || is_some (cond b (Some e.1) (lookup (λ k. is_eq (place_cmp (id, y) k)) late))) ≡ true
     by true k rest = or_true (Has base id y)
     by false k rest = rest k
 
--- all ends of links from a symbol are found in the two maps
-pub all_ends : (links : Store) (id : Sym) (found : List Sym) → found ≡ filter (is_linked links id) (ends (links_from id links.base.entries)) ++ filter (is_linked links id) (ends (links_from id links.late.entries))
-    → (y : Sym) → is_linked links id y ≡ has_symbol found y
+-- all ends of links from an identifier are found in the two maps
+pub all_ends : (links : Store) (id : Id) (found : List Sym) → found ≡ filter (is_linked links (symbol_of id)) (ends (links_from id links.base.entries)) ++ filter (is_linked links (symbol_of id)) (ends (links_from id links.late.entries))
+    → (y : Sym) → is_linked links (symbol_of id) y ≡ has_symbol found y
 all_ends links id found is y =
-    sym (ap (λ l. has_symbol l y) is ∙ list_any-append (symbol_eq y) (filter (is_linked links id) (ends (links_from id links.base.entries))) (filter (is_linked links id) (ends (links_from id links.late.entries)))
-    ∙ ap₂ (λ a b. a || b) (kept_in (is_linked links id) (ends (links_from id links.base.entries)) y ∙ ap (λ b. is_linked links id y && b) (ends_linked id links.base.entries y))
-    (kept_in (is_linked links id) (ends (links_from id links.late.entries)) y ∙ ap (λ b. is_linked links id y && b) (ends_linked id links.late.entries y))
-    ∙ by (is_linked links id y) refl)
+    sym (ap (λ l. has_symbol l y) is ∙ list_any-append (symbol_eq y) (filter (is_linked links (symbol_of id)) (ends (links_from id links.base.entries))) (filter (is_linked links (symbol_of id)) (ends (links_from id links.late.entries)))
+    ∙ ap₂ (λ a b. a || b) (kept_in (is_linked links (symbol_of id)) (ends (links_from id links.base.entries)) y) (kept_in (is_linked links (symbol_of id)) (ends (links_from id links.late.entries)) y)
+    ∙ by y)
   where
-    by : (l : Bool) → is_linked links id y ≡ l → ((l && Has links.base.entries id y) || (l && Has links.late.entries id y)) ≡ l
-    by true e = late_or_base links.base.entries links.late.entries id y e
-    by false e = refl
+    both : Sym → Bool
+    both y = (is_linked links (symbol_of id) y && has_symbol (ends (links_from id links.base.entries)) y) || (is_linked links (symbol_of id) y && has_symbol (ends (links_from id links.late.entries)) y)
+
+    one : (y : Id) (l : Bool) → is_linked links (symbol_of id) (symbol_of y) ≡ l → ((l && Has links.base.entries id y) || (l && Has links.late.entries id y)) ≡ l
+    one y true e = late_or_base links.base.entries links.late.entries id y e
+    one y false e = refl
+
+    by : (y : Sym) → both y ≡ is_linked links (symbol_of id) y
+    by (Ident l n) =
+        ap₂ (λ a b. (is_linked links (symbol_of id) (Ident l n) && a) || (is_linked links (symbol_of id) (Ident l n) && b)) (ends_linked id links.base.entries (l, n)) (ends_linked id links.late.entries (l, n))
+        ∙ one (l, n) (is_linked links (symbol_of id) (Ident l n)) refl
+    by (Word w) = refl
+    by (Int z) = refl
+
+-- an identifier that has a letter and a number is of them
+pub symbol_id : (s : Sym) (i : Id) → id_of s ≡ Some i → symbol_of i ≡ s
+symbol_id (Ident l n) i is = ap symbol_of (sym (ap (λ o. unwrap_or o i) is))
+symbol_id (Word w) i is = cc
+symbol_id (Int z) i is = cc
 
 pub if_ok : {T E : Type 0} {P Q : T → Type 0} (r : Result T E) → ((t : T) → P t → Q t) → IfOk r P → IfOk r Q
 if_ok (Ok t) f p = f t p
@@ -203,12 +236,22 @@ on_ok (Err e) f p = p
 
 -- ---- levels
 
-first_same : (a s : Sym) → is_eq (place_cmp (a, First) (s, First)) ≡ symbol_eq a s
-first_same a s = then_same (sym_cmp a s) Equal ∙ and_true (is_eq (sym_cmp a s)) ∙ cmp_same a s
+pub set_level : (base : Facts) (old new : Late) (id : Sym) (p : Place) (w : Option ℕ) → level_place (id_of id) ≡ Some p → IsPut base old new p w → (s : Sym) → level_at base new s ≡ cond (symbol_eq id s) w (level_at base old s)
+set_level base old new (Ident l n) p w is up s = by s
   where
+    here : ((l, n), (0, 0)) ≡ p
+    here = ap (λ o. unwrap_or o p) is
+
     and_true : (b : Bool) → (b && true) ≡ b
     and_true true = refl
     and_true false = refl
 
-pub set_level : (base : Facts) (old new : Late) (id : Sym) (w : Option ℕ) → IsPut base old new (id, First) w → (s : Sym) → level_at base new s ≡ cond (symbol_eq id s) w (level_at base old s)
-set_level base old new id w up s = up (s, First) ∙ ap (λ b. cond b w (level_at base old s)) (first_same id s)
+    by : (s : Sym) → level_at base new s ≡ cond (symbol_eq (Ident l n) s) w (level_at base old s)
+    by (Ident k m) =
+        up ((k, m), (0, 0))
+        ∙ ap (λ q. cond (is_eq (place_cmp q ((k, m), (0, 0)))) w (value_in base old ((k, m), (0, 0)))) (sym here)
+        ∙ ap (λ t. cond t w (value_in base old ((k, m), (0, 0)))) (link_same (l, n) (0, 0) (k, m) (0, 0) ∙ and_true (symbol_eq (Ident l n) (Ident k m)))
+    by (Word k) = refl
+    by (Int k) = refl
+set_level base old new (Word l) p w is up s = cc
+set_level base old new (Int l) p w is up s = cc

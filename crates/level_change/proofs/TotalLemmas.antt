@@ -1,23 +1,19 @@
 -- What is told over the ends of links, after one symbol is told another level.
 use Rattle.std.proofs.Common.{◌≡◌, ℕ, suc, ◌+◌, ◌*◌, ◌<◌, ◌≤◌, nat_lt, Bool, true, false, cond, List, [], ◌∷◌, ◌++◌, length, Option, Some, None, is_some, refl, sym, ap, ◌∙◌, ◌⊎◌, inl, inr, arith, length-append}
 use Rattle.std.specs.Map.{lookup}
-use Rattle.std.specs.Ordering.{is_eq, ordering_then}
-use Rattle.std.specs.declared.cmp.Ordering.{Ordering}
-use Rattle.std.specs.declared.cmp.Ordering.TheVariants.{Less, Equal, Greater}
+use Rattle.std.specs.Ordering.{is_eq}
 use Rattle.soar_sym.specs.Equality.{symbol_eq}
 use Rattle.soar_sym.specs.declared.symbol.Sym.{Sym}
+use Rattle.soar_sym.specs.declared.symbol.Sym.TheVariants.{Ident, Word, Int}
 use Rattle.defs_soar.specs.Sorted.{has_symbol}
 use Rattle.level_laws.specs.Labels.{Labels}
 use Rattle.level_laws.proofs.SymbolLemmas.{symbol_same}
 use Rattle.level_laws.proofs.ReachedLemmas.{keeps, has_last, and_parts}
 use Rattle.level_graph.specs.Marks.{weight_of}
 use Rattle.level_graph.specs.Spreading.{is_above}
-use Rattle.level_graph.proofs.KeyLemmas.{sym_cmp}
-use Rattle.level_change.specs.declared.end.End.{End}
-use Rattle.level_change.specs.declared.end.End.TheVariants.{First, At, Last}
 use Rattle.level_change.specs.declared.store.Store.{Store}
-use Rattle.level_change.specs.Links.{Place, Facts, Late, place_cmp, value_in, is_linked}
-use Rattle.level_change.specs.Passing.{KeptBut, told_at, total, totals, one_if_told}
+use Rattle.level_change.specs.Links.{Id, symbol_of, Place, Facts, Late, place_cmp, value_in, is_linked}
+use Rattle.level_change.specs.Passing.{KeptBut, total, totals, one_if_told}
 use Rattle.level_change.proofs.LinkLemmas.{link_same}
 
 -- one symbol is told this now
@@ -27,10 +23,8 @@ IsTold told next v w = (s : Sym) → next s ≡ cond (symbol_eq v s) w (told s)
 at_it : (told next : Labels) (v : Sym) (w : Option ℕ) → IsTold told next v w → (s : Sym) (b : Bool) → symbol_eq v s ≡ b → next s ≡ cond b w (told s)
 at_it told next v w set s b e = set s ∙ ap (λ c. cond c w (told s)) e
 
-end_le : (f : Option ℕ → ℕ) (told next : Labels) (v : Sym) (w : Option ℕ) → IsTold told next v w → suc (f w) ≤ f (told v) → (e : End) → told_at f next e ≤ told_at f told e
-end_le f told next v w set less First = omega arith
-end_le f told next v w set less Last = omega arith
-end_le f told next v w set less (At s) = by (symbol_eq v s) refl
+end_le : (f : Option ℕ → ℕ) (told next : Labels) (v : Sym) (w : Option ℕ) → IsTold told next v w → suc (f w) ≤ f (told v) → (s : Sym) → f (next s) ≤ f (told s)
+end_le f told next v w set less s = by (symbol_eq v s) refl
   where
     by : (b : Bool) → symbol_eq v s ≡ b → f (next s) ≤ f (told s)
     by true e =
@@ -47,36 +41,24 @@ end_less f told next v w set less s e =
 
 total_le : {X : Type 0} (f : Option ℕ → ℕ) (told next : Labels) (v : Sym) (w : Option ℕ) → IsTold told next v w → suc (f w) ≤ f (told v) → (links : List (Place × X)) → total f next links ≤ total f told links
 total_le f told next v w set less [] = omega arith
-total_le f told next v w set less (l ∷ links) = omega (arith, end_le f told next v w set less l.0.1, total_le f told next v w set less links)
-
-never_more : (o : Ordering) → is_eq (ordering_then o Greater) ≡ false
-never_more Less = refl
-never_more Equal = refl
-never_more Greater = refl
-
-never_less : (o : Ordering) → is_eq (ordering_then o Less) ≡ false
-never_less Less = refl
-never_less Equal = refl
-never_less Greater = refl
+total_le f told next v w set less (l ∷ links) = omega (arith, end_le f told next v w set less (symbol_of l.0.1), total_le f told next v w set less links)
 
 abbrev Has : {X : Type 0} → Place → List (Place × X) → Type 0
 Has q places = is_some (lookup (λ k. is_eq (place_cmp q k)) places) ≡ true
 
--- it is lower by one at least, where some place ends at the symbol
-total_less : {X : Type 0} (f : Option ℕ → ℕ) (told next : Labels) (v : Sym) (w : Option ℕ) → IsTold told next v w → suc (f w) ≤ f (told v) → (links : List (Place × X)) (x : Sym) → Has (x, At v) links
+-- it is lower by one at least, where some place ends at the identifier
+total_less : {X : Type 0} (f : Option ℕ → ℕ) (told next : Labels) (v : Id) (w : Option ℕ) → IsTold told next (symbol_of v) w → suc (f w) ≤ f (told (symbol_of v)) → (links : List (Place × X)) (x : Id) → Has (x, v) links
     → suc (total f next links) ≤ total f told links
 total_less f told next v w set less [] x h = cc
-total_less {X} f told next v w set less (((a, e), n) ∷ links) x h = by e (is_eq (place_cmp (x, At v) (a, e))) refl h (total_less f told next v w set less links x)
+total_less {X} f told next v w set less (((a, e), n) ∷ links) x h = by (is_eq (place_cmp (x, v) (a, e))) refl h (total_less f told next v w set less links x)
   where
-    here : (e : End) → is_eq (place_cmp (x, At v) (a, e)) ≡ true → suc (told_at f next e) ≤ told_at f told e
-    here First g = absurd (let c : false ≡ true = sym (never_more (sym_cmp x a)) ∙ g in cc)
-    here Last g = absurd (let c : false ≡ true = sym (never_less (sym_cmp x a)) ∙ g in cc)
-    here (At s) g = end_less f told next v w set less s (and_parts (symbol_eq x a) (symbol_eq v s) (sym (link_same x v a s) ∙ g)).1
+    here : is_eq (place_cmp (x, v) (a, e)) ≡ true → suc (f (next (symbol_of e))) ≤ f (told (symbol_of e))
+    here g = end_less f told next (symbol_of v) w set less (symbol_of e) (and_parts (symbol_eq (symbol_of x) (symbol_of a)) (symbol_eq (symbol_of v) (symbol_of e)) (sym (link_same x v a e) ∙ g)).1
 
-    by : (e : End) (b : Bool) → is_eq (place_cmp (x, At v) (a, e)) ≡ b → is_some (cond b (Some n) (lookup (λ k. is_eq (place_cmp (x, At v) k)) links)) ≡ true → (Has (x, At v) links → suc (total f next links) ≤ total f told links)
-        → suc (told_at f next e + total f next links) ≤ told_at f told e + total f told links
-    by e true g k rest = omega (arith, here e g, total_le f told next v w set less links)
-    by e false g k rest = omega (arith, end_le f told next v w set less e, rest k)
+    by : (b : Bool) → is_eq (place_cmp (x, v) (a, e)) ≡ b → is_some (cond b (Some n) (lookup (λ k. is_eq (place_cmp (x, v) k)) links)) ≡ true → (Has (x, v) links → suc (total f next links) ≤ total f told links)
+        → suc (f (next (symbol_of e)) + total f next links) ≤ f (told (symbol_of e)) + total f told links
+    by true g k rest = omega (arith, here g, total_le f told next (symbol_of v) w set less links)
+    by false g k rest = omega (arith, end_le f told next (symbol_of v) w set less (symbol_of e), rest k)
 
 -- what stands at a place came later, or was kept
 stands_in : (base : Facts) (late : Late) (q : Place) → is_some (value_in base late q) ≡ true → Has q late ⊎ Has q base
@@ -90,11 +72,15 @@ stands_in base (e ∷ late) q h = by (is_eq (place_cmp q e.0)) h (stands_in base
 
 totals_less : (f : Option ℕ → ℕ) (told next : Labels) (v : Sym) (w : Option ℕ) → IsTold told next v w → suc (f w) ≤ f (told v) → (links : Store) (x : Sym) → is_linked links x v ≡ true
     → suc (totals f next links) ≤ totals f told links
-totals_less f told next v w set less links x h =
-    elim (stands_in links.base.entries links.late.entries (x, At v) h) [
-      | inl late ↦ omega (arith, total_less f told next v w set less links.late.entries x late, total_le f told next v w set less links.base.entries)
-      | inr base ↦ omega (arith, total_less f told next v w set less links.base.entries x base, total_le f told next v w set less links.late.entries)
+totals_less f told next (Ident k m) w set less links (Ident l n) h =
+    elim (stands_in links.base.entries links.late.entries ((l, n), (k, m)) h) [
+      | inl late ↦ omega (arith, total_less f told next (k, m) w set less links.late.entries (l, n) late, total_le f told next (Ident k m) w set less links.base.entries)
+      | inr base ↦ omega (arith, total_less f told next (k, m) w set less links.base.entries (l, n) base, total_le f told next (Ident k m) w set less links.late.entries)
     ]
+totals_less f told next (Word k) w set less links (Ident l n) h = cc
+totals_less f told next (Int k) w set less links (Ident l n) h = cc
+totals_less f told next v w set less links (Word l) h = cc
+totals_less f told next v w set less links (Int l) h = cc
 
 above_less : (x : Option ℕ) (n : ℕ) → n < 4294967296 → is_above x n ≡ true → suc n ≤ weight_of x
 above_less None n lim h = omega (arith, lim)

@@ -5,15 +5,14 @@ use Rattle.soar_sym.specs.declared.symbol.Sym.{Sym}
 use Rattle.soar_sym.specs.declared.symbol.Triple.{Triple}
 use Rattle.level_graph.specs.Spreading.{Spreads}
 use Rattle.level_change.specs.Counts.{edge_count}
-use Rattle.level_change.specs.declared.end.End.TheVariants.{First, At}
-use Rattle.level_change.specs.Links.{Place, place_cmp, Facts, Late, if_any}
+use Rattle.level_change.specs.Links.{Place, place_cmp, id_of, link_place, level_place, Facts, Late, if_any}
 
 -- numbers at places, in their order
 abbrev pub Numbers : Type 0
 Numbers = List (Place × ℕ)
 
 -- Levels, links out and in, each with the number of triples that lead so, the goals from the top, and the symbols whose level
--- the last change may have altered. A symbol's level stands at its first place, and how often it leads to another at that one.
+-- the last change may have altered. Both stand by letters and numbers of identifiers, for no other symbol has a level or a link.
 pub record Graph : Type 0 where
   pub told : Numbers
   pub out : Numbers
@@ -21,13 +20,18 @@ pub record Graph : Type 0 where
   pub goals : List Sym
   pub moved : List Sym
 
+-- the number at a place, where there is such a place
+abbrev pub number_at : Numbers → Option Place → Option ℕ
+number_at numbers None = None
+number_at numbers (Some q) = map.find place_cmp q numbers
+
 -- the level of a symbol, where a goal reaches it
 abbrev pub level_in_graph : Graph → Sym → Option ℕ
-level_in_graph graph s = map.find place_cmp (s, First) graph.told
+level_in_graph graph s = number_at graph.told (level_place (id_of s))
 
 -- how often x leads to y, where it does
 abbrev pub times_in : Numbers → Sym → Sym → Option ℕ
-times_in links x y = map.find place_cmp (x, At y) links
+times_in links x y = number_at links (link_place (id_of x) (id_of y))
 
 -- The links out and in are those of the triples, each as often as triples lead so; the levels are those of the goals along them.
 -- Of the triples this speaks by their counts alone.

@@ -1,24 +1,45 @@
 -- What is kept at places: levels, and how often symbols lead to others.
-use Rattle.std.specs.Prelude.{◌≡◌, ℕ, zero, suc, ◌-◌, Bool, ◌&&◌, cond, List, [], ◌∷◌, Option, Some, None, is_some, if◌then◌else◌}
+use Rattle.std.specs.Prelude.{◌≡◌, ℕ, zero, suc, ◌+◌, ◌-◌, Bool, ◌&&◌, cond, List, [], ◌∷◌, Option, Some, None, is_some, if◌then◌else◌}
 use Rattle.std.specs.BTreeMap.Range.{entries_between}
-use Rattle.std.specs.declared.ops.Bound.TheVariants.{Included}
+use Rattle.std.specs.declared.ops.Bound.TheVariants.{Included, Excluded}
 use Rattle.soar_sym.specs.Equality.{symbol_eq}
 use Rattle.std.specs.Map.{lookup}
-use Rattle.std.specs.Ordering.{is_eq, ordering_then}
+use Rattle.std.specs.Ordering.{is_eq, nat_cmp, ordering_then}
 use Rattle.std.specs.declared.cmp.Ordering.{Ordering}
 use Rattle.soar_sym.specs.declared.symbol.Sym.{Sym}
-use Rattle.soar_sym.specs.contracts.symbol.SymOrd.TheImpl as sym_order
-use Rattle.level_change.specs.declared.end.End.{End}
-use Rattle.level_change.specs.declared.end.End.TheVariants.{First, At, Last}
+use Rattle.soar_sym.specs.declared.symbol.Sym.TheVariants.{Ident, Word, Int}
 use Rattle.level_change.specs.declared.store.Store.{Store}
-use Rattle.level_change.specs.contracts.end.EndOrd.TheImpl as end_order
 
--- where something is kept: a symbol's level at its first place, and at another symbol how often it leads there
+-- an identifier's letter and number
+abbrev pub Id : Type 0
+Id = ℕ × ℕ
+
+abbrev pub id_of : Sym → Option Id
+id_of (Ident letter number) = Some (letter, number)
+id_of (Word word) = None
+id_of (Int value) = None
+
+abbrev pub symbol_of : Id → Sym
+symbol_of id = Ident id.0 id.1
+
+-- where something is kept: how often an identifier leads to another, and its level beside the first of all
 abbrev pub Place : Type 0
-Place = Sym × End
+Place = Id × Id
+
+abbrev pub id_cmp : Id → Id → Ordering
+id_cmp a b = ordering_then (nat_cmp a.0 b.0) (nat_cmp a.1 b.1)
 
 abbrev pub place_cmp : Place → Place → Ordering
-place_cmp a b = ordering_then (sym_order.ghosts.cmp a.0 b.0) (end_order.ghosts.cmp a.1 b.1)
+place_cmp a b = ordering_then (id_cmp a.0 b.0) (id_cmp a.1 b.1)
+
+abbrev pub link_place : Option Id → Option Id → Option Place
+link_place None to = None
+link_place (Some from) None = None
+link_place (Some from) (Some to) = Some (from, to)
+
+abbrev pub level_place : Option Id → Option Place
+level_place None = None
+level_place (Some id) = Some (id, (0, 0))
 
 -- what is kept
 abbrev pub Facts : Type 0
@@ -33,13 +54,18 @@ abbrev pub value_in : Facts → Late → Place → Option ℕ
 value_in base [] q = lookup (λ k. is_eq (place_cmp q k)) base
 value_in base (e ∷ late) q = cond (is_eq (place_cmp q e.0)) e.1 (value_in base late q)
 
+-- nothing stands where there is no place
+abbrev pub value_if : Facts → Late → Option Place → Option ℕ
+value_if base late None = None
+value_if base late (Some q) = value_in base late q
+
 -- the level that is told of a symbol
 abbrev pub level_at : Facts → Late → Sym → Option ℕ
-level_at base late s = value_in base late (s, First)
+level_at base late s = value_if base late (level_place (id_of s))
 
 -- how often x leads to y, where it does
 abbrev pub times : Facts → Late → Sym → Sym → Option ℕ
-times base late x y = value_in base late (x, At y)
+times base late x y = value_if base late (link_place (id_of x) (id_of y))
 
 abbrev pub is_linked : Store → Sym → Sym → Bool
 is_linked links x y = is_some (times links.base.entries links.late.entries x y)
@@ -65,15 +91,9 @@ raised from to counts x y = if symbol_eq from x && symbol_eq to y then suc (coun
 abbrev pub lowered : Sym → Sym → Counts → Counts
 lowered from to counts x y = if symbol_eq from x && symbol_eq to y then counts x y - 1 else counts x y
 
--- the places of links from a symbol
-abbrev pub links_from : {X : Type 0} → Sym → List (Place × X) → List (Place × X)
-links_from id places = entries_between place_cmp (Included (id, First)) (Included (id, Last)) places
-
--- the symbol at an end
-abbrev pub symbol_at : End → Option Sym
-symbol_at First = None
-symbol_at (At s) = Some s
-symbol_at Last = None
+-- the places of links from an identifier: they come before those of the next number
+abbrev pub links_from : {X : Type 0} → Id → List (Place × X) → List (Place × X)
+links_from id places = entries_between place_cmp (Included (id, (0, 0))) (Excluded ((id.0, id.1 + 1), (0, 0))) places
 
 -- the same, from the end to the start
 abbrev pub turned : Counts → Counts

@@ -5,10 +5,8 @@ use Rattle.soar_sym.specs.declared.symbol.Sym.{Sym}
 use Rattle.soar_sym.specs.declared.symbol.Triple.{Triple}
 use Rattle.defs_soar.specs.Sorted.{has_symbol}
 use Rattle.level_laws.specs.Labels.{has_edge, Links, Labels, GoalsHaveDepths, IsAtMost, IsSound}
-use Rattle.level_change.specs.declared.end.End.{End}
-use Rattle.level_change.specs.declared.end.End.TheVariants.{First, At, Last}
 use Rattle.level_change.specs.declared.store.Store.{Store}
-use Rattle.level_change.specs.Links.{Place, is_linked}
+use Rattle.level_change.specs.Links.{Place, symbol_of, is_linked}
 
 -- Goals have their depths, walks lead to all levels, and what is not closed waits, or is left to be passed.
 pub record SpreadsBut (links : Links) (goals : List Sym) (told : Labels) (waiting : List Sym) (left : Links) : Type 0 where
@@ -40,14 +38,9 @@ abbrev pub AreLinked : Store → Sym → List Sym → Type 0
 AreLinked links x values = (y : Sym) → has_symbol values y ≡ true → is_linked links x y ≡ true
 
 -- a number for what is told, over the ends of all links
-abbrev pub told_at : (Option ℕ → ℕ) → Labels → End → ℕ
-told_at f told First = 0
-told_at f told (At s) = f (told s)
-told_at f told Last = 0
-
 abbrev pub total : {X : Type 0} → (Option ℕ → ℕ) → Labels → List (Place × X) → ℕ
 total f told [] = 0
-total f told (l ∷ places) = told_at f told l.0.1 + total f told places
+total f told (l ∷ places) = f (told (symbol_of l.0.1)) + total f told places
 
 abbrev pub totals : (Option ℕ → ℕ) → Labels → Store → ℕ
 totals f told links = total f told links.base.entries + total f told links.late.entries

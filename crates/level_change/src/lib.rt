@@ -3,13 +3,13 @@
 
 mod anew;
 mod counting;
-mod end;
 mod forgetting;
 mod goals;
 mod graph;
 mod laws;
 mod links;
 mod passing;
+mod place;
 mod renewing;
 mod seeds;
 mod spreading;

@@ -1,6 +1,10 @@
-use Rattle.std.proofs.Common.{rules}
-use Rattle.level_change.proofs.LinkLemmas.{all_ends}
+use Rattle.std.proofs.Common.{rules, ◌≡◌, Some, subst}
+use Rattle.defs_soar.specs.Sorted.{has_symbol}
+use Rattle.level_change.specs.Links.{id_of, is_linked}
+use Rattle.level_change.proofs.LinkLemmas.{all_ends, symbol_id}
 use Rattle.level_change.proofs.links.ends_of.Goals as goal
 
 pub returns : goal.returns
-returns c = all_ends c.args.links.now c.args.id _ (search rules)
+returns c = λ y.
+    let at : id_of c.args.id ≡ Some c.in_ok-id.id = search rules in
+    subst (λ s. is_linked c.args.links.now s y ≡ has_symbol c.add_ends-2.new.found y) (symbol_id c.args.id c.in_ok-id.id at) (all_ends c.args.links.now c.in_ok-id.id _ (search rules) y)

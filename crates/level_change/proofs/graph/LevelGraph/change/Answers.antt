@@ -1,11 +1,9 @@
 use Rattle.std.proofs.Common.{◌∙◌, refl, sym, ap, subst}
-use Rattle.std.specs.FinMap as map
 use Rattle.level_change.specs.contracts.graph.LevelGraph.{the_view}
-use Rattle.level_change.specs.declared.end.End.TheVariants.{First}
-use Rattle.level_change.specs.Graph.{level_in_graph, Stands}
-use Rattle.level_change.specs.Links.{place_cmp}
+use Rattle.level_change.specs.Graph.{level_in_graph, number_at, Stands}
+use Rattle.level_change.specs.Links.{id_of, level_place}
 use Rattle.level_change.specs.Holds.{Holds}
-use Rattle.level_change.proofs.HoldLemmas.{shown, get_merged, merged_same, same_graph, kept_as, holds_of, stands_of}
+use Rattle.level_change.proofs.HoldLemmas.{shown, get_number, merged_same, same_graph, kept_as, holds_of, stands_of}
 use Rattle.level_change.proofs.LinkLemmas.{err_of}
 use Rattle.level_change.proofs.graph.LevelGraph.change.Goals as goal
 
@@ -47,5 +45,5 @@ returns-clause-ok c = λ held after old_goals changed before.
 
 pub returns-clause-moved : goal.returns-clause-moved
 returns-clause-moved c = λ held old_goals before s out.
-    get_merged _ _ (s, First) ∙ c.in_ok-moved.ensures.moved s out ∙ sym (get_merged c.settle.new.store.base.entries c.settle.new.store.late.entries (s, First))
-    ∙ ap (λ m. map.find place_cmp (s, First) m) (merged_same _ _ _ _ c.settle.ensures.same) ∙ ap (λ g. level_in_graph g s) c.self.view_is
+    get_number _ _ (level_place (id_of s)) ∙ c.in_ok-moved.ensures.moved s out ∙ sym (get_number c.settle.new.store.base.entries c.settle.new.store.late.entries (level_place (id_of s)))
+    ∙ ap (λ m. number_at m (level_place (id_of s))) (merged_same _ _ _ _ c.settle.ensures.same) ∙ ap (λ g. level_in_graph g s) c.self.view_is
