@@ -44,7 +44,7 @@ pub fn tell_anew<M: Outstanding>(
     Ok(())
 }
 
-/// Lets go of elements, one after the other.
+/// Lets go of elements, the last of them first: where all are kept in order of tag, those behind one that goes are few.
 fn let_go<M: Outstanding>(matcher: &mut M, gone: &[Element]) -> Result<(), NoMemory>
     requires works { M.failed matcher.old ≡ false }
     requires removable { AreRemovable (M.elements matcher.old) gone.now }
@@ -53,8 +53,10 @@ fn let_go<M: Outstanding>(matcher: &mut M, gone: &[Element]) -> Result<(), NoMem
     ensures elements { OnOk result (M.elements matcher.new ≡ without_each (M.elements matcher.old) gone.now) }
     ensures knows { OnOk result ((live : ListOf LiveOf) → M.knows matcher.old live → M.knows matcher.new live) }
 {
-    'gone: for element in gone {
-        matcher.element_goes(element.tag)?;
+    let mut rest = gone;
+    'gone: while let Some((last, front)) = rest.split_last() {
+        matcher.element_goes(last.tag)?;
+        rest = front;
     }
     Ok(())
 }
