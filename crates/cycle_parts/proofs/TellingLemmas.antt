@@ -88,9 +88,10 @@ pub last_removable : (e : Element) (front elements : List Element) → AreRemova
     → HasTag elements e.tag × AreRemovable (without_tag e.tag elements) front
 last_removable e [] elements removable = (removable.0, tt)
 last_removable e (f ∷ front) elements removable =
-    let later = last_removable e front (without_tag f.tag elements) removable.1 in
-    (was_there f.tag e.tag elements later.0,
-    (still_there f.tag e.tag elements removable.0 later.0, subst (λ (left : List Element). AreRemovable left front) (either_order e.tag f.tag elements) later.1))
+    let later = last_removable e front (without_tag f.tag elements) removable.1 in (
+      was_there f.tag e.tag elements later.0,
+      (still_there f.tag e.tag elements removable.0 later.0, subst (λ (left : List Element). AreRemovable left front) (either_order e.tag f.tag elements) later.1),
+    )
 
 pub last_without : (e : Element) (front elements : List Element) → without_each elements (front ++ e ∷ []) ≡ without_each (without_tag e.tag elements) front
 last_without e [] elements = refl

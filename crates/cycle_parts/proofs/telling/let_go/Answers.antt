@@ -17,9 +17,10 @@ gone-preserved g c =
     let last = c.in-Some.last.now in
     let front = c.in-Some.front.now in
     let removable = subst (AreRemovable held) c.in-Some.ensures.cases.0 c.gone.invariant.2 in
-    let now = c.in_ok-element_goes.ensures.elements in
-    (c.in_ok-element_goes.ensures.works.works,
-    c.in_ok-element_goes.ensures.rules ∙ c.gone.invariant.1,
-    subst (λ (left : List Element). AreRemovable left front) (sym now) (last_removable last front held removable).1,
-    ap (λ (left : List Element). without_each left front) now ∙ sym (last_without last front held) ∙ ap (without_each held) (sym c.in-Some.ensures.cases.0) ∙ c.gone.invariant.3,
-    λ live known. c.in_ok-element_goes.ensures.knows live (c.gone.invariant.4 live known))
+    let now = c.in_ok-element_goes.ensures.elements in (
+      c.in_ok-element_goes.ensures.works.works,
+      c.in_ok-element_goes.ensures.rules ∙ c.gone.invariant.1,
+      subst (λ (left : List Element). AreRemovable left front) (sym now) (last_removable last front held removable).1,
+      ap (λ (left : List Element). without_each left front) now ∙ sym (last_without last front held) ∙ ap (without_each held) (sym c.in-Some.ensures.cases.0) ∙ c.gone.invariant.3,
+      λ live known. c.in_ok-element_goes.ensures.knows live (c.gone.invariant.4 live known),
+    )
