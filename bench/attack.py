@@ -21,6 +21,7 @@ INPUT = 64 * MIB
 COMMAND = MIB
 
 CHAIN = "sp {chain (state <s> ^superstate nil ^first <a>) --> (<s> ^seen <a>)}\n"
+LINKS = "sp {links (state <s> ^superstate nil ^first <a>) (<a> ^next <b>) --> (<s> ^seen <b>)}\n"
 
 
 def repeated(piece, size):
@@ -89,12 +90,20 @@ def long_path(big):
     return "sp {p (state <s> ^" + ".".join("a" for _ in range(999)) + " 1) --> }\nprint p\n"
 
 
-def chain_of_identifiers(big):
-    """Identifiers, each the value of the one before, and then the first link goes."""
-    count = 1_000_000 if big else 100_000
-    lines = ["watch 0", CHAIN.strip(), "input add S1 ^first <n0>"]
+def linked(production, count):
+    lines = ["watch 0", production.strip(), "input add S1 ^first <n0>"]
     lines += [f"input add <n{n}> ^next <n{n + 1}>" for n in range(count)]
     return "\n".join(lines + ["run 1", "stats", "input remove S1 ^first <n0>", "run 1", "stats"]) + "\n"
+
+
+def chain_of_identifiers(big):
+    """Identifiers, each the value of the one before, and then the first link goes."""
+    return linked(CHAIN, 1_000_000 if big else 100_000)
+
+
+def chain_that_a_pattern_takes(big):
+    """The same where a condition asks for each link, so that all of them leave the members of one pattern in one step."""
+    return linked(LINKS, 1_000_000 if big else 100_000)
 
 
 def deep_chain(big):
@@ -153,6 +162,7 @@ ATTACKS = [
     many_variables,
     long_path,
     chain_of_identifiers,
+    chain_that_a_pattern_takes,
     deep_chain,
     many_elements,
     many_goals,
