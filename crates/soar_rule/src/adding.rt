@@ -3,6 +3,14 @@ ghost use Rattle.std.specs.Prelude.{◌≡◌, ◌++◌, [], ◌∷◌, IfOk};
 ghost use Rattle.std.specs.Result.{IsOkAnd};
 
 use soar_sym::{List, NoMemory};
+use std::alloc::Global;
+
+/// No items yet, and room for so many.
+pub fn room_for<T>(alloc: Global, count: usize) -> Result<List<T>, NoMemory>
+    ensures { IfOk result (λ list. list ≡ []) }
+{
+    Ok(List::from_vec(Vec::with_capacity(alloc, count)?))
+}
 
 /// The list with an item more, where there is one.
 ///

@@ -7,7 +7,7 @@ ghost use Rattle.soar_rule.specs.Renumbering.{renumbered_by};
 ghost use Rattle.soar_rule.specs.Renaming.{action_with, condition_with, conditions_with, field_with, pattern_with, preference_with, test_with, value_with};
 
 use crate::action::{Action, Pref, Value};
-use crate::adding::added;
+use crate::adding::{added, room_for};
 use crate::cond::{Atom, Cond, Field, Pattern, Test};
 use crate::numbering::Numbering;
 use soar_sym::{List, NoMemory};
@@ -24,7 +24,7 @@ pub fn renumber_conds(
     ensures renumbered { IfOk result (λ copy. conditions copy ≡ conditions_with (renumbered_by (option_copied numbering.entry)) (conditions conds.now)) }
     ensures kept { numbering.entry ≡ None → IfOk result (λ copy. copy ≡ conds.now) }
 {
-    let mut out = List::new(alloc);
+    let mut out = room_for(alloc, conds.len())?;
     'conds: for cond in conds {
         out = added(out, renumber_cond(numbering, cond, alloc))?;
     }
@@ -75,7 +75,7 @@ fn renumber_field(
     ensures renumbered { IfOk result (λ copy. copy ≡ field_with (renumbered_by (option_copied numbering.entry)) field.now) }
     ensures kept { numbering.entry ≡ None → IfOk result (λ copy. copy ≡ field.now) }
 {
-    let mut tests = List::new(alloc);
+    let mut tests = room_for(alloc, field.tests.len())?;
     'tests: for test in field.tests.as_slice() {
         tests = added(tests, renumber_test(numbering, test, alloc))?;
     }
@@ -116,7 +116,7 @@ pub fn renumber_actions(
     ensures renumbered { IfOk result (λ copy. map action_seen copy ≡ map (action_with (renumbered_by (option_copied numbering.entry))) (map action_seen actions.now)) }
     ensures kept { numbering.entry ≡ None → IfOk result (λ copy. copy ≡ actions.now) }
 {
-    let mut out = List::new(alloc);
+    let mut out = room_for(alloc, actions.len())?;
     'actions: for action in actions {
         out = added(out, renumber_action(numbering, action, alloc))?;
     }
@@ -190,7 +190,7 @@ fn renumber_values(
     ensures renumbered { IfOk result (λ copy. map value_seen copy ≡ map (value_with (renumbered_by (option_copied numbering.entry))) (map value_seen values.now)) }
     ensures kept { numbering.entry ≡ None → IfOk result (λ copy. copy ≡ values.now) }
 {
-    let mut out = List::new(alloc);
+    let mut out = room_for(alloc, values.len())?;
     'values: for value in values {
         out = added(out, renumber_value(numbering, value, alloc))?;
     }
