@@ -94,6 +94,11 @@ put_in es new k v up =
     same_entries nat_cmp nat_cmp_total exact_unsigned (in_order new) (in_order ((k, v) ∷ es)) (sorted new) (sorted ((k, v) ∷ es))
     (λ q. looked new q ∙ up q ∙ ap (λ b. cond b (Some v) (lookup (nat_eq q) es)) (nat_eq_equiv.symm k q) ∙ sym (looked ((k, v) ∷ es) q))
 
+-- the same, of a value that is equal
+pub put_as : (es new : Tagged) (k : ℕ) (v w : Element) → w ≡ v → ((q : ℕ) → lookup (nat_eq q) new ≡ cond (nat_eq k q) (Some w) (lookup (nat_eq q) es))
+    → in_order new ≡ insert_entry nat_cmp (in_order es) k v
+put_as es new k v w same up = put_in es new k w up ∙ ap (insert_entry nat_cmp (in_order es) k) same
+
 below_without : (n : ℕ) (test : ℕ → Bool) (es : Tagged) → T (below_all nat_cmp n es) → T (below_all nat_cmp n (remove_entry test es))
 below_without n test [] h = tt
 below_without n test (e ∷ es) h = by (test e.0) (below_without n test es (second _ _ h))

@@ -3,6 +3,7 @@ ghost use Rattle.std.specs.Prelude.{◌≡◌, false, [], OnOk, OnErr, IfOk};
 ghost use Rattle.std.specs.List.{list_any};
 ghost use Rattle.std.specs.List.Sorted.{IsPermutation, IsSorted};
 ghost use Rattle.std.specs.Map.{values_of};
+ghost use Rattle.std.specs.Option.{option_copied};
 ghost use Rattle.std.specs.Ordering.{nat_cmp};
 ghost use Rattle.defs_match.specs.Contents.{with_element};
 ghost use Rattle.soar_wm.specs.WorkingMemory.{IsRising, element_of, has_tag, without_tag};
@@ -11,7 +12,7 @@ ghost use Rattle.rete_alpha.specs.Taking.{keys_taken, tags_taken};
 
 use crate::pattern::{ConstPattern, takes};
 use soar_sym::{List, NoMemory};
-use soar_wm::Element;
+use soar_wm::{Element, PackedElement};
 use std::alloc::Global;
 use std::collections::HashMap;
 use std::marker::Model;
@@ -19,7 +20,7 @@ use std::marker::Model;
 /// Elements by tag. What a change or a look-up costs does not grow with their number, but when the table itself grows.
 #[derive(Drop)]
 pub struct Elements {
-    by_tag: HashMap<u32, Element>,
+    by_tag: HashMap<u32, PackedElement>,
 }
 
 impl Model for Elements {
@@ -52,7 +53,7 @@ impl Elements {
         ensures err { OnErr result (self.new ≡ self.old) }
         ensures rising { OnOk result (IsRising self.old) }
     {
-        self.by_tag.insert(e.tag, e)?;
+        self.by_tag.insert(e.tag, PackedElement::new(e))?;
         Ok(())
     }
 
@@ -62,14 +63,15 @@ impl Elements {
         ensures rest { self.new ≡ without_tag tag self.old }
         ensures rising { IsRising self.old }
     {
-        self.by_tag.remove(&tag)
+        let gone = self.by_tag.remove(&tag);
+        unpacked(gone.as_ref())
     }
 
     /// The element of a tag.
     pub fn get(&self, tag: u32) -> Option<Element>
         ensures { result ≡ element_of tag self.now }
     {
-        self.by_tag.get(&tag).copied()
+        unpacked(self.by_tag.get(&tag))
     }
 
     /// Tags rise.
@@ -88,10 +90,20 @@ impl Elements {
     }
 }
 
+/// The element itself, where there is one.
+fn unpacked(packed: Option<&PackedElement>) -> Option<Element>
+    ensures { result ≡ option_copied packed.entry }
+{
+    match packed {
+        Some(packed) => Some(packed.element()),
+        None => None,
+    }
+}
+
 /// The tags of the elements of a map that a pattern takes, in order.
 fn tags_of(
     alloc: Global,
-    by_tag: &HashMap<u32, Element>,
+    by_tag: &HashMap<u32, PackedElement>,
     p: &ConstPattern,
 ) -> Result<List<u32>, NoMemory>
     requires { OwnTags (in_order by_tag.now.entries) }
@@ -105,14 +117,14 @@ fn tags_of(
 /// The tags under which a map has the elements that a pattern takes, in the map's order.
 fn keys_taken(
     alloc: Global,
-    by_tag: &HashMap<u32, Element>,
+    by_tag: &HashMap<u32, PackedElement>,
     p: &ConstPattern,
 ) -> Result<List<u32>, NoMemory>
     ensures { IfOk result (λ tags. tags ≡ keys_taken p.now by_tag.now.entries) }
 {
     let mut tags = List::new(alloc);
     'elements: for (tag, element) in by_tag.iter() {
-        if takes(p, element) {
+        if takes(p, &element.element()) {
             tags.push(*tag)?;
         }
     }

@@ -3,14 +3,12 @@ use Rattle.std.proofs.Common.{◌≡◌, ◌≢◌, ℕ, ◌<◌, Bool, true, fa
 use Rattle.std.specs.Map.{remove_entry}
 use Rattle.std.specs.BTreeMap.{is_at}
 use Rattle.std.specs.Ordering.{is_eq, nat_cmp}
-use Rattle.soar_sym.specs.Equality.{symbol_eq}
-use Rattle.soar_sym.specs.declared.symbol.Sym.{Sym}
 use Rattle.soar_sym.specs.declared.symbol.Triple.{Triple}
 use Rattle.soar_wm.specs.declared.element.Element.{Element}
-use Rattle.soar_wm.specs.Shelf.{blank, element_at, Tags, Triples, Ids, listed, IsStored, at_tag, key_of_id, IsShelf, is_id_of, Puts}
+use Rattle.soar_wm.specs.Shelf.{blank, element_at, Place, Tags, Triples, Ids, listed, IsStored, at_tag, cell_of, has_place, mark_at, IsShelf, is_id_of, Puts}
 use Rattle.soar_wm.specs.WorkingMemory.{has_triple, tag_of, has_tag, element_of, without_tag, IsBelow, IsRising, Lacks, IsDistinct}
 use Rattle.soar_wm.proofs.KeyLemmas.{nat_same, nat_turned, nat_is, triple_is}
-use Rattle.soar_wm.proofs.ShelfLemmas.{SameBut, cell_of, found, stored_at, same_key, same_tag}
+use Rattle.soar_wm.proofs.ShelfLemmas.{SameBut, found, stored_at, same_tag, element_below}
 
 -- ---- the list
 
@@ -99,28 +97,40 @@ stored_gone old new (e ∷ tags) tag key stored rising at others =
 
 -- ---- the map by identifier
 
-pub id_gone : (old new : ℕ → Option Element) (tags new_tags : Tags) (key : ℕ) (e : Element) (q : Sym × ℕ) → IsStored old tags → old key ≡ Some e → SameBut old new key → at_tag tags e.tag ≡ Some key
-    → at_tag new_tags q.1 ≡ cond (is_eq (nat_cmp e.tag q.1)) None (at_tag tags q.1) → cond (is_id_of e q) None (key_of_id old q.0 (at_tag tags q.1)) ≡ key_of_id new q.0 (at_tag new_tags q.1)
-id_gone old new tags new_tags key e q stored was others at up =
-    by (e.tag == q.1) refl
-    ∙ sym (ap (key_of_id new q.0) (up ∙ ap (λ b. cond b None (at_tag tags q.1)) (nat_same e.tag q.1)))
+element_gone : (tag : ℕ) (es : List Element) → IsRising es → element_of tag (without_tag tag es) ≡ None
+element_gone tag [] rising = refl
+element_gone tag (e ∷ es) rising = by (has_tag tag e) refl (element_gone tag es rising.1)
   where
-    here : (s : Bool) → cond (s && true) None (cond s (Some key) None) ≡ None
+    by : (b : Bool) → has_tag tag e ≡ b → element_of tag (without_tag tag es) ≡ None → element_of tag (cond b es (e ∷ without_tag tag es)) ≡ None
+    by true h later = element_below tag es (subst (λ n. IsBelow n es) (nat_is e.tag tag h) rising.0)
+    by false h later = ap (λ b. cond b (Some e) (element_of tag (without_tag tag es))) h ∙ later
+
+element_other : (n tag : ℕ) (es : List Element) → (tag == n) ≡ false → element_of n (without_tag tag es) ≡ element_of n es
+element_other n tag [] other = refl
+element_other n tag (e ∷ es) other = by (has_tag tag e) refl (element_other n tag es other)
+  where
+    by : (b : Bool) → has_tag tag e ≡ b → element_of n (without_tag tag es) ≡ element_of n es → element_of n (cond b es (e ∷ without_tag tag es)) ≡ cond (has_tag n e) (Some e) (element_of n es)
+    by true h later = sym (ap (λ b. cond b (Some e) (element_of n es)) (ap (λ m. m == n) (nat_is e.tag tag h) ∙ other))
+    by false h later = ap (λ o. cond (has_tag n e) (Some e) o) later
+
+id_gone : (tag : ℕ) (es : List Element) (e : Element) (q : Place × ℕ) → IsRising es → element_of tag es ≡ Some e → e.tag ≡ tag → cond (is_id_of e q) None (mark_at q.0 (element_of q.1 es)) ≡ mark_at q.0 (element_of q.1 (without_tag tag es))
+id_gone tag es e q rising at own = by (has_tag q.1 e) refl
+  where
+    here : (s : Bool) → cond (s && true) None (cond {A = Option (Unit {0})} s (Some tt) None) ≡ None
     here true = refl
     here false = refl
 
-    there : (s : Bool) → cond (s && false) None (key_of_id old q.0 (at_tag tags q.1)) ≡ key_of_id old q.0 (at_tag tags q.1)
-    there true = refl
-    there false = refl
+    there : (s : Bool) (o : Option (Unit {0})) → cond (s && false) None o ≡ o
+    there true o = refl
+    there false o = refl
 
-    by : (b : Bool) → (e.tag == q.1) ≡ b → cond (symbol_eq e.id q.0 && b) None (key_of_id old q.0 (at_tag tags q.1)) ≡ key_of_id new q.0 (cond b None (at_tag tags q.1))
+    by : (b : Bool) → has_tag q.1 e ≡ b → cond (has_place q.0 e && b) None (mark_at q.0 (element_of q.1 es)) ≡ mark_at q.0 (element_of q.1 (without_tag tag es))
     by true h =
-        ap (λ o. cond (symbol_eq e.id q.0 && true) None (key_of_id old q.0 o)) (sym (ap (at_tag tags) (nat_is e.tag q.1 h)) ∙ at)
-        ∙ ap (λ o. cond (symbol_eq e.id q.0 && true) None (cond (symbol_eq (unwrap_or o blank).id q.0) (Some key) None)) was ∙ here (symbol_eq e.id q.0)
+        let n : tag ≡ q.1 = sym own ∙ nat_is e.tag q.1 h in
+        ap (λ o. cond (has_place q.0 e && true) None (mark_at q.0 o)) (sym (ap (λ m. element_of m es) n) ∙ at) ∙ here (has_place q.0 e)
+        ∙ sym (ap (mark_at q.0) (sym (ap (λ m. element_of m (without_tag tag es)) n) ∙ element_gone tag es rising))
     by false h =
-        there (symbol_eq e.id q.0)
-        ∙ same_key old new q.0 (at_tag tags q.1)
-        (λ k found. others k (other_key old k key q.1 e.tag (stored_at old tags q.1 k stored found).1 (ap (λ o. (unwrap_or o blank).tag) was) (nat_turned q.1 e.tag ∙ h)))
+        there (has_place q.0 e) (mark_at q.0 (element_of q.1 es)) ∙ sym (ap (mark_at q.0) (element_other q.1 tag es (ap (λ m. m == q.1) (sym own) ∙ h)))
 
 pub record Gone (old new : ℕ → Option Element) (tags new_tags : Tags) (new_triples : Triples) (new_ids : Ids) (tag : ℕ) (e : Element) : Type 0 where
   pub shelf : IsShelf new new_tags new_triples new_ids
@@ -128,9 +138,8 @@ pub record Gone (old new : ℕ → Option Element) (tags new_tags : Tags) (new_t
   pub removed : Some e ≡ element_of tag (listed old tags)
 
 pub shelf_gone : (old new : ℕ → Option Element) (tags new_tags : Tags) (triples new_triples : Triples) (ids new_ids : Ids) (tag key : ℕ) (e : Element) → IsShelf old tags triples ids → IsRising (listed old tags) → IsDistinct (listed old tags)
-    → Some key ≡ at_tag tags tag → Some e ≡ old key → SameBut old new key → new_tags ≡ remove_entry (is_at (nat_cmp tag)) tags → ((n : ℕ) → at_tag new_tags n ≡ cond (is_eq (nat_cmp tag n)) None (at_tag tags n))
-    → Puts e None None triples new_triples ids new_ids → Gone old new tags new_tags new_triples new_ids tag e
-shelf_gone old new tags new_tags triples new_triples ids new_ids tag key e shelf rising distinct at was others is up puts =
+    → Some key ≡ at_tag tags tag → Some e ≡ old key → SameBut old new key → new_tags ≡ remove_entry (is_at (nat_cmp tag)) tags → Puts e None triples new_triples ids new_ids → Gone old new tags new_tags new_triples new_ids tag e
+shelf_gone old new tags new_tags triples new_triples ids new_ids tag key e shelf rising distinct at was others is puts =
     let rest = stored_gone old new tags tag key shelf.stored rising (sym at) others in
     let list : listed new new_tags ≡ without_tag tag (listed old tags) = ap (listed new) is ∙ rest.1 in
     let removed : element_of tag (listed old tags) ≡ Some e = sym (found old tags tag shelf.stored) ∙ ap (cell_of old) (sym at) ∙ sym was in
@@ -140,8 +149,8 @@ shelf_gone old new tags new_tags triples new_triples ids new_ids tag key e shelf
         stored = subst (IsStored new) (sym is) rest.0;
         by_triple = λ t. puts.by_triple t ∙ ap (λ o. cond (has_triple t e) None o) (shelf.by_triple t) ∙ tag_gone t tag (listed old tags) e distinct removed ∙ sym (ap (tag_of t) list);
         by_id = λ q.
-            puts.by_id q ∙ ap (λ o. cond (is_id_of e q) None o) (shelf.by_id q)
-            ∙ id_gone old new tags new_tags key e q shelf.stored (sym was) others (ap (at_tag tags) own ∙ sym at) (up q.1 ∙ ap (λ n. cond (is_eq (nat_cmp n q.1)) None (at_tag tags q.1)) (sym own));
+            puts.by_id q ∙ ap (λ o. cond (is_id_of e q) None o) (shelf.by_id q) ∙ id_gone tag (listed old tags) e q rising removed own
+            ∙ sym (ap (λ es. mark_at q.0 (element_of q.1 es)) list);
       };
       list = list;
       removed = sym removed;

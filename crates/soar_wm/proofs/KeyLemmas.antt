@@ -1,6 +1,5 @@
 -- The order of the maps' keys, and equality of what they hold.
 use Rattle.std.proofs.Common.{◌≡◌, ℕ, ◌<◌, Bool, true, false, ◌&&◌, ◌==◌, ℤ, refl, sym, ap, ap₂, ◌∙◌, arith}
-use Rattle.std.specs.Bool.{beq}
 use Rattle.std.specs.Cmp.{IsTotalOrder}
 use Rattle.std.proofs.lemmas.Cmp.{then_total, on_total, nat_cmp_total, tied_itself}
 use Rattle.std.proofs.lemmas.Map.Lookups.{CmpEqualImpliesEq, exact_pairs, exact_unsigned}
@@ -11,19 +10,14 @@ use Rattle.soar_sym.specs.Equality.{symbol_eq, mark_eq}
 use Rattle.soar_sym.specs.declared.symbol.Sym.{Sym}
 use Rattle.soar_sym.specs.declared.symbol.Sym.TheVariants.{Ident, Word, Int}
 use Rattle.soar_sym.specs.declared.symbol.Triple.{Triple}
-use Rattle.soar_sym.specs.contracts.symbol.SymPartialEq.TheImpl as equality
 use Rattle.soar_sym.specs.contracts.symbol.SymOrd.TheImpl.{ghosts}
 use Rattle.soar_sym.specs.contracts.symbol.SymOrd.TheImpl.Laws as laws
 use Rattle.soar_wm.specs.declared.element.Element.{Element}
-use Rattle.soar_sym.proofs.KeyLemmas.{symbol_derived}
-use Rattle.soar_wm.specs.Shelf.{key_of, key_eq, id_cmp, is_id_of}
+use Rattle.soar_wm.specs.Shelf.{Place, place_of, place_cmp, id_cmp, is_id_of}
 use Rattle.soar_wm.specs.WorkingMemory.{has_triple, triple_of}
 
 abbrev pub sym_cmp : Sym → Sym → Ordering
 sym_cmp = ghosts.cmp
-
-abbrev derived : Sym → Sym → Bool
-derived = equality.ghosts.eq
 
 pub nat_same : (m n : ℕ) → is_eq (nat_cmp m n) ≡ (m == n)
 nat_same m n = grind arith
@@ -59,25 +53,9 @@ mark_same true false = refl
 mark_same false true = refl
 mark_same false false = refl
 
-mark_derived : (a b : Bool) → beq a b ≡ mark_eq a b
-mark_derived true true = refl
-mark_derived true false = refl
-mark_derived false true = refl
-mark_derived false false = refl
-
-all_four : (a b c d : Bool) → (((a && b) && c) && d) ≡ (a && (b && (c && d)))
-all_four true true c d = refl
-all_four true false c d = refl
-all_four false b c d = refl
-
 -- a map finds a key that is equal, and no other
-pub triple_same : (e : Element) (t : Triple) → key_eq (key_of (triple_of e)) (key_of t) ≡ has_triple t e
-triple_same e t =
-    all_four (derived e.id t.id) (derived e.attr t.attr) (derived e.value t.value) (beq e.accept t.accept)
-    ∙ (λ i. symbol_derived e.id t.id i && (symbol_derived e.attr t.attr i && (symbol_derived e.value t.value i && mark_derived e.accept t.accept i)))
-
-pub id_same : (e : Element) (q : Sym × ℕ) → is_eq (id_cmp (e.id, e.tag) q) ≡ is_id_of e q
-id_same e q = then_same (sym_cmp e.id q.0) (nat_cmp e.tag q.1) ∙ ap₂ (λ x y. x && y) (cmp_same e.id q.0) (nat_same e.tag q.1)
+pub id_same : (e : Element) (q : Place × ℕ) → is_eq (id_cmp (place_of e.id, e.tag) q) ≡ is_id_of e q
+id_same e q = then_same (place_cmp (place_of e.id) q.0) (nat_cmp e.tag q.1) ∙ ap (λ y. is_eq (place_cmp (place_of e.id) q.0) && y) (nat_same e.tag q.1)
 
 -- equal symbols are one
 
@@ -125,25 +103,47 @@ triple_is t e h =
     triple_made (triple_of e) t (symbol_is e.id t.id (left _ _ h)) (symbol_is e.attr t.attr (left _ _ more))
     (symbol_is e.value t.value (left _ _ last)) (mark_is e.accept t.accept (right (symbol_eq e.value t.value) _ last))
 
--- the laws of the order
+-- the laws of the orders
 
 sym_total : IsTotalOrder sym_cmp
 sym_total = laws.total-law
 
-pub id_total : IsTotalOrder id_cmp
-id_total = then_total (on_total (λ q. q.0) sym_total) (on_total (λ q. q.1) nat_cmp_total)
+pub sym_tied : (id : Sym) → sym_cmp id id ≡ Equal
+sym_tied id = tied_itself sym_total id
 
-sym_exact : CmpEqualImpliesEq sym_cmp
-sym_exact a b h = symbol_is a b (sym (cmp_same a b) ∙ ap is_eq h)
+place_total : IsTotalOrder place_cmp
+place_total = then_total (on_total (λ p. p.0) nat_cmp_total) (on_total (λ p. p.1) nat_cmp_total)
+
+pub place_tied : (place : Place) → place_cmp place place ≡ Equal
+place_tied place = tied_itself place_total place
+
+pub id_total : IsTotalOrder id_cmp
+id_total = then_total (on_total (λ q. q.0) place_total) (on_total (λ q. q.1) nat_cmp_total)
+
+place_exact : CmpEqualImpliesEq place_cmp
+place_exact = exact_pairs nat_cmp nat_cmp exact_unsigned exact_unsigned
 
 pub id_exact : CmpEqualImpliesEq id_cmp
-id_exact = exact_pairs sym_cmp nat_cmp sym_exact exact_unsigned
+id_exact = exact_pairs place_cmp nat_cmp place_exact exact_unsigned
 
-pub later_id : (id : Sym) (m n : ℕ) → m < n → id_cmp (id, m) (id, n) ≡ Less
-later_id id m n less = ap (λ o. ordering_then o (nat_cmp m n)) (tied_itself sym_total id) ∙ nat_less m n less
+pub equal : (o : Ordering) → is_eq o ≡ true → o ≡ Equal
+equal Less h = cc
+equal Equal h = refl
+equal Greater h = cc
+
+pub place_is : (a b : Place) → is_eq (place_cmp a b) ≡ true → a ≡ b
+place_is a b h = place_exact a b (equal (place_cmp a b) h)
+
+pub place_turned : (a b : Place) → is_eq (place_cmp a b) ≡ is_eq (place_cmp b a)
+place_turned a b =
+    then_same (nat_cmp a.0 b.0) (nat_cmp a.1 b.1) ∙ ap₂ (λ x y. x && y) (turned a.0 b.0) (turned a.1 b.1)
+    ∙ sym (then_same (nat_cmp b.0 a.0) (nat_cmp b.1 a.1))
+  where
+    turned : (m n : ℕ) → is_eq (nat_cmp m n) ≡ is_eq (nat_cmp n m)
+    turned m n = nat_same m n ∙ nat_turned m n ∙ sym (nat_same n m)
+
+pub later_id : (place : Place) (m n : ℕ) → m < n → id_cmp (place, m) (place, n) ≡ Less
+later_id place m n less = ap (λ o. ordering_then o (nat_cmp m n)) (place_tied place) ∙ nat_less m n less
   where
     nat_less : (m n : ℕ) → m < n → nat_cmp m n ≡ Less
     nat_less m n h = grind arith
-
-pub sym_tied : (id : Sym) → sym_cmp id id ≡ Equal
-sym_tied id = tied_itself sym_total id

@@ -1,5 +1,5 @@
 -- The elements of an identifier, as the map by identifier has them.
-use Rattle.std.proofs.Common.{◌≡◌, ℕ, ◌-◌, ◌^◌, ◌<◌, ◌≤◌, nat_le, Bool, true, false, ◌&&◌, not, cond, List, [], ◌∷◌, filter, filter_map, Option, Some, None, refl, sym, ap, ap₂, subst, ◌∙◌, arith}
+use Rattle.std.proofs.Common.{◌≡◌, ℕ, ◌-◌, ◌^◌, ◌<◌, ◌≤◌, ◌==◌, nat_le, Bool, true, false, true≢false, ◌&&◌, not, cond, List, [], ◌∷◌, filter, filter_map, Option, Some, None, refl, sym, ap, ap₂, subst, ◌∙◌, arith}
 use Rattle.std.specs.BTreeMap.{is_at}
 use Rattle.std.specs.BTreeMap.Range.{range_contains}
 use Rattle.std.specs.List.{AllByRecursion, cons_option}
@@ -14,47 +14,79 @@ use Rattle.std.proofs.lemmas.Map.Entries.{lookup-filter-keys}
 use Rattle.soar_sym.specs.Equality.{symbol_eq}
 use Rattle.soar_sym.specs.declared.symbol.Sym.{Sym}
 use Rattle.soar_wm.specs.declared.element.Element.{Element}
-use Rattle.soar_wm.specs.Shelf.{element_at, Tags, Triples, Ids, listed, IsStored, at_tag, at_id, id_cmp, of_id, key_of_id, IsShelf}
-use Rattle.soar_wm.specs.WorkingMemory.{elements_of, IsBelow, IsRising, IsGiven}
+use Rattle.soar_wm.specs.Shelf.{Place, Tags, Triples, Ids, listed, at_tag, at_id, place_of, place_cmp, id_cmp, of_place, cell_of, of_symbol, has_place, mark_at, IsShelf}
+use Rattle.soar_wm.specs.WorkingMemory.{has_tag, element_of, elements_of, IsBelow, IsRising, IsGiven}
 use Rattle.soar_wm.proofs.EntryLemmas.{same_entries}
-use Rattle.soar_wm.proofs.KeyLemmas.{sym_cmp, sym_tied, then_same, nat_same, nat_is, cmp_same, symbol_is, id_total, id_exact, later_id}
-use Rattle.soar_wm.proofs.LawLemmas.{symbol_eq-symm}
-use Rattle.soar_wm.proofs.ShelfLemmas.{some_at, above}
+use Rattle.soar_wm.proofs.KeyLemmas.{then_same, nat_same, nat_turned, nat_is, symbol_is, equal, place_is, place_tied, place_turned, id_total, id_exact, later_id}
+use Rattle.soar_wm.proofs.ShelfLemmas.{found, element_above, element_below}
 
--- what the map has to have of the identifier
-made : (ℕ → Option Element) → Sym → Tags → Ids
-made cells id [] = []
-made cells id (t ∷ tags) = cond (symbol_eq (element_at cells t.1).id id) (((id, t.0), t.1) ∷ made cells id tags) (made cells id tags)
+-- what the map has to have of a place
+made : Place → List Element → Ids
+made place [] = []
+made place (e ∷ es) = cond (has_place place e) (((place, e.tag), tt) ∷ made place es) (made place es)
 
-made_elements : (cells : ℕ → Option Element) (id : Sym) (tags : Tags) → IsStored cells tags → filter_map (λ e. cells e.1) (made cells id tags) ≡ elements_of id (listed cells tags)
-unfolding made
-made_elements cells id [] stored = refl
-made_elements cells id (t ∷ tags) stored = by (symbol_eq (element_at cells t.1).id id) (made_elements cells id tags stored.2)
+-- each is the element of its tag
+
+abbrev IsFound : List Element → List Element → Type 0
+IsFound all [] = Unit {0}
+IsFound all (e ∷ es) = (element_of e.tag all ≡ Some e) × IsFound all es
+
+found_more : (x : Element) (all es : List Element) → IsBelow x.tag es → IsFound all es → IsFound (x ∷ all) es
+found_more x all [] below each = tt
+found_more x all (e ∷ es) below each = (ap (λ b. cond b (Some x) (element_of e.tag all)) (apart x.tag e.tag below.0) ∙ each.0, found_more x all es below.1 each.1)
   where
-    by : (b : Bool) → filter_map (λ e. cells e.1) (made cells id tags) ≡ elements_of id (listed cells tags)
-        → filter_map (λ e. cells e.1) (cond b (((id, t.0), t.1) ∷ made cells id tags) (made cells id tags)) ≡ cond b (element_at cells t.1 ∷ elements_of id (listed cells tags)) (elements_of id (listed cells tags))
-    by true h = ap (λ o. cons_option o (filter_map (λ e. cells e.1) (made cells id tags))) (sym (some_at cells t.1 stored.0)) ∙ ap (λ es. element_at cells t.1 ∷ es) h
-    by false h = h
+    apart : (m n : ℕ) → m < n → (m == n) ≡ false
+    apart m n h = grind arith
+
+each_found : (es : List Element) → IsRising es → IsFound es es
+each_found [] rising = tt
+each_found (e ∷ es) rising = (ap (λ b. cond b (Some e) (element_of e.tag es)) (self e.tag), found_more e es es rising.0 (each_found es rising.1))
+  where
+    self : (n : ℕ) → (n == n) ≡ true
+    self n = grind arith
+
+-- the elements of an identifier are among those of its place
+
+abbrev picked : Sym → List Element → (Place × ℕ) × Unit {0} → Option Element
+picked id all x = of_symbol id (element_of x.0.1 all)
+
+made_elements : (id : Sym) (all es : List Element) → IsFound all es → filter_map (picked id all) (made (place_of id) es) ≡ elements_of id es
+unfolding made
+made_elements id all [] each = refl
+made_elements id all (e ∷ es) each = by (has_place (place_of id) e) refl (symbol_eq e.id id) refl (made_elements id all es each.1)
+  where
+    of_one : (s : Bool) → symbol_eq e.id id ≡ s → picked id all ((place_of id, e.tag), tt) ≡ cond s (Some e) None
+    of_one s is = ap (of_symbol id) each.0 ∙ ap (λ b. cond b (Some e) None) is
+
+    own : symbol_eq e.id id ≡ true → has_place (place_of id) e ≡ true
+    own same = ap (λ s. is_eq (place_cmp (place_of s) (place_of id))) (symbol_is e.id id same) ∙ ap is_eq (place_tied (place_of id))
+
+    by : (p : Bool) → has_place (place_of id) e ≡ p → (s : Bool) → symbol_eq e.id id ≡ s → filter_map (picked id all) (made (place_of id) es) ≡ elements_of id es
+        → filter_map (picked id all) (cond p (((place_of id, e.tag), tt) ∷ made (place_of id) es) (made (place_of id) es)) ≡ cond s (e ∷ elements_of id es) (elements_of id es)
+    by true here true is h = ap (λ o. cons_option o (filter_map (picked id all) (made (place_of id) es))) (of_one true is) ∙ ap (λ xs. e ∷ xs) h
+    by true here false is h = ap (λ o. cons_option o (filter_map (picked id all) (made (place_of id) es))) (of_one false is) ∙ h
+    by false away true is h = absurd (true≢false (sym (own is) ∙ away))
+    by false away false is h = h
 
 -- in order
 
-made_above : (cells : ℕ → Option Element) (id : Sym) (tag : ℕ) (tags : Tags) → IsStored cells tags → IsBelow tag (listed cells tags) → AllByRecursion (λ q. id_cmp (id, tag) q ≡ Less) (keys_of (made cells id tags))
+made_above : (place : Place) (tag : ℕ) (es : List Element) → IsBelow tag es → AllByRecursion (λ q. id_cmp (place, tag) q ≡ Less) (keys_of (made place es))
 unfolding made
-made_above cells id tag [] stored below = tt
-made_above cells id tag (t ∷ tags) stored below = by (symbol_eq (element_at cells t.1).id id) (made_above cells id tag tags stored.2 below.1)
+made_above place tag [] below = tt
+made_above place tag (e ∷ es) below = by (has_place place e) (made_above place tag es below.1)
   where
-    by : (b : Bool) → AllByRecursion (λ q. id_cmp (id, tag) q ≡ Less) (keys_of (made cells id tags))
-        → AllByRecursion (λ q. id_cmp (id, tag) q ≡ Less) (keys_of (cond b (((id, t.0), t.1) ∷ made cells id tags) (made cells id tags)))
-    by true h = (later_id id tag t.0 (subst (λ n. tag < n) stored.1 below.0), h)
+    by : (b : Bool) → AllByRecursion (λ q. id_cmp (place, tag) q ≡ Less) (keys_of (made place es))
+        → AllByRecursion (λ q. id_cmp (place, tag) q ≡ Less) (keys_of (cond b (((place, e.tag), tt) ∷ made place es) (made place es)))
+    by true h = (later_id place tag e.tag below.0, h)
     by false h = h
 
-made_sorted : (cells : ℕ → Option Element) (id : Sym) (tags : Tags) → IsStored cells tags → IsRising (listed cells tags) → IsStrictlySortedBy id_cmp (keys_of (made cells id tags))
+made_sorted : (place : Place) (es : List Element) → IsRising es → IsStrictlySortedBy id_cmp (keys_of (made place es))
 unfolding made IsStrictlySortedBy
-made_sorted cells id [] stored rising = tt
-made_sorted cells id (t ∷ tags) stored rising = by (symbol_eq (element_at cells t.1).id id) (made_sorted cells id tags stored.2 rising.1)
+made_sorted place [] rising = tt
+made_sorted place (e ∷ es) rising = by (has_place place e) (made_sorted place es rising.1)
   where
-    by : (b : Bool) → IsStrictlySortedBy id_cmp (keys_of (made cells id tags)) → IsStrictlySortedBy id_cmp (keys_of (cond b (((id, t.0), t.1) ∷ made cells id tags) (made cells id tags)))
-    by true h = (made_above cells id t.0 tags stored.2 (subst (λ n. IsBelow n (listed cells tags)) stored.1 rising.0), h)
+    by : (b : Bool) → IsStrictlySortedBy id_cmp (keys_of (made place es)) → IsStrictlySortedBy id_cmp (keys_of (cond b (((place, e.tag), tt) ∷ made place es) (made place es)))
+    by true h = (made_above place e.tag es rising.0, h)
     by false h = h
 
 keys_filter : {K X : Type 0} (p : K → Bool) (es : List (K × X)) → keys_of (filter (λ e. p e.0) es) ≡ filter p (keys_of es)
@@ -67,65 +99,55 @@ keys_filter {K} {X} p (e ∷ es) = by (p e.0) (keys_filter p es)
 
 -- at each key
 
-absent_above : (cells : ℕ → Option Element) (tags : Tags) (tag : ℕ) → IsStored cells tags → IsBelow tag (listed cells tags) → at_tag tags tag ≡ None
-absent_above cells [] tag stored below = refl
-absent_above cells (t ∷ tags) tag stored below =
-    ap (λ b. cond b (Some t.1) (at_tag tags tag)) (apart tag t.0 (subst (λ n. tag < n) stored.1 below.0)) ∙ absent_above cells tags tag stored.2 below.1
-  where
-    apart : (m n : ℕ) → m < n → is_eq (nat_cmp m n) ≡ false
-    apart m n h = grind arith
-
--- what the map has at an identifier and a tag
-made_at : (cells : ℕ → Option Element) (id : Sym) (tags : Tags) (q : Sym × ℕ) → IsStored cells tags → IsRising (listed cells tags) → at_id (made cells id tags) q ≡ cond (symbol_eq q.0 id) (key_of_id cells id (at_tag tags q.1)) None
+-- what the map has at a place and a tag
+made_at : (place : Place) (es : List Element) (q : Place × ℕ) → IsRising es → at_id (made place es) q ≡ cond (is_eq (place_cmp q.0 place)) (mark_at place (element_of q.1 es)) None
 unfolding made
-made_at cells id [] q stored rising = none (symbol_eq q.0 id)
+made_at place [] q rising = none (is_eq (place_cmp q.0 place))
   where
-    none : (b : Bool) → None ≡ cond b (key_of_id cells id None) None
+    none : (b : Bool) → None ≡ cond b (mark_at place None) None
     none true = refl
     none false = refl
-made_at cells id (t ∷ tags) q stored rising = by (symbol_eq (element_at cells t.1).id id) refl (made_at cells id tags q stored.2 rising.1)
+made_at place (e ∷ es) q rising = by (has_place place e) refl (made_at place es q rising.1)
   where
-    rest : Option ℕ
-    rest = at_tag tags q.1
+    rest : Option Element
+    rest = element_of q.1 es
 
-    test : is_eq (id_cmp q (id, t.0)) ≡ (symbol_eq q.0 id && is_eq (nat_cmp q.1 t.0))
-    test = then_same (sym_cmp q.0 id) (nat_cmp q.1 t.0) ∙ ap (λ b. b && is_eq (nat_cmp q.1 t.0)) (cmp_same q.0 id)
+    test : is_eq (id_cmp q (place, e.tag)) ≡ (is_eq (place_cmp q.0 place) && (e.tag == q.1))
+    test = then_same (place_cmp q.0 place) (nat_cmp q.1 e.tag) ∙ ap (λ b. is_eq (place_cmp q.0 place) && b) (nat_same q.1 e.tag ∙ nat_turned q.1 e.tag)
 
-    both : (s n : Bool) (deep : Option ℕ) → deep ≡ cond s (key_of_id cells id rest) None → symbol_eq (element_at cells t.1).id id ≡ true
-        → cond (s && n) (Some t.1) deep ≡ cond s (key_of_id cells id (cond n (Some t.1) rest)) None
-    both true true deep h own = sym (ap (λ b. cond b (Some t.1) None) own)
+    both : (s n : Bool) (deep : Option (Unit {0})) → deep ≡ cond s (mark_at place rest) None → has_place place e ≡ true → cond (s && n) (Some tt) deep ≡ cond s (mark_at place (cond n (Some e) rest)) None
+    both true true deep h own = sym (ap (λ b. cond b (Some tt) None) own)
     both true false deep h own = h
     both false n deep h own = h
 
-    one : (s n : Bool) → (n ≡ true → rest ≡ None) → is_eq (nat_cmp q.1 t.0) ≡ n → symbol_eq (element_at cells t.1).id id ≡ false → cond s (key_of_id cells id rest) None ≡ cond s (key_of_id cells id (cond n (Some t.1) rest)) None
-    one true true absent is own = ap (key_of_id cells id) (absent refl) ∙ sym (ap (λ b. cond b (Some t.1) None) own)
+    one : (s n : Bool) → (n ≡ true → rest ≡ None) → (e.tag == q.1) ≡ n → has_place place e ≡ false → cond s (mark_at place rest) None ≡ cond s (mark_at place (cond n (Some e) rest)) None
+    one true true absent is own = ap (mark_at place) (absent refl) ∙ sym (ap (λ b. cond b (Some tt) None) own)
     one true false absent is own = refl
     one false n absent is own = refl
 
-    by : (b : Bool) → symbol_eq (element_at cells t.1).id id ≡ b → at_id (made cells id tags) q ≡ cond (symbol_eq q.0 id) (key_of_id cells id rest) None
-        → at_id (cond b (((id, t.0), t.1) ∷ made cells id tags) (made cells id tags)) q ≡ cond (symbol_eq q.0 id) (key_of_id cells id (cond (is_eq (nat_cmp q.1 t.0)) (Some t.1) rest)) None
-    by true own h = ap (λ b. cond b (Some t.1) (at_id (made cells id tags) q)) test ∙ both (symbol_eq q.0 id) (is_eq (nat_cmp q.1 t.0)) (at_id (made cells id tags) q) h own
+    by : (b : Bool) → has_place place e ≡ b → at_id (made place es) q ≡ cond (is_eq (place_cmp q.0 place)) (mark_at place rest) None
+        → at_id (cond b (((place, e.tag), tt) ∷ made place es) (made place es)) q ≡ cond (is_eq (place_cmp q.0 place)) (mark_at place (cond (has_tag q.1 e) (Some e) rest)) None
+    by true own h = ap (λ b. cond b (Some tt) (at_id (made place es) q)) test ∙ both (is_eq (place_cmp q.0 place)) (e.tag == q.1) (at_id (made place es) q) h own
     by false own h =
-        h ∙ one (symbol_eq q.0 id) (is_eq (nat_cmp q.1 t.0))
-        (λ is. ap (at_tag tags) (nat_is q.1 t.0 (sym (nat_same q.1 t.0) ∙ is)) ∙ absent_above cells tags t.0 stored.2 (subst (λ n. IsBelow n (listed cells tags)) stored.1 rising.0)) refl own
+        h ∙ one (is_eq (place_cmp q.0 place)) (e.tag == q.1) (λ is. ap (λ n. element_of n es) (sym (nat_is e.tag q.1 is)) ∙ element_below e.tag es rising.0) refl own
 
-in_range : Sym → Sym × ℕ → Bool
-in_range id q = range_contains id_cmp (Included (id, 0)) (Included (id, 2 ^ 32 - 1)) q
+in_range : Place → Place × ℕ → Bool
+in_range place q = range_contains id_cmp (Included (place, 0)) (Included (place, 2 ^ 32 - 1)) q
 
--- outside of the range stands another identifier, or a tag that is too large
-outside : (id : Sym) (q : Sym × ℕ) → symbol_eq q.0 id ≡ false → in_range id q ≡ false
+-- outside of the range stands another place, or a tag that is too large
+outside : (place : Place) (q : Place × ℕ) → is_eq (place_cmp q.0 place) ≡ false → in_range place q ≡ false
 unfolding in_range
-outside id q apart = by (sym_cmp id q.0) (cmp_same id q.0 ∙ symbol_eq-symm id q.0 ∙ apart)
+outside place q apart = by (place_cmp place q.0) (place_turned place q.0 ∙ apart)
   where
     by : (o : Ordering) → is_eq o ≡ false → (is_le (ordering_then o (nat_cmp 0 q.1)) && not (is_lt (ordering_then o (nat_cmp (2 ^ 32 - 1) q.1)))) ≡ false
     by Less h = refl
     by Equal h = absurd (cc)
     by Greater h = refl
 
-inside : (id : Sym) (n : ℕ) → n ≤ 2 ^ 32 - 1 → in_range id (id, n) ≡ true
+inside : (place : Place) (n : ℕ) → n ≤ 2 ^ 32 - 1 → in_range place (place, n) ≡ true
 unfolding in_range
-inside id n small =
-    ap (λ o. is_le (ordering_then o (nat_cmp 0 n)) && not (is_lt (ordering_then o (nat_cmp (2 ^ 32 - 1) n)))) (sym_tied id) ∙ ap₂ (λ a b. a && not b) (from n) (upto (2 ^ 32 - 1) n small)
+inside place n small =
+    ap (λ o. is_le (ordering_then o (nat_cmp 0 n)) && not (is_lt (ordering_then o (nat_cmp (2 ^ 32 - 1) n)))) (place_tied place) ∙ ap₂ (λ a b. a && not b) (from n) (upto (2 ^ 32 - 1) n small)
   where
     from : (n : ℕ) → is_le (nat_cmp 0 n) ≡ true
     from n = grind arith
@@ -133,44 +155,41 @@ inside id n small =
     upto : (m n : ℕ) → n ≤ m → is_lt (nat_cmp m n) ≡ false
     upto m n h = grind arith
 
-range_at : (cells : ℕ → Option Element) (tags : Tags) (triples : Triples) (ids : Ids) (id : Sym) (last : ℕ) (q : Sym × ℕ) → IsShelf cells tags triples ids → IsGiven last (listed cells tags) → last < 2 ^ 32
-    → at_id (of_id id ids) q ≡ cond (symbol_eq q.0 id) (key_of_id cells id (at_tag tags q.1)) None
+range_at : (es : List Element) (ids : Ids) (place : Place) (last : ℕ) (q : Place × ℕ) → at_id ids q ≡ mark_at q.0 (element_of q.1 es) → IsGiven last es → last < 2 ^ 32
+    → at_id (of_place place ids) q ≡ cond (is_eq (place_cmp q.0 place)) (mark_at place (element_of q.1 es)) None
 unfolding in_range
-range_at cells tags triples ids id last q shelf given small =
-    lookup-filter-keys (is_at (id_cmp q)) (in_range id) (in_range id q) (λ k same. ap (in_range id) (sym (id_exact q k (equal (id_cmp q k) same)))) ids
-    ∙ ap (λ o. cond (in_range id q) o None) (shelf.by_id q) ∙ by (symbol_eq q.0 id) refl
+range_at es ids place last q at given small =
+    lookup-filter-keys (is_at (id_cmp q)) (in_range place) (in_range place q) (λ k same. ap (in_range place) (sym (id_exact q k (equal (id_cmp q k) same)))) ids
+    ∙ ap (λ o. cond (in_range place q) o None) at ∙ by (is_eq (place_cmp q.0 place)) refl
   where
-    equal : (o : Ordering) → is_eq o ≡ true → o ≡ Equal
-    equal Less h = cc
-    equal Equal h = refl
-    equal Greater h = cc
-
     below : (m n : ℕ) → nat_le m n ≡ true → m ≤ n
     below m n h = grind arith
 
     above_all : (m n : ℕ) → nat_le m n ≡ false → n < m
     above_all m n h = grind arith
 
-    large : (b : Bool) → nat_le q.1 (2 ^ 32 - 1) ≡ b → cond (in_range id (id, q.1)) (key_of_id cells id (at_tag tags q.1)) None ≡ key_of_id cells id (at_tag tags q.1)
-    large true h = ap (λ b. cond b (key_of_id cells id (at_tag tags q.1)) None) (inside id q.1 (below q.1 (2 ^ 32 - 1) h))
+    large : (b : Bool) → nat_le q.1 (2 ^ 32 - 1) ≡ b → cond (in_range place (place, q.1)) (mark_at place (element_of q.1 es)) None ≡ mark_at place (element_of q.1 es)
+    large true h = ap (λ b. cond b (mark_at place (element_of q.1 es)) None) (inside place q.1 (below q.1 (2 ^ 32 - 1) h))
     large false h =
-        let nothing : at_tag tags q.1 ≡ None = above cells tags last q.1 shelf.stored given (omega (arith, above_all q.1 (2 ^ 32 - 1) h, small)) in
-        ap (λ o. cond (in_range id (id, q.1)) (key_of_id cells id o) None) nothing ∙ none (in_range id (id, q.1)) ∙ sym (ap (key_of_id cells id) nothing)
+        let nothing : element_of q.1 es ≡ None = element_above es last q.1 given (omega (arith, above_all q.1 (2 ^ 32 - 1) h, small)) in
+        ap (λ o. cond (in_range place (place, q.1)) (mark_at place o) None) nothing ∙ none (in_range place (place, q.1)) ∙ sym (ap (mark_at place) nothing)
       where
-        none : (b : Bool) → cond {A = Option ℕ} b None None ≡ None
+        none : (b : Bool) → cond {A = Option (Unit {0})} b None None ≡ None
         none true = refl
         none false = refl
 
-    by : (b : Bool) → symbol_eq q.0 id ≡ b → cond (in_range id q) (key_of_id cells q.0 (at_tag tags q.1)) None ≡ cond b (key_of_id cells id (at_tag tags q.1)) None
-    by true h = ap (λ s. cond (in_range id (s, q.1)) (key_of_id cells s (at_tag tags q.1)) None) (symbol_is q.0 id h) ∙ large (nat_le q.1 (2 ^ 32 - 1)) refl
-    by false h = ap (λ b. cond b (key_of_id cells q.0 (at_tag tags q.1)) None) (outside id q h)
+    by : (b : Bool) → is_eq (place_cmp q.0 place) ≡ b → cond (in_range place q) (mark_at q.0 (element_of q.1 es)) None ≡ cond b (mark_at place (element_of q.1 es)) None
+    by true h = ap (λ p. cond (in_range place (p, q.1)) (mark_at p (element_of q.1 es)) None) (place_is q.0 place h) ∙ large (nat_le q.1 (2 ^ 32 - 1)) refl
+    by false h = ap (λ b. cond b (mark_at q.0 (element_of q.1 es)) None) (outside place q h)
 
 -- the elements of an identifier, from the map by identifier
 pub id_found : (cells : ℕ → Option Element) (tags : Tags) (triples : Triples) (ids : Ids) (id : Sym) (last : ℕ) → IsShelf cells tags triples ids → IsRising (listed cells tags) → IsGiven last (listed cells tags) → last < 2 ^ 32
-    → IsStrictlySortedBy id_cmp (keys_of ids) → filter_map (λ e. cells e.1) (of_id id ids) ≡ elements_of id (listed cells tags)
+    → IsStrictlySortedBy id_cmp (keys_of ids) → filter_map (λ e. of_symbol id (cell_of cells (at_tag tags e.0.1))) (of_place (place_of id) ids) ≡ elements_of id (listed cells tags)
 unfolding in_range
 id_found cells tags triples ids id last shelf rising given small ordered =
-    let same : of_id id ids ≡ made cells id tags
-    = same_entries id_total id_exact (of_id id ids) (made cells id tags) (subst (IsStrictlySortedBy id_cmp) (sym (keys_filter (in_range id) ids)) (IsStrictlySortedBy-filter id_cmp (in_range id) (keys_of ids) ordered))
-    (made_sorted cells id tags shelf.stored rising) (λ q. range_at cells tags triples ids id last q shelf given small ∙ sym (made_at cells id tags q shelf.stored rising)) in
-    ap (filter_map (λ e. cells e.1)) same ∙ made_elements cells id tags shelf.stored
+    let place : Place = place_of id in
+    let same : of_place place ids ≡ made place (listed cells tags)
+    = same_entries id_total id_exact (of_place place ids) (made place (listed cells tags)) (subst (IsStrictlySortedBy id_cmp) (sym (keys_filter (in_range place) ids)) (IsStrictlySortedBy-filter id_cmp (in_range place) (keys_of ids) ordered))
+    (made_sorted place (listed cells tags) rising) (λ q. range_at (listed cells tags) ids place last q (shelf.by_id q) given small ∙ sym (made_at place (listed cells tags) q rising)) in
+    (λ i. filter_map (λ e. of_symbol id (found cells tags e.0.1 shelf.stored i)) (of_place place ids))
+    ∙ ap (filter_map (picked id (listed cells tags))) same ∙ made_elements id (listed cells tags) (listed cells tags) (each_found (listed cells tags) rising)

@@ -4,12 +4,10 @@ use Rattle.std.specs.BTreeMap.{insert_entry}
 use Rattle.std.specs.List.{cons_option}
 use Rattle.std.specs.Ordering.{is_eq, nat_cmp, match_ordering}
 use Rattle.std.specs.declared.cmp.Ordering.TheVariants.{Greater}
-use Rattle.soar_sym.specs.Equality.{symbol_eq}
-use Rattle.soar_sym.specs.declared.symbol.Sym.{Sym}
 use Rattle.soar_sym.specs.declared.symbol.Triple.{Triple}
 use Rattle.soar_wm.specs.declared.element.Element.{Element}
-use Rattle.soar_wm.specs.Shelf.{blank, element_at, Tags, Triples, Ids, listed, IsStored, at_tag, at_id, key_of_id, IsShelf, is_id_of, Puts}
-use Rattle.soar_wm.specs.WorkingMemory.{has_triple, tag_of, has_tag, element_of, triple_of, IsGiven}
+use Rattle.soar_wm.specs.Shelf.{blank, element_at, Place, Tags, Triples, Ids, listed, IsStored, at_tag, at_id, place_of, cell_of, has_place, mark_at, IsShelf, is_id_of, Puts}
+use Rattle.soar_wm.specs.WorkingMemory.{has_triple, tag_of, has_tag, element_of, triple_of, IsBelow, IsGiven}
 use Rattle.soar_wm.proofs.KeyLemmas.{nat_same, nat_turned, nat_is, triple_is}
 
 pub some_at : (cells : ℕ → Option Element) (key : ℕ) → is_some (cells key) ≡ true → Some (element_at cells key) ≡ cells key
@@ -20,11 +18,6 @@ some_at cells key there = by (cells key) there
     by (Some e) h = refl
 
 -- ---- by tag
-
--- what is under a key
-abbrev pub cell_of : (ℕ → Option Element) → Option ℕ → Option Element
-cell_of cells None = None
-cell_of cells (Some key) = cells key
 
 pub same_tag : (cells : ℕ → Option Element) (tag n key : ℕ) → (element_at cells key).tag ≡ n → has_tag tag (element_at cells key) ≡ is_eq (nat_cmp tag n)
 same_tag cells tag n key is = ap (λ m. m == tag) is ∙ nat_turned n tag ∙ sym (nat_same tag n)
@@ -76,14 +69,23 @@ stored_push old new (t ∷ tags) key e stored fresh now others =
       ap₂ (λ o es. unwrap_or o blank ∷ es) same later.1,
     )
 
--- a tag above all is in no place, and goes to the end
-pub above : (cells : ℕ → Option Element) (tags : Tags) (last tag : ℕ) → IsStored cells tags → IsGiven last (listed cells tags) → last < tag → at_tag tags tag ≡ None
-above cells [] last tag stored given less = refl
-above cells (t ∷ tags) last tag stored given less =
-    ap (λ b. cond b (Some t.1) (at_tag tags tag)) (apart tag t.0 (omega (arith, given.1, stored.1))) ∙ above cells tags last tag stored.2 given.2 less
+-- a tag above all, or below all, has no element
+
+pub element_above : (es : List Element) (last tag : ℕ) → IsGiven last es → last < tag → element_of tag es ≡ None
+element_above [] last tag given less = refl
+element_above (e ∷ es) last tag given less = ap (λ b. cond b (Some e) (element_of tag es)) (apart e.tag tag (omega (arith, given.1))) ∙ element_above es last tag given.2 less
   where
-    apart : (m n : ℕ) → n < m → is_eq (nat_cmp m n) ≡ false
+    apart : (m n : ℕ) → m < n → (m == n) ≡ false
     apart m n h = grind arith
+
+pub element_below : (tag : ℕ) (es : List Element) → IsBelow tag es → element_of tag es ≡ None
+element_below tag [] below = refl
+element_below tag (e ∷ es) below = ap (λ b. cond b (Some e) (element_of tag es)) (apart e.tag tag below.0) ∙ element_below tag es below.1
+  where
+    apart : (m n : ℕ) → n < m → (m == n) ≡ false
+    apart m n h = grind arith
+
+-- a tag above all goes to the end
 
 greater : (m n : ℕ) → n < m → nat_cmp m n ≡ Greater
 greater m n h = grind arith
@@ -96,7 +98,7 @@ at_end cells (t ∷ tags) last tag key stored given less =
 
 -- ---- the other maps
 
-abbrev or_else : Option ℕ → Option ℕ → Option ℕ
+abbrev or_else : {X : Type 0} → Option X → Option X → Option X
 or_else (Some x) o = Some x
 or_else None o = o
 
@@ -123,40 +125,39 @@ tag_new t es e none = by (has_triple t e) refl ∙ sym (tag_push t es e)
     by true h = alone (tag_of t es) (Some e.tag) (sym (ap (λ u. tag_of u es) (triple_is t e h)) ∙ none)
     by false h = rest (tag_of t es)
 
--- what a key has is the same where its element is
-pub same_key : (old new : ℕ → Option Element) (id : Sym) (o : Option ℕ) → ((k : ℕ) → o ≡ Some k → new k ≡ old k) → key_of_id old id o ≡ key_of_id new id o
-same_key old new id None same = refl
-same_key old new id (Some k) same = ap (λ x. cond (symbol_eq (unwrap_or x blank).id id) (Some k) None) (sym (same k refl))
-
-pub id_new : (old new : ℕ → Option Element) (tags new_tags : Tags) (key : ℕ) (e : Element) (q : Sym × ℕ) → IsStored old tags → old key ≡ None → new key ≡ Some e → SameBut old new key → at_tag tags e.tag ≡ None
-    → at_tag new_tags q.1 ≡ cond (is_eq (nat_cmp e.tag q.1)) (Some key) (at_tag tags q.1)
-    → cond (is_id_of e q) (Some key) (key_of_id old q.0 (at_tag tags q.1)) ≡ key_of_id new q.0 (at_tag new_tags q.1)
-id_new old new tags new_tags key e q stored fresh now others none up =
-    by (e.tag == q.1) refl
-    ∙ sym (ap (key_of_id new q.0) (up ∙ ap (λ b. cond b (Some key) (at_tag tags q.1)) (nat_same e.tag q.1)))
+element_push : (tag : ℕ) (es : List Element) (e : Element) → element_of tag (es ++ e ∷ []) ≡ or_else (element_of tag es) (cond (has_tag tag e) (Some e) None)
+element_push tag [] e = refl
+element_push tag (x ∷ es) e = by (has_tag tag x) (element_push tag es e)
   where
-    here : (s : Bool) → cond (s && true) (Some key) (key_of_id old q.0 None) ≡ cond s (Some key) None
+    by : (b : Bool) → element_of tag (es ++ e ∷ []) ≡ or_else (element_of tag es) (cond (has_tag tag e) (Some e) None)
+        → cond b (Some x) (element_of tag (es ++ e ∷ [])) ≡ or_else (cond b (Some x) (element_of tag es)) (cond (has_tag tag e) (Some e) None)
+    by true h = refl
+    by false h = h
+
+id_new : (es : List Element) (e : Element) (q : Place × ℕ) → element_of e.tag es ≡ None → cond (is_id_of e q) (Some tt) (mark_at q.0 (element_of q.1 es)) ≡ mark_at q.0 (element_of q.1 (es ++ e ∷ []))
+id_new es e q none = by (has_tag q.1 e) refl ∙ sym (ap (mark_at q.0) (element_push q.1 es e))
+  where
+    here : (s : Bool) → cond (s && true) (Some tt) (mark_at q.0 None) ≡ cond s (Some tt) None
     here true = refl
     here false = refl
 
-    there : (s : Bool) → cond (s && false) (Some key) (key_of_id old q.0 (at_tag tags q.1)) ≡ key_of_id old q.0 (at_tag tags q.1)
-    there true = refl
-    there false = refl
+    there : (s : Bool) (o : Option Element) → cond (s && false) (Some tt) (mark_at q.0 o) ≡ mark_at q.0 (or_else o None)
+    there true None = refl
+    there true (Some x) = refl
+    there false None = refl
+    there false (Some x) = refl
 
-    by : (b : Bool) → (e.tag == q.1) ≡ b → cond (symbol_eq e.id q.0 && b) (Some key) (key_of_id old q.0 (at_tag tags q.1)) ≡ key_of_id new q.0 (cond b (Some key) (at_tag tags q.1))
+    by : (b : Bool) → has_tag q.1 e ≡ b → cond (has_place q.0 e && b) (Some tt) (mark_at q.0 (element_of q.1 es)) ≡ mark_at q.0 (or_else (element_of q.1 es) (cond b (Some e) None))
     by true h =
-        ap (λ o. cond (symbol_eq e.id q.0 && true) (Some key) (key_of_id old q.0 o)) (sym (ap (at_tag tags) (nat_is e.tag q.1 h)) ∙ none)
-        ∙ here (symbol_eq e.id q.0) ∙ sym (ap (λ o. cond (symbol_eq (unwrap_or o blank).id q.0) (Some key) None) now)
-    by false h =
-        there (symbol_eq e.id q.0)
-        ∙ same_key old new q.0 (at_tag tags q.1) (λ k at. others k (not_fresh old key k fresh (stored_at old tags q.1 k stored at).0))
+        let nothing : element_of q.1 es ≡ None = sym (ap (λ n. element_of n es) (nat_is e.tag q.1 h)) ∙ none in
+        ap (λ o. cond (has_place q.0 e && true) (Some tt) (mark_at q.0 o)) nothing ∙ here (has_place q.0 e) ∙ sym (ap (λ o. mark_at q.0 (or_else o (Some e))) nothing)
+    by false h = there (has_place q.0 e) (element_of q.1 es)
 
 -- one element more on the shelf
 pub shelf_push : (old new : ℕ → Option Element) (tags new_tags : Tags) (triples new_triples : Triples) (ids new_ids : Ids) (last key : ℕ) (e : Element) → IsShelf old tags triples ids → IsGiven last (listed old tags) → last < e.tag
-    → tag_of (triple_of e) (listed old tags) ≡ None → old key ≡ None → new key ≡ Some e → SameBut old new key → new_tags ≡ insert_entry nat_cmp tags e.tag key
-    → ((n : ℕ) → at_tag new_tags n ≡ cond (is_eq (nat_cmp e.tag n)) (Some key) (at_tag tags n)) → Puts e (Some e.tag) (Some key) triples new_triples ids new_ids
+    → tag_of (triple_of e) (listed old tags) ≡ None → old key ≡ None → new key ≡ Some e → SameBut old new key → new_tags ≡ insert_entry nat_cmp tags e.tag key → Puts e (Some e.tag) triples new_triples ids new_ids
     → IsShelf new new_tags new_triples new_ids × (listed new new_tags ≡ listed old tags ++ e ∷ [])
-shelf_push old new tags new_tags triples new_triples ids new_ids last key e shelf given less none fresh now others is up puts =
+shelf_push old new tags new_tags triples new_triples ids new_ids last key e shelf given less none fresh now others is puts =
     let end : new_tags ≡ tags ++ (e.tag, key) ∷ [] = is ∙ at_end old tags last e.tag key shelf.stored given less in
     let pushed = stored_push old new tags key e shelf.stored fresh now others in
     let list : listed new new_tags ≡ listed old tags ++ e ∷ [] = ap (listed new) end ∙ pushed.1 in (
@@ -164,39 +165,39 @@ shelf_push old new tags new_tags triples new_triples ids new_ids last key e shel
         stored = subst (IsStored new) (sym end) pushed.0;
         by_triple = λ t. puts.by_triple t ∙ ap (λ o. cond (has_triple t e) (Some e.tag) o) (shelf.by_triple t) ∙ tag_new t (listed old tags) e none ∙ sym (ap (tag_of t) list);
         by_id = λ q.
-            puts.by_id q ∙ ap (λ o. cond (is_id_of e q) (Some key) o) (shelf.by_id q)
-            ∙ id_new old new tags new_tags key e q shelf.stored fresh now others (above old tags last e.tag shelf.stored given less) (up q.1);
+            puts.by_id q ∙ ap (λ o. cond (is_id_of e q) (Some tt) o) (shelf.by_id q) ∙ id_new (listed old tags) e q (element_above (listed old tags) last e.tag given less)
+            ∙ sym (ap (λ es. mark_at q.0 (element_of q.1 es)) list);
       },
       list,
     )
 
 -- nothing is at the element's places
-pub no_place : (cells : ℕ → Option Element) (tags : Tags) (triples : Triples) (ids : Ids) (last : ℕ) (e : Element) → IsShelf cells tags triples ids → IsGiven last (listed cells tags) → last < e.tag → at_id ids (e.id, e.tag) ≡ None
-no_place cells tags triples ids last e shelf given less = shelf.by_id (e.id, e.tag) ∙ ap (key_of_id cells e.id) (above cells tags last e.tag shelf.stored given less)
+pub no_place : (cells : ℕ → Option Element) (tags : Tags) (triples : Triples) (ids : Ids) (last : ℕ) (e : Element) → IsShelf cells tags triples ids → IsGiven last (listed cells tags) → last < e.tag → at_id ids (place_of e.id, e.tag) ≡ None
+no_place cells tags triples ids last e shelf given less = shelf.by_id (place_of e.id, e.tag) ∙ ap (mark_at (place_of e.id)) (element_above (listed cells tags) last e.tag given less)
 
 -- an index that was put back
 pub shelf_back : (cells : ℕ → Option Element) (tags : Tags) (triples new_triples : Triples) (ids new_ids : Ids) (last : ℕ) (e : Element) → IsShelf cells tags triples ids → IsGiven last (listed cells tags) → last < e.tag
-    → tag_of (triple_of e) (listed cells tags) ≡ None → Puts e None None triples new_triples ids new_ids → IsShelf cells tags new_triples new_ids
+    → tag_of (triple_of e) (listed cells tags) ≡ None → Puts e None triples new_triples ids new_ids → IsShelf cells tags new_triples new_ids
 shelf_back cells tags triples new_triples ids new_ids last e shelf given less none puts = record {
   stored = shelf.stored;
   by_triple = λ t. puts.by_triple t ∙ ap (λ o. cond (has_triple t e) None o) (shelf.by_triple t) ∙ triple (has_triple t e) t refl;
-  by_id = λ q. puts.by_id q ∙ ap (λ o. cond (is_id_of e q) None o) (shelf.by_id q) ∙ id q (e.tag == q.1) refl;
+  by_id = λ q. puts.by_id q ∙ ap (λ o. cond (is_id_of e q) None o) (shelf.by_id q) ∙ id q (has_tag q.1 e) refl;
 }
   where
     triple : (b : Bool) (t : Triple) → has_triple t e ≡ b → cond b None (tag_of t (listed cells tags)) ≡ tag_of t (listed cells tags)
     triple true t h = sym (sym (ap (λ u. tag_of u (listed cells tags)) (triple_is t e h)) ∙ none)
     triple false t h = refl
 
-    gone : (s : Bool) → cond (s && true) None (key_of_id cells e.id None) ≡ None
-    gone true = refl
-    gone false = refl
+    gone : (s : Bool) (place : Place) → cond (s && true) None (mark_at place None) ≡ None
+    gone true place = refl
+    gone false place = refl
 
-    kept : (s : Bool) (o : Option ℕ) → cond (s && false) None o ≡ o
+    kept : (s : Bool) (o : Option (Unit {0})) → cond (s && false) None o ≡ o
     kept true o = refl
     kept false o = refl
 
-    id : (q : Sym × ℕ) (b : Bool) → (e.tag == q.1) ≡ b → cond (symbol_eq e.id q.0 && b) None (key_of_id cells q.0 (at_tag tags q.1)) ≡ key_of_id cells q.0 (at_tag tags q.1)
+    id : (q : Place × ℕ) (b : Bool) → has_tag q.1 e ≡ b → cond (has_place q.0 e && b) None (mark_at q.0 (element_of q.1 (listed cells tags))) ≡ mark_at q.0 (element_of q.1 (listed cells tags))
     id q true h =
-        let nothing : at_tag tags q.1 ≡ None = sym (ap (at_tag tags) (nat_is e.tag q.1 h)) ∙ above cells tags last e.tag shelf.stored given less in
-        ap (λ o. cond (symbol_eq e.id q.0 && true) None (key_of_id cells q.0 o)) nothing ∙ gone (symbol_eq e.id q.0) ∙ sym (ap (key_of_id cells q.0) nothing)
-    id q false h = kept (symbol_eq e.id q.0) (key_of_id cells q.0 (at_tag tags q.1))
+        let nothing : element_of q.1 (listed cells tags) ≡ None = sym (ap (λ n. element_of n (listed cells tags)) (nat_is e.tag q.1 h)) ∙ element_above (listed cells tags) last e.tag given less in
+        ap (λ o. cond (has_place q.0 e && true) None (mark_at q.0 o)) nothing ∙ gone (has_place q.0 e) q.0 ∙ sym (ap (mark_at q.0) nothing)
+    id q false h = kept (has_place q.0 e) (mark_at q.0 (element_of q.1 (listed cells tags)))

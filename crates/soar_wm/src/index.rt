@@ -1,18 +1,20 @@
-// The tag of each triple, and the keys of each identifier.
+// The tag of each triple, and the tags of each identifier.
 ghost use Rattle.std.specs.Prelude.{◌≡◌, [], None, Some, OnOk, OnErr};
-ghost use Rattle.soar_wm.specs.Shelf.{at_triple, at_id, key_of, Puts};
+ghost use Rattle.soar_wm.specs.Shelf.{at_triple, at_id, place_of, Puts};
 ghost use Rattle.soar_wm.specs.WorkingMemory.{triple_of};
 
 use crate::element::Element;
-use soar_sym::{NoMemory, Sym, Triple};
+use crate::place::{Place, place_of};
+use packed_triples::PackedTriple;
+use soar_sym::{NoMemory, Triple};
 use std::alloc::Global;
 use std::collections::{BTreeMap, HashMap};
 
 /// Elements by triple, and by identifier in order of tag.
 #[derive(Drop)]
 pub struct Index {
-    pub triples: HashMap<(Sym, Sym, Sym, bool), u32>,
-    pub ids: BTreeMap<(Sym, u32), usize>,
+    pub triples: HashMap<PackedTriple, u32>,
+    pub ids: BTreeMap<(Place, u32), ()>,
 }
 
 impl Index {
@@ -31,19 +33,19 @@ impl Index {
     pub fn tag(&self, triple: Triple) -> Option<u32>
         ensures { result ≡ at_triple self.now.triples.entries triple }
     {
-        self.triples.get(&key_of(triple)).copied()
+        self.triples.get(&PackedTriple::new(triple)).copied()
     }
 
-    /// Adds an element that is kept under a key.
-    pub fn add(&mut self, element: Element, key: usize) -> Result<(), NoMemory>
+    /// Adds an element.
+    pub fn add(&mut self, element: Element) -> Result<(), NoMemory>
         requires triple { at_triple self.old.triples.entries (triple_of element) ≡ None }
-        requires id { at_id self.old.ids.entries (element.id, element.tag) ≡ None }
-        ensures ok { OnOk result (Puts element (Some element.tag) (Some key) self.old.triples.entries self.new.triples.entries self.old.ids.entries self.new.ids.entries) }
-        ensures err { OnErr result (Puts element None None self.old.triples.entries self.new.triples.entries self.old.ids.entries self.new.ids.entries) }
+        requires id { at_id self.old.ids.entries (place_of element.id, element.tag) ≡ None }
+        ensures ok { OnOk result (Puts element (Some element.tag) self.old.triples.entries self.new.triples.entries self.old.ids.entries self.new.ids.entries) }
+        ensures err { OnErr result (Puts element None self.old.triples.entries self.new.triples.entries self.old.ids.entries self.new.ids.entries) }
     {
-        let parts = key_of(triple_of(element));
+        let parts = packed(element);
         self.triples.insert(parts, element.tag)?;
-        match self.ids.insert((element.id, element.tag), key) {
+        match self.ids.insert((place_of(element.id), element.tag), ()) {
             Ok(_) => Ok(()),
             Err(_) => {
                 self.triples.remove(&parts);
@@ -54,27 +56,21 @@ impl Index {
 
     /// Takes an element away.
     pub fn remove(&mut self, element: Element)
-        ensures { Puts element None None self.old.triples.entries self.new.triples.entries self.old.ids.entries self.new.ids.entries }
+        ensures { Puts element None self.old.triples.entries self.new.triples.entries self.old.ids.entries self.new.ids.entries }
     {
-        self.triples.remove(&key_of(triple_of(element)));
-        self.ids.remove(&(element.id, element.tag));
+        self.triples.remove(&packed(element));
+        self.ids.remove(&(place_of(element.id), element.tag));
     }
 }
 
-fn triple_of(element: Element) -> Triple
+/// The triple of an element, packed.
+fn packed(element: Element) -> PackedTriple
     ensures { result ≡ triple_of element }
 {
-    Triple {
+    PackedTriple::new(Triple {
         id: element.id,
         attr: element.attr,
         value: element.value,
         accept: element.accept,
-    }
-}
-
-/// The parts of a triple, by which it is found.
-fn key_of(triple: Triple) -> (Sym, Sym, Sym, bool)
-    ensures { result ≡ key_of triple }
-{
-    (triple.id, triple.attr, triple.value, triple.accept)
+    })
 }

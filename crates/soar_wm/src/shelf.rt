@@ -5,6 +5,7 @@ ghost use Rattle.soar_wm.specs.WorkingMemory.{triple_of, tag_of, element_of, ele
 use crate::copies;
 use crate::element::Element;
 use crate::index::Index;
+use crate::packed::PackedElement;
 use slab::Slab;
 use soar_sym::{List, NoMemory, Sym, Triple};
 use std::alloc::Global;
@@ -14,7 +15,7 @@ use std::marker::Model;
 /// Elements in order of tag.
 #[derive(Drop)]
 pub struct Shelf {
-    cells: Slab<Element>,
+    cells: Slab<PackedElement>,
     tags: BTreeMap<u32, usize>,
     index: Index,
 }
@@ -62,10 +63,7 @@ impl Shelf {
     pub fn get(&self, tag: u32) -> Option<Element>
         ensures { result ≡ element_of tag self.now }
     {
-        match self.tags.get(&tag) {
-            Some(key) => self.cells.get(*key).copied(),
-            None => None,
-        }
+        copies::at_tag(&self.cells, &self.tags, tag)
     }
 
     /// Adds an element of a later tag than all, of a triple that none has.
@@ -78,10 +76,10 @@ impl Shelf {
     {
         self.cells.reserve(1)?;
         let key = self.cells.vacant_key();
-        self.index.add(element, key)?;
+        self.index.add(element)?;
         match self.tags.insert(element.tag, key) {
             Ok(_) => {
-                self.cells.insert_reserved(element);
+                self.cells.insert_reserved(PackedElement::new(element));
                 Ok(())
             }
             Err(_) => {
@@ -99,7 +97,8 @@ impl Shelf {
         ensures rest { self.new ≡ without_tag tag self.old }
     {
         let key = self.tags.remove(&tag)?;
-        let element = self.cells.try_remove(key)?;
+        let taken = self.cells.try_remove(key)?;
+        let element = taken.element();
         self.index.remove(element);
         Some(element)
     }
@@ -110,7 +109,7 @@ impl Shelf {
         requires given { IsGiven last self.now }
         ensures { IfOk result (λ elements. elements ≡ elements_of id self.now) }
     {
-        copies::of_id(alloc, &self.cells, &self.index.ids, id)
+        copies::of_id(alloc, &self.cells, &self.tags, &self.index.ids, id)
     }
 
     /// Copies of all elements.

@@ -7,5 +7,5 @@ use Rattle.rete_alpha.proofs.elements.Elements.get.Goals as goal
 
 pub returns : goal.returns
 returns c =
-    c.copied.ensures ∙ c.get.ensures.value ∙ found_in_order c.self.inside.by_tag.entries c.args.tag
+    c.unpacked.ensures ∙ c.get.ensures.value ∙ found_in_order c.self.inside.by_tag.entries c.args.tag
     ∙ found (in_order c.self.inside.by_tag.entries) c.args.tag c.self.invariant ∙ ap (element_of c.args.tag) c.self.view_is

@@ -1,4 +1,4 @@
-use Rattle.std.proofs.Common.{◌≡◌, ◌∙◌, ◌++◌, ◌∷◌, [], sym, ap, subst}
+use Rattle.std.proofs.Common.{◌≡◌, ◌∙◌, ◌++◌, ◌∷◌, [], Some, sym, ap, subst}
 use Rattle.slab.specs.Slab.{get}
 use Rattle.soar_wm.specs.Shelf.{IsShelf, listed}
 use Rattle.soar_wm.specs.WorkingMemory.{IsGiven, tag_of, triple_of}
@@ -29,9 +29,9 @@ pushed c =
     shelf_push _ _ _ _ _ _ _ _ c.args.last c.vacant_key-key.result c.args.element c.self.invariant (subst (IsGiven c.args.last) (sym c.self.view_is) c.requires.given) c.requires.later
     (ap (tag_of (triple_of c.args.element)) c.self.view_is ∙ c.requires.new)
     (sym (ap (λ f. f c.vacant_key-key.result) same) ∙ c.vacant_key-key.ensures.vacant)
-    (ap (get c.insert_reserved.new.self) (sym key) ∙ c.insert_reserved.ensures.updates.changed)
+    (ap (get c.insert_reserved.new.self) (sym key) ∙ c.insert_reserved.ensures.updates.changed ∙ ap Some c.new.ensures)
     (λ other apart. c.insert_reserved.ensures.updates.others other (λ e. apart (e ∙ key)) ∙ ap (λ f. f other) same)
-    c.in-Ok.ensures.entries c.in-Ok.ensures.updates.0 c.in_ok-add.ensures.ok
+    c.in-Ok.ensures.entries c.in_ok-add.ensures.ok
 
 pub invariant_of-self-in-Ok : goal.invariant_of-self-in-Ok
 invariant_of-self-in-Ok c = (pushed c).0
@@ -41,7 +41,7 @@ invariant_of-self-in-Err c =
     subst (λ cells. IsShelf cells c.insert.new.self.entries c.remove.new.self.triples.entries c.remove.new.self.ids.entries) (sym (ap get c.reserve.ensures.rest_kept))
     (subst (λ tags. IsShelf (get c.self.inside.cells) tags c.remove.new.self.triples.entries c.remove.new.self.ids.entries) (sym c.in-Err.ensures.err)
     (shelf_back _ _ _ _ _ _ c.args.last c.args.element c.self.invariant (subst (IsGiven c.args.last) (sym c.self.view_is) c.requires.given) c.requires.later
-    (ap (tag_of (triple_of c.args.element)) c.self.view_is ∙ c.requires.new) (puts_back _ _ _ _ _ _ _ _ _ c.in_ok-add.ensures.ok c.remove.ensures)))
+    (ap (tag_of (triple_of c.args.element)) c.self.view_is ∙ c.requires.new) (puts_back _ _ _ _ _ _ _ _ c.in_ok-add.ensures.ok c.remove.ensures)))
 
 pub returns-in-Ok-clause-ok : goal.returns-in-Ok-clause-ok
 returns-in-Ok-clause-ok c = (pushed c).1 ∙ ap (λ es. es ++ c.args.element ∷ []) c.self.view_is
