@@ -16,16 +16,17 @@ use Rattle.soar_sym.specs.declared.symbol.Sym.{Sym}
 use Rattle.soar_sym.specs.declared.symbol.Triple.{Triple}
 use Rattle.level_laws.specs.Labels.{Links, Labels}
 use Rattle.level_graph.specs.Spreading.{Spreads}
+use Rattle.level_change.specs.declared.levels.Told.{Told}
 use Rattle.level_change.specs.declared.store.Store.{Store}
 use Rattle.level_change.specs.Graph.{Graph, Numbers, Stands, times_in, number_at, merged, merged_map, put_over}
 use Rattle.level_change.specs.Holds.{Holds, told_in}
-use Rattle.level_change.specs.Links.{Id, id_of, id_cmp, link_place, level_place, Place, place_cmp, Facts, Late, value_in, value_if, is_linked}
+use Rattle.level_change.specs.Links.{Id, id_of, id_cmp, link_place, level_place, Place, place_cmp, Facts, Late, placed, value_in, value_if, is_linked}
 use Rattle.level_change.proofs.LinkLemmas.{value_is}
 use Rattle.level_change.proofs.StandLemmas.{nothing_spreads}
 
 -- ---- the order of places
 
-id_total : IsTotalOrder id_cmp
+pub id_total : IsTotalOrder id_cmp
 id_total = then_total (on_total (λ q. q.0) nat_cmp_total) (on_total (λ q. q.1) nat_cmp_total)
 
 pub place_total : IsTotalOrder place_cmp
@@ -79,12 +80,12 @@ merged_same a b s t same = ap map.entries (map.same_map place_total place_exact 
 
 -- ---- what came later is put in
 
-past : (q : Place) (e : Place × Option ℕ) (late : Late) → IsStrictlySortedBy place_cmp (keys_of (e ∷ late)) → is_eq (place_cmp q e.0) ≡ true → lookup (λ k. is_eq (place_cmp q k)) late ≡ None
+pub past : (q : Place) (e : Place × Option ℕ) (late : Late) → IsStrictlySortedBy place_cmp (keys_of (e ∷ late)) → is_eq (place_cmp q e.0) ≡ true → lookup (λ k. is_eq (place_cmp q k)) late ≡ None
 past q e late sorted h = lookup-none (is_at (place_cmp q)) late (none_past_head (eq_by_cmp_equiv place_total) q e late (IsDistinct-from_sorted place_cmp _ sorted) h)
 
-pub put_step : (base next : Facts) (p : Place) (w : Option ℕ) (late : Late) → IsStrictlySortedBy place_cmp (keys_of ((p, w) ∷ late))
+pub put_step : (base next : Facts) (p : Place) (w : Option ℕ) (late : Late) → ((q : Place) → is_eq (place_cmp q p) ≡ true → lookup (λ k. is_eq (place_cmp q k)) late ≡ None)
     → ((q : Place) → lookup (λ k. is_eq (place_cmp q k)) next ≡ cond (is_eq (place_cmp p q)) w (lookup (λ k. is_eq (place_cmp q k)) base)) → (q : Place) → value_in next late q ≡ value_in base ((p, w) ∷ late) q
-put_step base next p w late sorted up q = sym (value_is next late q) ∙ by (is_eq (place_cmp q p)) refl
+put_step base next p w late none up q = sym (value_is next late q) ∙ by (is_eq (place_cmp q p)) refl
   where
     at_base : Option ℕ
     at_base = lookup (λ k. is_eq (place_cmp q k)) base
@@ -96,7 +97,7 @@ put_step base next p w late sorted up q = sym (value_is next late q) ∙ by (is_
     here b e = up q ∙ ap (λ c. cond c w at_base) ((eq_by_cmp_equiv place_total).symm p q ∙ e)
 
     by : (b : Bool) → is_eq (place_cmp q p) ≡ b → unwrap_or (lookup (λ k. is_eq (place_cmp q k)) late) (lookup (λ k. is_eq (place_cmp q k)) next) ≡ cond (is_eq (place_cmp q p)) w (value_in base late q)
-    by true e = ap (λ o. unwrap_or o (lookup (λ k. is_eq (place_cmp q k)) next)) (past q (p, w) late sorted e) ∙ here true e ∙ sym (ap (λ c. cond c w (value_in base late q)) e)
+    by true e = ap (λ o. unwrap_or o (lookup (λ k. is_eq (place_cmp q k)) next)) (none q e) ∙ here true e ∙ sym (ap (λ c. cond c w (value_in base late q)) e)
     by false e = ap (unwrap_or (lookup (λ k. is_eq (place_cmp q k)) late)) (here false e) ∙ value_is base late q ∙ sym (ap (λ c. cond c w (value_in base late q)) e)
 
 -- nothing more is found in what is left
@@ -130,44 +131,50 @@ same_graph a b t o n g m = λ i. record { told = t i; out = o i; into = n i; goa
 abbrev pub shown : Store → Numbers
 shown store = merged store.base.entries store.late.entries
 
+abbrev pub shown_levels : Told → Numbers
+shown_levels told = merged (placed told.base.entries) (placed told.late.entries)
+
 spread_as : (a b : Links) (goals : List Sym) (s t : Labels) → ((x y : Sym) → a x y ≡ b x y) → ((x : Sym) → s x ≡ t x) → Spreads a goals s [] → Spreads b goals t []
 spread_as a b goals s t links labels spreads =
     let ls : a ≡ b = λ i x y. links x y i in
     let ts : s ≡ t = λ i x. labels x i in
     subst (λ l. Spreads l goals t []) ls (subst (λ u. Spreads a goals u []) ts spreads)
 
-pub holds_of : (told out into : Store) (triples : List Triple) (goals moved : List Sym) (now : List Sym) → Stands (record { told = shown told; out = shown out; into = shown into; goals = now; moved = moved }) triples goals → Holds told out into triples now
+pub holds_of : (told : Told) (out into : Store) (triples : List Triple) (goals moved : List Sym) (now : List Sym) → Stands (record { told = shown_levels told; out = shown out; into = shown into; goals = now; moved = moved }) triples goals → Holds told out into triples now
 holds_of told out into triples goals moved now stands =
     record {
       out_is = λ x y. sym (get_number out.base.entries out.late.entries (link_place (id_of x) (id_of y))) ∙ stands.out x y;
       into_is = λ y x. sym (get_number into.base.entries into.late.entries (link_place (id_of y) (id_of x))) ∙ stands.into x y;
       levels = subst (λ g. Spreads (is_linked out) g (told_in told) []) (sym stands.same_goals)
-          (spread_as (λ x y. is_some (times_in (shown out) x y)) (is_linked out) goals (λ s. number_at (shown told) (level_place (id_of s))) (told_in told)
-          (λ x y. ap is_some (get_number out.base.entries out.late.entries (link_place (id_of x) (id_of y)))) (λ s. get_number told.base.entries told.late.entries (level_place (id_of s))) stands.levels);
+          (spread_as (λ x y. is_some (times_in (shown out) x y)) (is_linked out) goals (λ s. number_at (shown_levels told) (level_place (id_of s))) (told_in told)
+          (λ x y. ap is_some (get_number out.base.entries out.late.entries (link_place (id_of x) (id_of y)))) (λ s. get_number (placed told.base.entries) (placed told.late.entries) (level_place (id_of s))) stands.levels);
     }
 
-pub stands_of : (told out into : Store) (triples : List Triple) (goals moved now : List Sym) → now ≡ goals → Holds told out into triples goals
-    → Stands (record { told = shown told; out = shown out; into = shown into; goals = now; moved = moved }) triples goals
+pub stands_of : (told : Told) (out into : Store) (triples : List Triple) (goals moved now : List Sym) → now ≡ goals → Holds told out into triples goals
+    → Stands (record { told = shown_levels told; out = shown out; into = shown into; goals = now; moved = moved }) triples goals
 stands_of told out into triples goals moved now same holds =
     record {
       out = λ x y. get_number out.base.entries out.late.entries (link_place (id_of x) (id_of y)) ∙ holds.out_is x y;
       into = λ x y. get_number into.base.entries into.late.entries (link_place (id_of y) (id_of x)) ∙ holds.into_is y x;
       same_goals = same;
-      levels = spread_as (is_linked out) (λ x y. is_some (times_in (shown out) x y)) goals (told_in told) (λ s. number_at (shown told) (level_place (id_of s)))
-          (λ x y. sym (ap is_some (get_number out.base.entries out.late.entries (link_place (id_of x) (id_of y))))) (λ s. sym (get_number told.base.entries told.late.entries (level_place (id_of s)))) holds.levels;
+      levels = spread_as (is_linked out) (λ x y. is_some (times_in (shown out) x y)) goals (told_in told) (λ s. number_at (shown_levels told) (level_place (id_of s)))
+          (λ x y. sym (ap is_some (get_number out.base.entries out.late.entries (link_place (id_of x) (id_of y))))) (λ s. sym (get_number (placed told.base.entries) (placed told.late.entries) (level_place (id_of s)))) holds.levels;
     }
 
 pub kept_as : (a b : Store) → a.base ≡ b.base → a.late.entries ≡ [] → b.late.entries ≡ [] → shown a ≡ shown b
 kept_as a b base none nothing = let late : a.late.entries ≡ b.late.entries = none ∙ sym nothing in λ i. merged (base i).entries (late i)
 
+pub levels_kept_as : (a b : Told) → a.base ≡ b.base → a.late.entries ≡ [] → b.late.entries ≡ [] → shown_levels a ≡ shown_levels b
+levels_kept_as a b base none nothing = let late : a.late.entries ≡ b.late.entries = none ∙ sym nothing in λ i. merged (placed (base i).entries) (placed (late i))
+
 nothing_in : (base : Facts) (late : Late) → base ≡ [] → late ≡ [] → (o : Option Place) → value_if base late o ≡ None
 nothing_in base late b l None = refl
 nothing_in base late b l (Some q) = ap (λ t. value_in base t q) l ∙ ap (λ f. value_in f [] q) b
 
-pub empty_holds : (told out into : Store) → told.base.entries ≡ [] → told.late.entries ≡ [] → out.base.entries ≡ [] → out.late.entries ≡ [] → into.base.entries ≡ [] → into.late.entries ≡ [] → Holds told out into [] []
+pub empty_holds : (told : Told) (out into : Store) → told.base.entries ≡ [] → told.late.entries ≡ [] → out.base.entries ≡ [] → out.late.entries ≡ [] → into.base.entries ≡ [] → into.late.entries ≡ [] → Holds told out into [] []
 empty_holds told out into tb tl ob ol ib il =
     record {
       out_is = λ x y. nothing_in out.base.entries out.late.entries ob ol (link_place (id_of x) (id_of y));
       into_is = λ y x. nothing_in into.base.entries into.late.entries ib il (link_place (id_of y) (id_of x));
-      levels = nothing_spreads (is_linked out) (told_in told) (λ s. nothing_in told.base.entries told.late.entries tb tl (level_place (id_of s)));
+      levels = nothing_spreads (is_linked out) (told_in told) (λ s. nothing_in (placed told.base.entries) (placed told.late.entries) (ap placed tb) (ap placed tl) (level_place (id_of s)));
     }

@@ -1,10 +1,12 @@
 pub mod ButLemmas
 pub mod ChangeLemmas
 pub mod EdgeLemmas
+pub mod EndLemmas
 pub mod ForgetLemmas
 pub mod HadLemmas
 pub mod HadSteps
 pub mod HoldLemmas
+pub mod LevelLemmas
 pub mod LinkLemmas
 pub mod PassSteps
 pub mod StandLemmas

@@ -1,29 +1,24 @@
 -- What a map of links and a map of levels have after a step.
-use Rattle.std.proofs.Common.{◌≡◌, ℕ, zero, suc, ◌+◌, ◌-◌, ◌≤◌, ◌==◌, ◌&&◌, ◌||◌, not, Bool, true, false, cond, List, [], ◌∷◌, ◌++◌, filter, map, Option, Some, None, is_some, unwrap_or, Result, Ok, Err, IfOk, OnErr, OnOk, refl, sym, ap, ap₂, ◌∙◌, arith}
-use Rattle.std.specs.BTreeMap.Range.{range_contains}
+use Rattle.std.proofs.Common.{◌≡◌, ℕ, zero, suc, ◌+◌, ◌-◌, ◌≤◌, ◌==◌, ◌&&◌, Bool, true, false, cond, [], ◌∷◌, Option, Some, None, unwrap_or, Result, Ok, Err, IfOk, OnErr, OnOk, refl, sym, ap, ap₂, ◌∙◌, arith}
 use Rattle.std.specs.Map.{lookup}
-use Rattle.std.specs.Ordering.{is_eq, is_le, nat_cmp, ordering_then}
+use Rattle.std.specs.Ordering.{is_eq, nat_cmp, ordering_then}
 use Rattle.std.specs.declared.cmp.Ordering.{Ordering}
 use Rattle.std.specs.declared.cmp.Ordering.TheVariants.{Less, Equal, Greater}
-use Rattle.std.specs.declared.ops.Bound.TheVariants.{Included, Excluded}
-use Rattle.std.proofs.lemmas.List.Folds.{list_any-append}
 use Rattle.soar_sym.specs.Equality.{symbol_eq}
 use Rattle.soar_sym.specs.declared.symbol.Sym.{Sym}
 use Rattle.soar_sym.specs.declared.symbol.Sym.TheVariants.{Ident, Word, Int}
-use Rattle.defs_soar.specs.Sorted.{has_symbol}
 use Rattle.level_laws.proofs.SymbolLemmas.{symbol_same}
-use Rattle.level_change.specs.declared.store.Store.{Store}
-use Rattle.level_change.specs.Links.{Id, id_of, symbol_of, id_cmp, link_place, level_place, Place, Facts, Late, value_in, level_at, place_cmp, times, is_linked, Counts, if_any, IsCounted, raised, lowered, links_from}
+use Rattle.level_change.specs.Links.{Id, id_of, symbol_of, id_cmp, link_place, Place, Facts, Late, Levels, LateLevels, placed, value_in, level_at, place_cmp, times, Counts, if_any, IsCounted, raised, lowered}
 
-then_same : (x y : Ordering) → is_eq (ordering_then x y) ≡ (is_eq x && is_eq y)
+pub then_same : (x y : Ordering) → is_eq (ordering_then x y) ≡ (is_eq x && is_eq y)
 then_same Less y = refl
 then_same Equal y = refl
 then_same Greater y = refl
 
-nat_same : (m n : ℕ) → is_eq (nat_cmp m n) ≡ (m == n)
+pub nat_same : (m n : ℕ) → is_eq (nat_cmp m n) ≡ (m == n)
 nat_same m n = grind arith
 
-id_same : (a b : Id) → is_eq (id_cmp a b) ≡ symbol_eq (symbol_of a) (symbol_of b)
+pub id_same : (a b : Id) → is_eq (id_cmp a b) ≡ symbol_eq (symbol_of a) (symbol_of b)
 id_same a b = then_same (nat_cmp a.0 b.0) (nat_cmp a.1 b.1) ∙ ap₂ (λ c d. c && d) (nat_same a.0 b.0) (nat_same a.1 b.1)
 
 -- the same link
@@ -124,98 +119,6 @@ none_less n h = ap if_any (zero_is (n - 1) (omega (arith, h)))
     zero_is : (m : ℕ) → m ≤ 0 → zero ≡ m
     zero_is m h = omega (arith, h)
 
--- ---- the links from a symbol
-
--- the part of an identifier has its places and no others
-in_part : (id a b : Id) → range_contains place_cmp (Included (id, (0, 0))) (Excluded ((id.0, id.1 + 1), (0, 0))) (a, b) ≡ symbol_eq (symbol_of id) (symbol_of a)
-in_part id a b = by (nat_cmp id.0 a.0) (id_cmp (0, 0) b) (least b) ∙ ap (λ c. c && (id.1 == a.1)) (nat_same id.0 a.0)
-  where
-    least : (b : Id) → is_le (id_cmp (0, 0) b) ≡ true
-    least b = grind arith
-
-    at_number : (m n : ℕ) (z : Ordering) → is_le z ≡ true → (is_le (ordering_then (nat_cmp m n) z) && not (is_le (ordering_then (nat_cmp (m + 1) n) z))) ≡ (m == n)
-    at_number m n Less h = grind arith
-    at_number m n Equal h = grind arith
-    at_number m n Greater h = cc
-
-    by : (o z : Ordering) → is_le z ≡ true
-        → (is_le (ordering_then (ordering_then o (nat_cmp id.1 a.1)) z) && not (is_le (ordering_then (ordering_then o (nat_cmp (id.1 + 1) a.1)) z))) ≡ (is_eq o && (id.1 == a.1))
-    by Less z h = refl
-    by Equal z h = at_number id.1 a.1 z h
-    by Greater z h = refl
-
-abbrev Has : {X : Type 0} → List (Place × X) → Id → Id → Bool
-Has places id y = is_some (lookup (λ k. is_eq (place_cmp (id, y) k)) places)
-
-abbrev ends : {X : Type 0} → List (Place × X) → List Sym
-ends places = map (λ e. symbol_of e.0.1) places
-
-ends_linked : {X : Type 0} (id : Id) (places : List (Place × X)) (y : Id) → has_symbol (ends (links_from id places)) (symbol_of y) ≡ Has places id y
-ends_linked id [] y = refl
-ends_linked {X} id (((a, b), n) ∷ places) y =
-    ap (λ c. has_symbol (ends (cond c (((a, b), n) ∷ links_from id places) (links_from id places))) (symbol_of y)) (in_part id a b)
-    ∙ by (symbol_eq (symbol_of id) (symbol_of a)) (symbol_eq (symbol_of y) (symbol_of b)) refl (ends_linked id places y)
-    ∙ ap (λ c. is_some (cond c (Some n) (lookup (λ k. is_eq (place_cmp (id, y) k)) places))) (sym (link_same id y a b))
-  where
-    by : (c d : Bool) → symbol_eq (symbol_of y) (symbol_of b) ≡ d → has_symbol (ends (links_from id places)) (symbol_of y) ≡ Has places id y
-        → has_symbol (ends (cond c (((a, b), n) ∷ links_from id places) (links_from id places))) (symbol_of y) ≡ is_some (cond (c && d) (Some n) (lookup (λ k. is_eq (place_cmp (id, y) k)) places))
-    by true true e h = ap (λ z. z || has_symbol (ends (links_from id places)) (symbol_of y)) e
-    by true false e h = ap (λ z. z || has_symbol (ends (links_from id places)) (symbol_of y)) e ∙ h
-    by false d e h = h
-
-kept_in : (p : Sym → Bool) (xs : List Sym) (y : Sym) → has_symbol (filter p xs) y ≡ (p y && has_symbol xs y)
-kept_in p [] y = none (p y)
-  where
-    none : (b : Bool) → false ≡ (b && false)
-    none true = refl
-    none false = refl
-kept_in p (x ∷ xs) y = by (symbol_eq y x) refl (p x) refl (kept_in p xs y)
-  where
-    by : (b : Bool) → symbol_eq y x ≡ b → (c : Bool) → p x ≡ c → has_symbol (filter p xs) y ≡ (p y && has_symbol xs y) → has_symbol (cond c (x ∷ filter p xs) (filter p xs)) y ≡ (p y && (b || has_symbol xs y))
-    by true e true f h = ap (λ z. z || has_symbol (filter p xs) y) e ∙ sym (ap (λ z. z && true) (ap p (symbol_same y x e) ∙ f))
-    by true e false f h = h ∙ ap (λ z. z && has_symbol xs y) (ap p (symbol_same y x e) ∙ f) ∙ sym (ap (λ z. z && true) (ap p (symbol_same y x e) ∙ f))
-    by false e true f h = ap (λ z. z || has_symbol (filter p xs) y) e ∙ h
-    by false e false f h = h
-
-late_or_base : (base : Facts) (late : Late) (id y : Id) → is_some (value_in base late (id, y)) ≡ true → (Has base id y || Has late id y) ≡ true
-late_or_base base [] id y h = or_it (Has base id y) h
-  where
-    or_it : (b : Bool) → b ≡ true → (b || false) ≡ true
-    or_it true h = refl
-    or_it false h = h
-late_or_base base (e ∷ late) id y h = by (is_eq (place_cmp (id, y) e.0)) h (late_or_base base late id y)
-  where
-    or_true : (b : Bool) → (b || true) ≡ true
-    or_true true = refl
-    or_true false = refl
-
-    by : (b : Bool) → is_some (cond b e.1 (value_in base late (id, y))) ≡ true → (is_some (value_in base late (id, y)) ≡ true → (Has base id y || Has late id y) ≡ true)
-        → (Has base id y || is_some (cond b (Some e.1) (lookup (λ k. is_eq (place_cmp (id, y) k)) late))) ≡ true
-    by true k rest = or_true (Has base id y)
-    by false k rest = rest k
-
--- all ends of links from an identifier are found in the two maps
-pub all_ends : (links : Store) (id : Id) (found : List Sym) → found ≡ filter (is_linked links (symbol_of id)) (ends (links_from id links.base.entries)) ++ filter (is_linked links (symbol_of id)) (ends (links_from id links.late.entries))
-    → (y : Sym) → is_linked links (symbol_of id) y ≡ has_symbol found y
-all_ends links id found is y =
-    sym (ap (λ l. has_symbol l y) is ∙ list_any-append (symbol_eq y) (filter (is_linked links (symbol_of id)) (ends (links_from id links.base.entries))) (filter (is_linked links (symbol_of id)) (ends (links_from id links.late.entries)))
-    ∙ ap₂ (λ a b. a || b) (kept_in (is_linked links (symbol_of id)) (ends (links_from id links.base.entries)) y) (kept_in (is_linked links (symbol_of id)) (ends (links_from id links.late.entries)) y)
-    ∙ by y)
-  where
-    both : Sym → Bool
-    both y = (is_linked links (symbol_of id) y && has_symbol (ends (links_from id links.base.entries)) y) || (is_linked links (symbol_of id) y && has_symbol (ends (links_from id links.late.entries)) y)
-
-    one : (y : Id) (l : Bool) → is_linked links (symbol_of id) (symbol_of y) ≡ l → ((l && Has links.base.entries id y) || (l && Has links.late.entries id y)) ≡ l
-    one y true e = late_or_base links.base.entries links.late.entries id y e
-    one y false e = refl
-
-    by : (y : Sym) → both y ≡ is_linked links (symbol_of id) y
-    by (Ident l n) =
-        ap₂ (λ a b. (is_linked links (symbol_of id) (Ident l n) && a) || (is_linked links (symbol_of id) (Ident l n) && b)) (ends_linked id links.base.entries (l, n)) (ends_linked id links.late.entries (l, n))
-        ∙ one (l, n) (is_linked links (symbol_of id) (Ident l n)) refl
-    by (Word w) = refl
-    by (Int z) = refl
-
 -- an identifier that has a letter and a number is of them
 pub symbol_id : (s : Sym) (i : Id) → id_of s ≡ Some i → symbol_of i ≡ s
 symbol_id (Ident l n) i is = ap symbol_of (sym (ap (λ o. unwrap_or o i) is))
@@ -236,10 +139,10 @@ on_ok (Err e) f p = p
 
 -- ---- levels
 
-pub set_level : (base : Facts) (old new : Late) (id : Sym) (p : Place) (w : Option ℕ) → level_place (id_of id) ≡ Some p → IsPut base old new p w → (s : Sym) → level_at base new s ≡ cond (symbol_eq id s) w (level_at base old s)
+pub set_level : (base : Levels) (old new : LateLevels) (id : Sym) (p : Id) (w : Option ℕ) → id_of id ≡ Some p → IsPut (placed base) (placed old) (placed new) (p, (0, 0)) w → (s : Sym) → level_at base new s ≡ cond (symbol_eq id s) w (level_at base old s)
 set_level base old new (Ident l n) p w is up s = by s
   where
-    here : ((l, n), (0, 0)) ≡ p
+    here : (l, n) ≡ p
     here = ap (λ o. unwrap_or o p) is
 
     and_true : (b : Bool) → (b && true) ≡ b
@@ -249,8 +152,8 @@ set_level base old new (Ident l n) p w is up s = by s
     by : (s : Sym) → level_at base new s ≡ cond (symbol_eq (Ident l n) s) w (level_at base old s)
     by (Ident k m) =
         up ((k, m), (0, 0))
-        ∙ ap (λ q. cond (is_eq (place_cmp q ((k, m), (0, 0)))) w (value_in base old ((k, m), (0, 0)))) (sym here)
-        ∙ ap (λ t. cond t w (value_in base old ((k, m), (0, 0)))) (link_same (l, n) (0, 0) (k, m) (0, 0) ∙ and_true (symbol_eq (Ident l n) (Ident k m)))
+        ∙ ap (λ q. cond (is_eq (place_cmp (q, (0, 0)) ((k, m), (0, 0)))) w (value_in (placed base) (placed old) ((k, m), (0, 0)))) (sym here)
+        ∙ ap (λ t. cond t w (value_in (placed base) (placed old) ((k, m), (0, 0)))) (link_same (l, n) (0, 0) (k, m) (0, 0) ∙ and_true (symbol_eq (Ident l n) (Ident k m)))
     by (Word k) = refl
     by (Int k) = refl
 set_level base old new (Word l) p w is up s = cc

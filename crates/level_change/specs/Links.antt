@@ -1,7 +1,7 @@
 -- What is kept at places: levels, and how often symbols lead to others.
-use Rattle.std.specs.Prelude.{◌≡◌, ℕ, zero, suc, ◌+◌, ◌-◌, Bool, ◌&&◌, cond, List, [], ◌∷◌, Option, Some, None, is_some, if◌then◌else◌}
+use Rattle.std.specs.Prelude.{◌≡◌, ℕ, zero, suc, ◌-◌, ◌==◌, Bool, ◌&&◌, cond, List, [], ◌∷◌, Option, Some, None, is_some, if◌then◌else◌}
 use Rattle.std.specs.BTreeMap.Range.{entries_between}
-use Rattle.std.specs.declared.ops.Bound.TheVariants.{Included, Excluded}
+use Rattle.std.specs.declared.ops.Bound.TheVariants.{Included, Unbounded}
 use Rattle.soar_sym.specs.Equality.{symbol_eq}
 use Rattle.std.specs.Map.{lookup}
 use Rattle.std.specs.Ordering.{is_eq, nat_cmp, ordering_then}
@@ -59,9 +59,25 @@ abbrev pub value_if : Facts → Late → Option Place → Option ℕ
 value_if base late None = None
 value_if base late (Some q) = value_in base late q
 
+-- levels that are kept, in no order
+abbrev pub Levels : Type 0
+Levels = List (Id × ℕ)
+
+-- levels that came later, or went
+abbrev pub LateLevels : Type 0
+LateLevels = List (Id × Option ℕ)
+
+abbrev pub id_eq : Id → Id → Bool
+id_eq a b = (a.0 == b.0) && (a.1 == b.1)
+
+-- the same at the places of levels
+abbrev pub placed : {X : Type 0} → List (Id × X) → List (Place × X)
+placed [] = []
+placed (e ∷ es) = ((e.0, (0, 0)), e.1) ∷ placed es
+
 -- the level that is told of a symbol
-abbrev pub level_at : Facts → Late → Sym → Option ℕ
-level_at base late s = value_if base late (level_place (id_of s))
+abbrev pub level_at : Levels → LateLevels → Sym → Option ℕ
+level_at base late s = value_if (placed base) (placed late) (level_place (id_of s))
 
 -- how often x leads to y, where it does
 abbrev pub times : Facts → Late → Sym → Sym → Option ℕ
@@ -91,9 +107,22 @@ raised from to counts x y = if symbol_eq from x && symbol_eq to y then suc (coun
 abbrev pub lowered : Sym → Sym → Counts → Counts
 lowered from to counts x y = if symbol_eq from x && symbol_eq to y then counts x y - 1 else counts x y
 
--- the places of links from an identifier: they come before those of the next number
+-- the links from an identifier that stand in front
+abbrev pub front_of : {X : Type 0} → Id → List (Place × X) → List (Place × X)
+front_of id [] = []
+front_of id (e ∷ places) = if id_eq id e.0.0 then e ∷ front_of id places else []
+
+-- the links from an identifier: they stand side by side, from the least place on that one of them may have
 abbrev pub links_from : {X : Type 0} → Id → List (Place × X) → List (Place × X)
-links_from id places = entries_between place_cmp (Included (id, (0, 0))) (Excluded ((id.0, id.1 + 1), (0, 0))) places
+links_from id places = front_of id (entries_between place_cmp (Included (id, (0, 0))) Unbounded places)
+
+-- whether something came later of the link between two identifiers
+abbrev pub came_later : Late → Id → Id → Bool
+came_later late x y = is_some (lookup (λ k. is_eq (place_cmp (x, y) k)) late)
+
+-- the identifier in which a link ends
+abbrev pub end_of : {X : Type 0} → Place × X → Sym
+end_of e = symbol_of e.0.1
 
 -- the same, from the end to the start
 abbrev pub turned : Counts → Counts

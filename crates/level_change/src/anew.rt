@@ -12,17 +12,18 @@ ghost use Rattle.level_change.specs.Seeds.{seeds_in};
 
 use crate::forgetting::{Had, clear_seeds, forget};
 use crate::goals::tell_goals;
+use crate::levels::{LateLevels, Levels};
 use crate::seeds::seeds_of;
 use crate::spreading::{pass_come, pass_had, spread};
-use crate::store::{Facts, Late, Store};
+use crate::store::Store;
 use soar_sym::{List, NoMemory, Sym, Triple};
 use std::alloc::Global;
 
 /// Forgets the levels that may have come by a link that is gone, or by a goal that comes, goes or moves. The links are those after the change.
 pub fn forget_lost(
     alloc: Global,
-    levels: &Facts,
-    told: &mut Late,
+    levels: &Levels,
+    told: &mut LateLevels,
     links: &Store,
     old: &[Sym],
     gone: &[Triple],
@@ -41,8 +42,8 @@ pub fn forget_lost(
 /// Tells levels anew from the goals, along the links that came, and to what was forgotten. Answers what may have another level.
 pub fn spread_anew(
     alloc: Global,
-    levels: &Facts,
-    told: &mut Late,
+    levels: &Levels,
+    told: &mut LateLevels,
     out: &Store,
     into: &Store,
     goals: &[Sym],

@@ -8,9 +8,10 @@ ghost use Rattle.level_change.specs.declared.store.Store.{Store as StoreOf};
 ghost use Rattle.level_change.specs.Links.{level_at, is_linked};
 ghost use Rattle.level_change.specs.Passing.{AreLinked, totals, one_if_told};
 
+use crate::levels::{LateLevels, Levels};
 use crate::links::ends_of;
 use crate::passing::has_symbol;
-use crate::store::{Facts, Late, Store};
+use crate::store::Store;
 use crate::told::{clear, level_of};
 use soar_sym::{List, NoMemory, Sym};
 use std::alloc::Global;
@@ -25,8 +26,8 @@ pub struct Had {
 /// Takes their levels away from these symbols, and answers which of them had one.
 pub fn clear_seeds(
     alloc: Global,
-    levels: &Facts,
-    told: &mut Late,
+    levels: &Levels,
+    told: &mut LateLevels,
     seeds: &[Sym],
 ) -> Result<List<Had>, NoMemory>
     ensures { IfOk result (λ had. Cleared (level_at levels.now.entries told.old.entries) (level_at levels.now.entries told.new.entries) had seeds.now) }
@@ -44,8 +45,8 @@ pub fn clear_seeds(
 /// Forgets what had its level by what waits, which is forgotten already. All that is forgotten is added to the list.
 pub fn forget(
     alloc: Global,
-    levels: &Facts,
-    told: &mut Late,
+    levels: &Levels,
+    told: &mut LateLevels,
     links: &Store,
     goals: &[Sym],
     waiting: &mut List<Had>,
@@ -73,8 +74,8 @@ pub fn forget(
 
 /// Forgets those of these symbols that have a level, goals apart, and lets them wait.
 fn forget_from(
-    levels: &Facts,
-    told: &mut Late,
+    levels: &Levels,
+    told: &mut LateLevels,
     values: &[Sym],
     goals: &[Sym],
     level: u32,

@@ -8,14 +8,14 @@ ghost use Rattle.level_laws.specs.Labels.{Labels, as_told, depth_of_goal};
 ghost use Rattle.level_change.specs.Links.{level_at};
 ghost use Rattle.level_change.specs.Passing.{KeptBut};
 
-use crate::store::{Facts, Late};
+use crate::levels::{LateLevels, Levels};
 use crate::told::{level_of, tell};
 use soar_sym::{List, NoMemory, Sym};
 
 /// Tells the depths of the goals that have no level, and lets those goals wait.
 pub fn tell_goals(
-    levels: &Facts,
-    told: &mut Late,
+    levels: &Levels,
+    told: &mut LateLevels,
     goals: &[Sym],
     waiting: &mut List<Sym>,
     moved: &mut List<Sym>,
@@ -34,8 +34,8 @@ pub fn tell_goals(
 
 /// Tells the depth of a goal that has no level, and lets it wait.
 fn tell_goal(
-    levels: &Facts,
-    told: &mut Late,
+    levels: &Levels,
+    told: &mut LateLevels,
     goal: Sym,
     depth: u32,
     waiting: &mut List<Sym>,

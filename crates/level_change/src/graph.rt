@@ -6,6 +6,7 @@ ghost use Rattle.defs_soar.specs.Sorted.{has_symbol};
 ghost use Rattle.level_change.specs.Counts.{IsChanged};
 ghost use Rattle.level_change.specs.Graph.{level_in_graph, Stands, merged};
 
+use crate::levels::{Told, no_levels, settle_levels};
 use crate::renewing::renew_or_leave;
 use crate::store::{Store, empty, settle};
 use crate::told::level_of;
@@ -16,7 +17,7 @@ use std::marker::Model;
 /// The levels over triples and goals that come and go (Soar manual, chapter 2, substates and levels).
 #[derive(Drop)]
 pub struct LevelGraph {
-    told: Store,
+    told: Told,
     out: Store,
     into: Store,
     goals: List<Sym>,
@@ -26,10 +27,11 @@ pub struct LevelGraph {
 
 impl Model for LevelGraph {
     ghost use Rattle.level_change.specs.Graph.{Graph, merged};
+    ghost use Rattle.level_change.specs.Links.{placed};
 
     ghost Value = { Graph };
 
-    ghost view = { λ g. record { told = merged g.told.base.entries g.told.late.entries; out = merged g.out.base.entries g.out.late.entries; into = merged g.into.base.entries g.into.late.entries; goals = g.goals; moved = g.moved } };
+    ghost view = { λ g. record { told = merged (placed g.told.base.entries) (placed g.told.late.entries); out = merged g.out.base.entries g.out.late.entries; into = merged g.into.base.entries g.into.late.entries; goals = g.goals; moved = g.moved } };
 }
 
 impl LevelGraph {
@@ -38,7 +40,7 @@ impl LevelGraph {
         ensures { IfOk result (λ graph. Stands graph [] []) }
     {
         Ok(LevelGraph {
-            told: empty(alloc),
+            told: no_levels(alloc),
             out: empty(alloc),
             into: empty(alloc),
             goals: List::new(alloc),
@@ -58,7 +60,7 @@ impl LevelGraph {
         ensures moved { (held : ListOf TripleOf) (old_goals : ListOf SymOf) → Stands self.old held old_goals → OnOk result ((s : SymOf) → has_symbol self.new.moved s ≡ false → level_in_graph self.new s ≡ level_in_graph self.old s) }
         ensures err { OnErr result (self.new ≡ self.old) }
     {
-        settle(self.alloc, &mut self.told)?;
+        settle_levels(self.alloc, &mut self.told)?;
         settle(self.alloc, &mut self.out)?;
         settle(self.alloc, &mut self.into)?;
         let kept = List::from_slice(self.alloc, goals)?;

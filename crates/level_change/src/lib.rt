@@ -7,6 +7,7 @@ mod forgetting;
 mod goals;
 mod graph;
 mod laws;
+mod levels;
 mod links;
 mod passing;
 mod place;

@@ -1,14 +1,16 @@
 // Links, each as often as triples lead so.
-ghost use Rattle.std.specs.Prelude.{◌≡◌, ◌++◌, OnOk, IfOk, filter, map, unwrap_or};
+ghost use Rattle.std.specs.Prelude.{◌≡◌, ◌++◌, not, OnOk, IfOk, filter, map, is_some, unwrap_or};
+ghost use Rattle.std.specs.List.Sorted.{IsStrictlySortedBy};
+ghost use Rattle.std.specs.Map.{keys_of};
 ghost use Rattle.soar_sym.specs.declared.symbol.Sym.{Sym as SymOf};
 ghost use Rattle.defs_soar.specs.Sorted.{has_symbol};
-ghost use Rattle.level_change.specs.Links.{Counts, IsCounted, times, is_linked, raised, lowered, links_from, symbol_of};
+ghost use Rattle.level_change.specs.Links.{Counts, IsCounted, times, is_linked, raised, lowered, links_from, came_later, end_of, place_cmp};
 
 use crate::place::{Id, Place, id_of, link_place, symbol_of};
 use crate::store::{Facts, Late, Store, read_if, write};
+use packed_ids::PackedId;
 use soar_sym::{List, NoMemory, Sym};
 use std::alloc::Global;
-use std::collections::BTreeMap;
 
 /// How often a symbol leads to another.
 fn times(base: &Facts, late: &Late, from: Sym, to: Sym) -> u32
@@ -52,25 +54,38 @@ pub fn ends_of(alloc: Global, links: &Store, id: Sym) -> Result<List<Sym>, NoMem
 {
     let id = id_of(id).ok_or(NoMemory)?;
     let mut found = List::new(alloc);
-    add_ends(links, &links.base, id, &mut found)?;
-    add_ends(links, &links.late, id, &mut found)?;
+    add_kept(&links.base, &links.late, id, &mut found)?;
+    add_late(&links.late, id, &mut found)?;
     Ok(found)
 }
 
-/// Adds the symbols to which an identifier leads, of those at these places. The highest number counts as want of memory.
-fn add_ends<X>(
-    links: &Store,
-    places: &BTreeMap<Place, X>,
-    id: Id,
-    found: &mut List<Sym>,
-) -> Result<(), NoMemory>
-    ensures { OnOk result (found.new ≡ found.old ++ filter (is_linked links.now (symbol_of id)) (map (λ e. symbol_of e.0.1) (links_from id places.now.entries))) }
+/// Adds the ends of the links from an identifier that are kept, where nothing came later.
+fn add_kept(base: &Facts, late: &Late, id: Id, found: &mut List<Sym>) -> Result<(), NoMemory>
+    ensures ends { OnOk result (found.new ≡ found.old ++ map end_of (filter (λ e. not (came_later late.now.entries id e.0.1)) (links_from id base.now.entries))) }
+    ensures ordered { OnOk result (IsStrictlySortedBy place_cmp (keys_of base.now.entries)) }
 {
-    let next = id.1.checked_add(1).ok_or(NoMemory)?;
-    'places: for (place, _) in places.range((id, (0, 0))..((id.0, next), (0, 0))) {
-        let symbol = symbol_of(place.1);
-        if has_link(links, symbol_of(id), symbol) {
-            found.push(symbol)?;
+    'places: for (place, _) in base.range((id, PackedId::new(0, 0))..) {
+        if id != place.0 {
+            break 'places;
+        }
+        if !late.contains_key(&(id, place.1)) {
+            found.push(symbol_of(place.1))?;
+        }
+    }
+    Ok(())
+}
+
+/// Adds the ends of the links from an identifier that came later.
+fn add_late(late: &Late, id: Id, found: &mut List<Sym>) -> Result<(), NoMemory>
+    ensures ends { OnOk result (found.new ≡ found.old ++ map end_of (filter (λ e. is_some e.1) (links_from id late.now.entries))) }
+    ensures ordered { OnOk result (IsStrictlySortedBy place_cmp (keys_of late.now.entries)) }
+{
+    'places: for (place, value) in late.range((id, PackedId::new(0, 0))..) {
+        if id != place.0 {
+            break 'places;
+        }
+        if value.is_some() {
+            found.push(symbol_of(place.1))?;
         }
     }
     Ok(())

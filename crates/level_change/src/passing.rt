@@ -9,14 +9,14 @@ ghost use Rattle.level_change.specs.declared.store.Store.{Store as StoreOf};
 ghost use Rattle.level_change.specs.Links.{level_at};
 ghost use Rattle.level_change.specs.Passing.{SpreadsBut, KeptBut, AreLinked, totals, and_link, and_links};
 
-use crate::store::{Facts, Late};
+use crate::levels::{LateLevels, Levels};
 use crate::told::{level_of, tell};
 use soar_sym::{List, NoMemory, Sym, is_symbol};
 
 /// Passes a level on to these symbols. Those that are no goals and had a higher level, or none, take it, and wait.
 pub fn pass_on(
-    levels: &Facts,
-    told: &mut Late,
+    levels: &Levels,
+    told: &mut LateLevels,
     values: &[Sym],
     goals: &[Sym],
     level: u32,
@@ -40,8 +40,8 @@ pub fn pass_on(
 
 /// Passes the level of one symbol on to another.
 pub fn pass_to(
-    levels: &Facts,
-    told: &mut Late,
+    levels: &Levels,
+    told: &mut LateLevels,
     goals: &[Sym],
     from: Sym,
     to: Sym,
@@ -60,8 +60,8 @@ pub fn pass_to(
 
 /// Passes the levels of these symbols on to another.
 pub fn pass_from(
-    levels: &Facts,
-    told: &mut Late,
+    levels: &Levels,
+    told: &mut LateLevels,
     goals: &[Sym],
     sources: &[Sym],
     to: Sym,

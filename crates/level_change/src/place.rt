@@ -1,13 +1,14 @@
 // Where levels and links are kept: identifiers in eight bytes.
 ghost use Rattle.std.specs.Prelude.{◌≡◌};
-ghost use Rattle.level_change.specs.Links.{id_of, symbol_of, link_place, level_place};
+ghost use Rattle.level_change.specs.Links.{id_of, symbol_of, link_place};
 
+use packed_ids::PackedId;
 use soar_sym::Sym;
 
 /// An identifier's letter and number.
-pub type Id = (u8, u32);
+pub type Id = PackedId;
 
-/// Where a link starts and ends; or an identifier and the first of all, where its level stands.
+/// Where a link starts and ends.
 pub type Place = (Id, Id);
 
 /// The letter and number of an identifier, and none of another symbol.
@@ -15,7 +16,7 @@ pub fn id_of(symbol: Sym) -> Option<Id>
     ensures { result ≡ id_of symbol }
 {
     match symbol {
-        Sym::Ident { letter, number } => Some((letter, number)),
+        Sym::Ident { letter, number } => Some(PackedId::new(letter, number)),
         Sym::Word(_) => None,
         Sym::Int(_) => None,
     }
@@ -26,8 +27,8 @@ pub fn symbol_of(id: Id) -> Sym
     ensures { result ≡ symbol_of id }
 {
     Sym::Ident {
-        letter: id.0,
-        number: id.1,
+        letter: id.letter(),
+        number: id.number(),
     }
 }
 
@@ -38,15 +39,5 @@ pub fn link_place(from: Sym, to: Sym) -> Option<Place>
     match (id_of(from), id_of(to)) {
         (Some(from), Some(to)) => Some((from, to)),
         _ => None,
-    }
-}
-
-/// The place of an identifier's level.
-pub fn level_place(symbol: Sym) -> Option<Place>
-    ensures { result ≡ level_place (id_of symbol) }
-{
-    match id_of(symbol) {
-        Some(id) => Some((id, (0, 0))),
-        None => None,
     }
 }

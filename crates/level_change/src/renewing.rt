@@ -7,15 +7,16 @@ ghost use Rattle.level_change.specs.Passing.{KeptBut};
 
 use crate::anew::{forget_lost, spread_anew};
 use crate::counting::recount;
+use crate::levels::Told;
 use crate::store::Store;
 use soar_sym::{List, NoMemory, Sym, Triple};
 use std::alloc::Global;
-use std::collections::BTreeMap;
+use std::collections::{BTreeMap, HashMap};
 
 /// Renews links and levels, and answers what may have another level. Where memory is refused nothing came later.
 pub fn renew_or_leave(
     alloc: Global,
-    told: &mut Store,
+    told: &mut Told,
     out: &mut Store,
     into: &mut Store,
     old: &[Sym],
@@ -31,7 +32,7 @@ pub fn renew_or_leave(
     match renew(alloc, told, out, into, old, gone, come, new) {
         Ok(moved) => Ok(moved),
         Err(_) => {
-            told.late = BTreeMap::new(alloc);
+            told.late = HashMap::new(alloc);
             out.late = BTreeMap::new(alloc);
             into.late = BTreeMap::new(alloc);
             Err(NoMemory)
@@ -42,7 +43,7 @@ pub fn renew_or_leave(
 /// Renews links and levels.
 fn renew(
     alloc: Global,
-    told: &mut Store,
+    told: &mut Told,
     out: &mut Store,
     into: &mut Store,
     old: &[Sym],

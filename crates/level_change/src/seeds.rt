@@ -4,9 +4,10 @@ ghost use Rattle.level_change.specs.Links.{level_at};
 ghost use Rattle.level_change.specs.Seeds.{is_cut, place_of, same_place, has_other_place, seeds_in};
 
 use crate::forgetting::has_level;
+use crate::levels::{LateLevels, Levels};
 use crate::links::has_link;
 use crate::passing::has_symbol;
-use crate::store::{Facts, Late, Store};
+use crate::store::Store;
 use crate::told::level_of;
 use soar_sym::{List, NoMemory, Sym, Triple, is_symbol};
 use std::alloc::Global;
@@ -14,8 +15,8 @@ use std::alloc::Global;
 /// What lost the link that gave its level, and the goals that come, go or move.
 pub fn seeds_of(
     alloc: Global,
-    levels: &Facts,
-    told: &Late,
+    levels: &Levels,
+    told: &LateLevels,
     links: &Store,
     old: &[Sym],
     gone: &[Triple],
@@ -32,8 +33,8 @@ pub fn seeds_of(
 /// The values that lost the link that gave their level.
 fn cut_off(
     alloc: Global,
-    levels: &Facts,
-    told: &Late,
+    levels: &Levels,
+    told: &LateLevels,
     links: &Store,
     goals: &[Sym],
     gone: &[Triple],
@@ -62,7 +63,7 @@ fn add_moved(old: &[Sym], new: &[Sym], goals: &[Sym], seeds: &mut List<Sym>) -> 
 }
 
 /// Whether the link of a triple is gone, and its value, which is no goal, has the level of its source.
-fn is_cut(levels: &Facts, told: &Late, links: &Store, goals: &[Sym], triple: Triple) -> bool
+fn is_cut(levels: &Levels, told: &LateLevels, links: &Store, goals: &[Sym], triple: Triple) -> bool
     ensures { result ≡ is_cut (level_at levels.now.entries told.now.entries) links.now goals.now triple }
 {
     if has_link(links, triple.id, triple.value) || has_symbol(goals, triple.value) {

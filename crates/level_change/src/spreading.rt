@@ -8,9 +8,10 @@ ghost use Rattle.level_change.specs.Links.{level_at, is_linked};
 ghost use Rattle.level_change.specs.Passing.{SpreadsBut, KeptBut, and_edges};
 
 use crate::forgetting::Had;
+use crate::levels::{LateLevels, Levels};
 use crate::links::{ends_of, has_link};
 use crate::passing::{pass_from, pass_on, pass_to};
-use crate::store::{Facts, Late, Store};
+use crate::store::Store;
 use crate::told::level_of;
 use soar_sym::{List, NoMemory, Sym, Triple};
 use std::alloc::Global;
@@ -18,8 +19,8 @@ use std::alloc::Global;
 /// Passes the levels of what waits on along the links, until nothing waits.
 pub fn spread(
     alloc: Global,
-    levels: &Facts,
-    told: &mut Late,
+    levels: &Levels,
+    told: &mut LateLevels,
     links: &Store,
     goals: &[Sym],
     waiting: &mut List<Sym>,
@@ -47,8 +48,8 @@ pub fn spread(
 
 /// Passes levels on along the links that came, as far as they are there.
 pub fn pass_come(
-    levels: &Facts,
-    told: &mut Late,
+    levels: &Levels,
+    told: &mut LateLevels,
     links: &Store,
     goals: &[Sym],
     come: &[Triple],
@@ -70,8 +71,8 @@ pub fn pass_come(
 /// Passes levels on to what was forgotten, along the links that lead there.
 pub fn pass_had(
     alloc: Global,
-    levels: &Facts,
-    told: &mut Late,
+    levels: &Levels,
+    told: &mut LateLevels,
     into: &Store,
     goals: &[Sym],
     had: &[Had],

@@ -4,5 +4,5 @@ use Rattle.level_change.proofs.graph.LevelGraph.new.Goals as goal
 
 pub returns : goal.returns
 returns c =
-    stands_of c.empty.result c.empty-2.result c.empty-3.result [] [] _ _ c.new.ensures
-    (empty_holds c.empty.result c.empty-2.result c.empty-3.result c.empty.ensures.base c.empty.ensures.late c.empty-2.ensures.base c.empty-2.ensures.late c.empty-3.ensures.base c.empty-3.ensures.late)
+    stands_of c.no_levels.result c.empty.result c.empty-2.result [] [] _ _ c.new.ensures
+    (empty_holds c.no_levels.result c.empty.result c.empty-2.result c.no_levels.ensures.base c.no_levels.ensures.late c.empty.ensures.base c.empty.ensures.late c.empty-2.ensures.base c.empty-2.ensures.late)
