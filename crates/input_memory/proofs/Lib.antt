@@ -1,6 +1,8 @@
 pub mod FirstLemmas
+pub mod IndexLemmas
 pub mod KeyLemmas
-pub mod MarkLemmas
-pub mod RangeLemmas
+pub mod OrderLemmas
+pub mod PartLemmas
+pub mod PlaceLemmas
 pub mod SortedLemmas
 pub mod StoreLemmas

@@ -1,3 +1,6 @@
-pub mod Places
+pub mod Key
+pub mod Numbered
+pub mod Order
+pub mod Place
 pub mod Plain
 pub mod Store

@@ -4,7 +4,7 @@
 mod index;
 mod inputs;
 mod key;
-mod places;
+mod place;
 mod store;
 
 pub use inputs::Inputs;

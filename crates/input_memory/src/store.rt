@@ -1,11 +1,12 @@
 // Triples by number, found by their keys.
 ghost use Rattle.std.specs.Prelude.{◌≡◌, ◌∷◌, ◌++◌, [], not, filter, OnOk, OnErr, IfOk};
-ghost use Rattle.std.specs.BTreeMap.{is_at};
+ghost use Rattle.std.specs.BTreeMap.{is_at, IsOrdered};
 ghost use Rattle.std.specs.List.{list_any};
 ghost use Rattle.std.specs.Map.{values_of, remove_entry};
 ghost use Rattle.std.specs.Ordering.{nat_cmp};
 ghost use Rattle.soar_sym.specs.Equality.{symbol_eq};
-ghost use Rattle.input_memory.specs.Store.{IsStore, is_of};
+ghost use Rattle.input_memory.specs.Key.{is_of};
+ghost use Rattle.input_memory.specs.Store.{IsStore};
 
 use crate::index::{self, Index};
 use crate::key::Key;
@@ -95,11 +96,7 @@ impl Store {
     pub fn all(&self, alloc: Global) -> Result<List<Triple>, NoMemory>
         ensures { IfOk result (λ all. all ≡ values_of self.now.triples.entries) }
     {
-        let mut all = List::new(alloc);
-        'triples: for triple in self.triples.values() {
-            all.push(*triple)?;
-        }
-        Ok(all)
+        copies(alloc, &self.triples)
     }
 
     /// Copies of the triples of an identifier, in order of adding.
@@ -107,6 +104,19 @@ impl Store {
         requires { IsStore self.now.triples.entries self.now.numbers self.now.next }
         ensures { IfOk result (λ found. found ≡ filter (λ t. symbol_eq t.id id) (values_of self.now.triples.entries)) }
     {
-        index::triples_of(alloc, &self.numbers, &self.triples, id)
+        let found = index::gather(alloc, &self.numbers, id)?;
+        copies(alloc, &found)
     }
+}
+
+/// Copies of triples, in order of number.
+fn copies(alloc: Global, triples: &BTreeMap<u64, Triple>) -> Result<List<Triple>, NoMemory>
+    ensures copies { IfOk result (λ all. all ≡ values_of triples.now.entries) }
+    ensures ordered { IsOrdered nat_cmp triples.now }
+{
+    let mut all = List::new(alloc);
+    'triples: for triple in triples.values() {
+        all.push(*triple)?;
+    }
+    Ok(all)
 }

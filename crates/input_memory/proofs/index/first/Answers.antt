@@ -1,16 +1,12 @@
-use Rattle.std.proofs.Common.{◌≡◌, ℕ, true, false, IfSome, IfNone, sym, subst}
-use Rattle.input_memory.specs.Store.{has}
-use Rattle.input_memory.specs.declared.key.Key.{Key}
+use Rattle.std.proofs.Common.{◌∙◌, sym}
+use Rattle.input_memory.proofs.IndexLemmas.{first_found, first_other, first_none}
 use Rattle.input_memory.proofs.index.first.Goals as goal
 
-pub returns-in-Id-clause-some : goal.returns-in-Id-clause-some
-returns-in-Id-clause-some c = subst (λ (key : Key). IfSome c.first.result (λ n. has c.args.index.now (key, n) ≡ true)) (sym c.in-Id.is) c.first.ensures.some
+pub returns-then-is_under-clause-some : goal.returns-then-is_under-clause-some
+returns-then-is_under-clause-some c = first_found c.args.key c.args.index.now c.range.result c.lowest.result c.lowest.ensures.place (c.range.ensures.in_range tt) _ _ c.in-Some.ensures.steps c.lowest.ensures.told (sym c.is_under.ensures ∙ c.if-is_under.true)
 
-pub returns-in-Id-clause-none : goal.returns-in-Id-clause-none
-returns-in-Id-clause-none c = subst (λ (key : Key). IfNone c.first.result ((n : ℕ) → has c.args.index.now (key, n) ≡ false)) (sym c.in-Id.is) c.first.ensures.none
+pub returns-else-is_under-clause-none : goal.returns-else-is_under-clause-none
+returns-else-is_under-clause-none c = first_other c.args.key c.args.index.now c.range.result c.lowest.result c.lowest.ensures.place (c.range.ensures.in_range tt) _ _ c.in-Some.ensures.steps (sym c.is_under.ensures ∙ c.if-is_under.false)
 
-pub returns-in-Whole-clause-some : goal.returns-in-Whole-clause-some
-returns-in-Whole-clause-some c = subst (λ (key : Key). IfSome c.first-in-Whole.result (λ n. has c.args.index.now (key, n) ≡ true)) (sym c.in-Whole.is) c.first-in-Whole.ensures.some
-
-pub returns-in-Whole-clause-none : goal.returns-in-Whole-clause-none
-returns-in-Whole-clause-none c = subst (λ (key : Key). IfNone c.first-in-Whole.result ((n : ℕ) → has c.args.index.now (key, n) ≡ false)) (sym c.in-Whole.is) c.first-in-Whole.ensures.none
+pub returns-in-None-clause-none : goal.returns-in-None-clause-none
+returns-in-None-clause-none c = first_none c.args.key c.args.index.now c.range.result c.lowest.result c.lowest.ensures.place (c.range.ensures.in_range tt) c.in-None.ensures.steps.0
