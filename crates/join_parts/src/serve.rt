@@ -15,6 +15,7 @@ ghost use Rattle.node_memory.specs.Runs.{front_while};
 use crate::join::{add_all_extended, add_by_one};
 use match_row::Row;
 use node_memory::{ElementIndex, Joined, Memory, Symbols, change, rows_with};
+use row_tags::RowTags;
 use soar_rule::{Atom, Pattern, Test};
 use soar_sym::{List, NoMemory, Sym};
 use soar_wm::Element;
@@ -121,7 +122,7 @@ pub fn come_to_join(
 /// Adds the tags of the rows of a map that are below these.
 fn add_below(
     alloc: Global,
-    rows: &BTreeMap<List<u32>, List<(u32, Sym)>>,
+    rows: &BTreeMap<RowTags, List<(u32, Sym)>>,
     front: &[u32],
     out: &mut Vec<List<u32>>,
 ) -> Result<(), NoMemory>
@@ -129,12 +130,12 @@ fn add_below(
     ensures ordered { OnOk result (IsOrdered (slice_cmp nat_cmp) rows.now) }
 {
     let _count = rows.len();
-    let least = List::from_slice(alloc, front)?;
+    let least = RowTags::of(alloc, front)?;
     'run: for (tags, _) in rows.range(least..) {
         if !tags.as_slice().starts_with(front) {
             break 'run;
         }
-        if tags.len() == front.len() + 1 {
+        if tags.as_slice().len() == front.len() + 1 {
             out.push(List::from_slice(alloc, tags.as_slice())?)?;
         }
     }
@@ -144,7 +145,7 @@ fn add_below(
 /// Adds the tags of the rows of a map that are below any of these.
 fn add_all_below(
     alloc: Global,
-    rows: &BTreeMap<List<u32>, List<(u32, Sym)>>,
+    rows: &BTreeMap<RowTags, List<(u32, Sym)>>,
     fronts: &[List<u32>],
     out: &mut Vec<List<u32>>,
 ) -> Result<(), NoMemory>
@@ -159,7 +160,7 @@ fn add_all_below(
 /// Adds the tags of the rows of a map that are below these, as a filter.
 fn add_below_all(
     alloc: Global,
-    rows: &BTreeMap<List<u32>, List<(u32, Sym)>>,
+    rows: &BTreeMap<RowTags, List<(u32, Sym)>>,
     front: &[u32],
     out: &mut Vec<List<u32>>,
 ) -> Result<(), NoMemory>

@@ -9,6 +9,7 @@ ghost use Rattle.negation_parts.specs.ServedNegation.{ServesNegation};
 
 use match_row::Row;
 use node_memory::{Memory, add_found, change};
+use row_tags::RowTags;
 use soar_sym::{List, NoMemory, Sym};
 use std::alloc::Global;
 use std::collections::BTreeMap;
@@ -16,14 +17,14 @@ use std::collections::BTreeMap;
 /// Whether a key begins with these tags: the first that is not below them tells.
 fn has_run(
     alloc: Global,
-    rows: &BTreeMap<List<u32>, List<(u32, Sym)>>,
+    rows: &BTreeMap<RowTags, List<(u32, Sym)>>,
     front: &[u32],
 ) -> Result<bool, NoMemory>
     ensures run { IfOk result (λ b. b ≡ first_begins front.now (entries_not_below front.now rows.now.entries)) }
     ensures ordered { OnOk result (IsOrdered (slice_cmp nat_cmp) rows.now) }
 {
     let _count = rows.len();
-    let least = List::from_slice(alloc, front)?;
+    let least = RowTags::of(alloc, front)?;
     'run: for (tags, _) in rows.range(least..) {
         return Ok(tags.as_slice().starts_with(front));
     }
@@ -33,7 +34,7 @@ fn has_run(
 /// Whether a key begins with these tags.
 fn blocks(
     alloc: Global,
-    rows: &BTreeMap<List<u32>, List<(u32, Sym)>>,
+    rows: &BTreeMap<RowTags, List<(u32, Sym)>>,
     front: &[u32],
 ) -> Result<bool, NoMemory>
     ensures { IfOk result (λ b. b ≡ is_blocked (rows_in rows.now.entries) front.now) }
@@ -45,7 +46,7 @@ fn blocks(
 /// Adds a copy of a row, unless a key begins with its tags.
 fn add_kept(
     alloc: Global,
-    inner: &BTreeMap<List<u32>, List<(u32, Sym)>>,
+    inner: &BTreeMap<RowTags, List<(u32, Sym)>>,
     row: &Row,
     out: &mut Vec<Row>,
 ) -> Result<(), NoMemory>
@@ -61,7 +62,7 @@ fn add_kept(
 /// Adds the rows of a list that no key begins with.
 pub fn add_all_kept(
     alloc: Global,
-    inner: &BTreeMap<List<u32>, List<(u32, Sym)>>,
+    inner: &BTreeMap<RowTags, List<(u32, Sym)>>,
     rows: &[Row],
     out: &mut Vec<Row>,
 ) -> Result<(), NoMemory>
@@ -84,7 +85,7 @@ fn front(tags: &[u32], n: usize) -> &[u32]
 /// Adds the row of n tags with which a list of tags begins.
 fn add_front(
     alloc: Global,
-    rows: &BTreeMap<List<u32>, List<(u32, Sym)>>,
+    rows: &BTreeMap<RowTags, List<(u32, Sym)>>,
     n: usize,
     tags: &[u32],
     out: &mut Vec<Row>,
@@ -98,7 +99,7 @@ fn add_front(
 /// The rows of n tags with which these lists of tags begin.
 fn all_fronts(
     alloc: Global,
-    rows: &BTreeMap<List<u32>, List<(u32, Sym)>>,
+    rows: &BTreeMap<RowTags, List<(u32, Sym)>>,
     n: usize,
     gone: &[List<u32>],
 ) -> Result<Vec<Row>, NoMemory>

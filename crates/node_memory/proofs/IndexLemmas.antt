@@ -18,7 +18,7 @@ use Rattle.node_memory.specs.declared.index.Marks.{Marks}
 use Rattle.node_memory.specs.contracts.key.ElementKeyOrd.TheImpl.Laws as laws
 use Rattle.node_memory.specs.Entries.{marks_of, element_at, elements_in}
 use Rattle.node_memory.specs.Keys.{key_cmp, key_of, meets, key_meets}
-use Rattle.node_memory.proofs.KeyLemmas.{sym_cmp}
+use Rattle.node_memory.specs.Packed.{sym_cmp}
 
 abbrev pub Keyed : Type 0
 Keyed = List (ElementKey × Marks)

@@ -10,17 +10,14 @@ use Rattle.std.proofs.lemmas.Bool.{and_parts}
 use Rattle.soar_sym.specs.Equality.{symbol_eq}
 use Rattle.soar_sym.specs.declared.symbol.Sym.{Sym}
 use Rattle.soar_sym.specs.declared.symbol.Sym.TheVariants.{Ident, Word, Int}
-use Rattle.soar_sym.specs.contracts.symbol.SymOrd.TheImpl as ord
 use Rattle.soar_sym.specs.contracts.symbol.SymOrd.TheImpl.Laws as laws
 use Rattle.soar_sym.proofs.KeyLemmas.{symbol_same, symbol_derived}
 use Rattle.node_memory.specs.declared.key.ElementKey.{ElementKey}
 use Rattle.node_memory.specs.declared.index.Marks.{Marks}
 use Rattle.node_memory.specs.Keys.{key_cmp, is_other, value_beside, key_meets, or_least, least_key, entries_from}
+use Rattle.node_memory.specs.Packed.{sym_cmp}
 use Rattle.node_memory.specs.Runs.{front_while}
 use Rattle.node_memory.proofs.RunLemmas.{run_is_filter}
-
-abbrev pub sym_cmp : Sym → Sym → Ordering
-sym_cmp = (ord.ghosts).cmp
 
 pub sym_total : IsTotalOrder sym_cmp
 sym_total = laws.total-law

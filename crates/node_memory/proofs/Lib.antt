@@ -5,5 +5,7 @@ pub mod HoldLemmas
 pub mod IndexLemmas
 pub mod KeyLemmas
 pub mod MemoryLemmas
+pub mod NumberLemmas
 pub mod RunLemmas
+pub mod SideLemmas
 pub mod SymbolLemmas

@@ -18,34 +18,18 @@ use Rattle.soar_sym.proofs.KeyLemmas.{symbol_same}
 use Rattle.node_memory.specs.declared.symbols.Joined.{Joined}
 use Rattle.node_memory.specs.declared.symbols.Symbols.{Symbols}
 use Rattle.node_memory.specs.declared.symbols.SymbolKey.{SymbolKey}
-use Rattle.node_memory.specs.contracts.symbols.JoinedOrd.TheImpl as variables
 use Rattle.node_memory.specs.contracts.symbols.JoinedOrd.TheImpl.Laws as variable_laws
-use Rattle.node_memory.specs.contracts.symbols.SymbolsOrd.TheImpl as meanings
 use Rattle.node_memory.specs.contracts.symbols.SymbolsOrd.TheImpl.Laws as meaning_laws
-use Rattle.node_memory.specs.contracts.symbols.SymbolKeyOrd.TheImpl.Laws as laws
-use Rattle.node_memory.specs.Symbols.{symbol_cmp, joined_eq, symbols_eq, is_of, least_of, from_least}
+use Rattle.node_memory.specs.Sides.{side_cmp, side_of, side_total, id_side, value_side}
+use Rattle.node_memory.specs.Symbols.{joined_cmp, joined_total, symbols_cmp, symbols_total, whole_cmp, symbol_cmp, symbol_total, joined_eq, symbols_eq, is_of, least_of, from_least}
 use Rattle.node_memory.specs.Runs.{front_while}
-use Rattle.node_memory.proofs.KeyLemmas.{sym_cmp, sym_tied, le_then, then_less}
+use Rattle.node_memory.specs.Packed.{sym_cmp}
+use Rattle.node_memory.proofs.KeyLemmas.{sym_tied, le_then, then_less}
 use Rattle.node_memory.proofs.RunLemmas.{run_is_filter}
-
-key_total : IsTotalOrder symbol_cmp
-key_total = laws.total-law
-
-abbrev joined_cmp : Joined → Joined → Ordering
-joined_cmp = (variables.ghosts).cmp
-
-joined_total : IsTotalOrder joined_cmp
-joined_total = variable_laws.total-law
-
-abbrev symbols_cmp : Symbols → Symbols → Ordering
-symbols_cmp = (meanings.ghosts).cmp
-
-symbols_total : IsTotalOrder symbols_cmp
-symbols_total = meaning_laws.total-law
 
 -- ---- keys that compare equal are one
 
-then_parts : (o q : Ordering) → ordering_then o q ≡ Equal → (o ≡ Equal) × (q ≡ Equal)
+pub then_parts : (o q : Ordering) → ordering_then o q ≡ Equal → (o ≡ Equal) × (q ≡ Equal)
 then_parts Less q h = absurd (cc)
 then_parts Equal q h = (refl, h)
 then_parts Greater q h = absurd (cc)
@@ -82,14 +66,20 @@ tags_tied [] (n ∷ u) h = absurd (cc)
 tags_tied (m ∷ t) [] h = absurd (cc)
 tags_tied (m ∷ t) (n ∷ u) h = (let p = then_parts (nat_cmp m n) (slice_cmp nat_cmp t u) h in ap₂ (λ x xs. x ∷ xs) (number_tied m n p.0) (tags_tied t u p.1))
 
-pub key_tied : (a b : SymbolKey) → symbol_cmp a b ≡ Equal → a ≡ b
-key_tied a b h =
+whole_tied : (a b : SymbolKey) → whole_cmp a b ≡ Equal → a ≡ b
+whole_tied a b h =
     let p = then_parts (joined_cmp a.joined b.joined) _ h in
     let q = then_parts (symbols_cmp a.symbols b.symbols) (slice_cmp nat_cmp a.tags b.tags) p.1 in
     let v = joined_tied a.joined b.joined p.0 in
     let s = symbols_tied a.symbols b.symbols q.0 in
     let t = tags_tied a.tags b.tags q.1 in
     λ i. record { joined = v i; symbols = s i; tags = t i }
+
+pub key_tied : (a b : SymbolKey) → symbol_cmp a b ≡ Equal → a ≡ b
+key_tied a b h =
+    let p = then_parts (side_cmp (id_side a) (id_side b)) (ordering_then (side_cmp (value_side a) (value_side b)) (whole_cmp a b)) h in
+    let q = then_parts (side_cmp (value_side a) (value_side b)) (whole_cmp a b) p.1 in
+    whole_tied a b q.1
 
 pub equal_told : (o : Ordering) → is_eq o ≡ true → o ≡ Equal
 equal_told Equal h = refl
@@ -120,11 +110,26 @@ nothing_below : (t : List ℕ) → is_le (slice_cmp nat_cmp [] t) ≡ true
 nothing_below [] = refl
 nothing_below (n ∷ t) = refl
 
-starts : (j : Joined) (s : Symbols) (k : SymbolKey) → is_of j s k ≡ true → is_le (symbol_cmp (least_of j s) k) ≡ true
-starts j s k h =
+whole_starts : (j : Joined) (s : Symbols) (k : SymbolKey) → is_of j s k ≡ true → is_le (whole_cmp (least_of j s) k) ≡ true
+whole_starts j s k h =
     let p = and_parts (joined_eq k.joined j) (symbols_eq k.symbols s) h in
     ap (λ o. is_le (ordering_then o (ordering_then (symbols_cmp s k.symbols) (slice_cmp nat_cmp [] k.tags)))) (joined_at j k.joined p.0)
     ∙ ap (λ o. is_le (ordering_then o (slice_cmp nat_cmp [] k.tags))) (symbols_at s k.symbols p.1) ∙ nothing_below k.tags
+
+id_at : (j : Joined) (s : Symbols) (k : SymbolKey) → is_of j s k ≡ true → side_cmp (side_of j.id s.id) (id_side k) ≡ Equal
+id_at j s k h =
+    let p = and_parts (joined_eq k.joined j) (symbols_eq k.symbols s) h in
+    ap₂ (λ (x : Joined) (y : Symbols). side_cmp (side_of j.id s.id) (side_of x.id y.id)) (joined_told k.joined j p.0) (symbols_told k.symbols s p.1) ∙ tied_itself side_total (side_of j.id s.id)
+
+value_at : (j : Joined) (s : Symbols) (k : SymbolKey) → is_of j s k ≡ true → side_cmp (side_of j.value s.value) (value_side k) ≡ Equal
+value_at j s k h =
+    let p = and_parts (joined_eq k.joined j) (symbols_eq k.symbols s) h in
+    ap₂ (λ (x : Joined) (y : Symbols). side_cmp (side_of j.value s.value) (side_of x.value y.value)) (joined_told k.joined j p.0) (symbols_told k.symbols s p.1) ∙ tied_itself side_total (side_of j.value s.value)
+
+starts : (j : Joined) (s : Symbols) (k : SymbolKey) → is_of j s k ≡ true → is_le (symbol_cmp (least_of j s) k) ≡ true
+starts j s k h =
+    ap (λ o. is_le (ordering_then o (ordering_then (side_cmp (side_of j.value s.value) (value_side k)) (whole_cmp (least_of j s) k)))) (id_at j s k h) ∙ ap (λ o. is_le (ordering_then o (whole_cmp (least_of j s) k))) (value_at j s k h)
+    ∙ whole_starts j s k h
 
 -- what lies between equals is equal to them
 pub between : {K : Type 0} (R : K → K → Ordering) → IsTotalOrder R → (a h k : K) (o q : Ordering) → R a k ≡ Equal → is_le (ordering_then (R a h) o) ≡ true → ordering_then (R h k) q ≡ Less
@@ -140,12 +145,18 @@ between R total a h k o q same low high = go (le_then (R a h) o low) (then_less 
     go (inr e) (inl below) = (let bad : Equal ≡ Greater = sym e.0 ∙ turn ∙ ap ordering_reverse below in absurd (cc))
     go (inr e) (inr f) = (e.0, e.1, f.1)
 
-no_gap : (j : Joined) (s : Symbols) (h k : SymbolKey) → is_le (symbol_cmp (least_of j s) h) ≡ true → symbol_cmp h k ≡ Less → is_of j s k ≡ true → is_of j s h ≡ true
-no_gap j s h k low high passes =
+whole_gap : (j : Joined) (s : Symbols) (h k : SymbolKey) → is_le (whole_cmp (least_of j s) h) ≡ true → whole_cmp h k ≡ Less → is_of j s k ≡ true → is_of j s h ≡ true
+whole_gap j s h k low high passes =
     let p = and_parts (joined_eq k.joined j) (symbols_eq k.symbols s) passes in
     let b = between joined_cmp joined_total j h.joined k.joined _ _ (joined_at j k.joined p.0) low high in
     let c = between symbols_cmp symbols_total s h.symbols k.symbols _ _ (symbols_at s k.symbols p.1) b.1 b.2 in
     ap₂ (λ x y. x && y) (ap (λ x. joined_eq x j) (sym (joined_tied j h.joined b.0)) ∙ joined_itself j) (ap (λ x. symbols_eq x s) (sym (symbols_tied s h.symbols c.0)) ∙ symbols_itself s)
+
+no_gap : (j : Joined) (s : Symbols) (h k : SymbolKey) → is_le (symbol_cmp (least_of j s) h) ≡ true → symbol_cmp h k ≡ Less → is_of j s k ≡ true → is_of j s h ≡ true
+no_gap j s h k low high passes =
+    let b = between side_cmp side_total (side_of j.id s.id) (id_side h) (id_side k) _ _ (id_at j s k passes) low high in
+    let c = between side_cmp side_total (side_of j.value s.value) (value_side h) (value_side k) _ _ (value_at j s k passes) b.1 b.2 in
+    whole_gap j s h k c.1 c.2 passes
 
 -- the walk finds exactly the entries of the variables and what they stand for
 pub run_of_symbols : {X : Type 0} (j : Joined) (s : Symbols) (es : List (SymbolKey × X)) → IsStrictlySortedBy symbol_cmp (keys_of es)
@@ -185,7 +196,7 @@ above_all (p ∷ es) k x above (inl e) = ap (symbol_cmp k) (sym e) ∙ above.0
 above_all (p ∷ es) k x above (inr h) = above_all es k x above.1 h
 
 itself : (k h : SymbolKey) → k ≡ h → symbol_cmp k h ≡ Equal
-itself k h same = ap (symbol_cmp k) (sym same) ∙ tied_itself key_total k
+itself k h same = ap (symbol_cmp k) (sym same) ∙ tied_itself symbol_total k
 
 pub in_removed : {X : Type 0} (es : List (SymbolKey × X)) (k x : SymbolKey) → IsStrictlySortedBy symbol_cmp (keys_of es) → IsIn x (keys_of (remove_entry (is_at (symbol_cmp k)) es)) ↔ (IsIn x (keys_of es) × (k ≢ x))
 in_removed [] k x s = ((λ h. absurd h), λ h. absurd (h.0))

@@ -5,4 +5,5 @@ pub mod Keys
 pub mod Memories
 pub mod Packed
 pub mod Runs
+pub mod Sides
 pub mod Symbols

@@ -10,6 +10,7 @@ ghost use Rattle.node_memory.specs.Symbols.{SymbolKeyOf};
 use crate::memory::{Memory, add_key};
 use crate::symbols::{Joined, SymbolIndex};
 use match_row::Row;
+use row_tags::RowTags;
 use soar_sym::{List, NoMemory, Sym};
 use std::alloc::Global;
 use std::collections::BTreeMap;
@@ -17,7 +18,7 @@ use std::collections::BTreeMap;
 /// All rows of a map.
 pub fn all_rows(
     alloc: Global,
-    rows: &BTreeMap<List<u32>, List<(u32, Sym)>>,
+    rows: &BTreeMap<RowTags, List<(u32, Sym)>>,
 ) -> Result<Vec<Row>, NoMemory>
     ensures rows { IfOk result (λ v. v.items ≡ rows_in rows.now.entries) }
     ensures ordered { OnOk result (IsOrdered (slice_cmp nat_cmp) rows.now) }

@@ -4,8 +4,10 @@ ghost use Rattle.std.specs.Cmp.{eq_by_cmp_equiv, partial_equiv_from_equiv, parti
 ghost use Rattle.std.specs.Ordering.{eq_by_cmp};
 ghost use Rattle.node_memory.specs.contracts.key.ElementKeyOrd.TheImpl.Laws as key_laws;
 ghost use Rattle.node_memory.specs.Keys.{key_cmp};
-ghost use Rattle.node_memory.specs.Packed.{attributes_cmp, key_with, kind_of, symbol_at, values_cmp};
+ghost use Rattle.node_memory.specs.Packed.{attributes_cmp, key_with, rank_of, sym_cmp, values_cmp};
+ghost use Rattle.packed_triples.specs.Packed.{IsExact, symbol_at};
 
+use packed_triples::{Kind, kind_of, number_of, symbol_at};
 use soar_sym::Sym;
 use std::cmp::Ordering;
 use std::marker::Model;
@@ -19,15 +21,7 @@ pub struct ElementKey {
     pub tag: u32,
 }
 
-/// Which of the three a symbol is.
-#[derive(Clone, Copy)]
-pub enum Kind {
-    Identifier,
-    Name,
-    Integer,
-}
-
-/// The key of an element in 32 bytes: each symbol is a number with its kind.
+/// The key of an element in 32 bytes: each symbol is a number with its kind, by which keys compare.
 #[derive(Drop)]
 pub struct PackedKey {
     id: i64,
@@ -44,13 +38,40 @@ const _: () = prove!(size_of::<PackedKey>() == 32);
 impl Model for PackedKey {
     ghost use Rattle.node_memory.specs.contracts.key.ElementKey as key;
     ghost use Rattle.node_memory.specs.declared.key.ElementKey.{ElementKey as KeyOf};
-    ghost use Rattle.node_memory.specs.Packed.{key_with, symbol_at};
+    ghost use Rattle.node_memory.specs.Packed.{key_with};
+    ghost use Rattle.packed_triples.specs.Packed.{IsExact, symbol_at};
 
     ghost Value = { KeyOf };
 
     ghost coded = { key.the_row.coded };
 
     ghost view = { λ k. key_with (symbol_at k.id_kind k.id) (symbol_at k.attr_kind k.attr) (symbol_at k.value_kind k.value) k.tag };
+
+    ghost invariant = { λ k. IsExact k.id_kind k.id × IsExact k.attr_kind k.attr × IsExact k.value_kind k.value };
+}
+
+/// The place of a kind in the order of symbols.
+fn rank_of(kind: Kind) -> u8
+    ensures { result ≡ rank_of kind }
+{
+    match kind {
+        Kind::Identifier => 0,
+        Kind::Name => 1,
+        Kind::Integer => 2,
+    }
+}
+
+/// How two symbols compare: as their kinds, and those of one kind as their numbers.
+#[tactic(auto, using(crate::proofs::NumberLemmas::told_by_numbers))]
+fn cmp_symbols(kind: Kind, number: i64, other_kind: Kind, other: i64) -> Ordering
+    requires first { IsExact kind number }
+    requires second { IsExact other_kind other }
+    ensures { result ≡ sym_cmp (symbol_at kind number) (symbol_at other_kind other) }
+{
+    match rank_of(kind).cmp(&rank_of(other_kind)) {
+        Ordering::Equal => number.cmp(&other),
+        order => order,
+    }
 }
 
 impl PackedKey {
@@ -85,8 +106,7 @@ impl PackedKey {
     fn cmp_attributes(&self, other: &PackedKey) -> Ordering
         ensures { result ≡ attributes_cmp self.now other.now }
     {
-        let attr = symbol_at(self.attr_kind, self.attr);
-        match attr.cmp(&symbol_at(other.attr_kind, other.attr)) {
+        match cmp_symbols(self.attr_kind, self.attr, other.attr_kind, other.attr) {
             Ordering::Equal => self.cmp_values(other),
             order => order,
         }
@@ -96,8 +116,7 @@ impl PackedKey {
     fn cmp_values(&self, other: &PackedKey) -> Ordering
         ensures { result ≡ values_cmp self.now other.now }
     {
-        let value = symbol_at(self.value_kind, self.value);
-        match value.cmp(&symbol_at(other.value_kind, other.value)) {
+        match cmp_symbols(self.value_kind, self.value, other.value_kind, other.value) {
             Ordering::Equal => self.tag.cmp(&other.tag),
             order => order,
         }
@@ -138,47 +157,9 @@ impl Ord for PackedKey {
     ghost matches_eq = { λ x y. refl };
 
     fn cmp(&self, other: &PackedKey) -> Ordering {
-        let id = symbol_at(self.id_kind, self.id);
-        match id.cmp(&symbol_at(other.id_kind, other.id)) {
+        match cmp_symbols(self.id_kind, self.id, other.id_kind, other.id) {
             Ordering::Equal => self.cmp_attributes(other),
             order => order,
         }
-    }
-}
-
-/// Which of the three a symbol is.
-fn kind_of(symbol: Sym) -> Kind
-    ensures { result ≡ kind_of symbol }
-{
-    match symbol {
-        Sym::Ident { .. } => Kind::Identifier,
-        Sym::Word(_) => Kind::Name,
-        Sym::Int(_) => Kind::Integer,
-    }
-}
-
-/// The number of a symbol, which tells it from all others of its kind: of an identifier 2^32 times its letter, and its number.
-fn number_of(symbol: Sym) -> i64
-    ensures { symbol_at (kind_of symbol) result ≡ symbol }
-{
-    match symbol {
-        Sym::Ident { letter, number } => (letter as u64 * 4294967296 + number as u64) as i64,
-        Sym::Word(word) => word as i64,
-        Sym::Int(value) => value,
-    }
-}
-
-/// The symbol of a kind and a number.
-fn symbol_at(kind: Kind, number: i64) -> Sym
-    ensures { result ≡ symbol_at kind number }
-{
-    let size = number.unsigned_abs();
-    match kind {
-        Kind::Identifier => Sym::Ident {
-            letter: (size / 4294967296 % 256) as u8,
-            number: (size % 4294967296) as u32,
-        },
-        Kind::Name => Sym::Word((size % 4294967296) as u32),
-        Kind::Integer => Sym::Int(number),
     }
 }

@@ -10,8 +10,10 @@ ghost use Rattle.node_memory.specs.Changes.{RowsChange, OneEach};
 ghost use Rattle.node_memory.specs.Held.{Holds};
 ghost use Rattle.node_memory.specs.Symbols.{SymbolKeyOf};
 
-use crate::symbols::{Joined, SymbolIndex, SymbolKey, Symbols};
+use crate::packed::PackedSymbolKey;
+use crate::symbols::{Joined, SymbolIndex, Symbols};
 use match_row::{Row, symbol_of};
+use row_tags::RowTags;
 use soar_sym::{List, NoMemory, Sym};
 use std::alloc::Global;
 use std::collections::BTreeMap;
@@ -19,7 +21,7 @@ use std::collections::BTreeMap;
 /// The rows of a node: by tags, and for the variables on which each node below joins by what they stand for.
 #[derive(Drop)]
 pub struct Memory {
-    pub rows: BTreeMap<List<u32>, List<(u32, Sym)>>,
+    pub rows: BTreeMap<RowTags, List<(u32, Sym)>>,
     pub index: SymbolIndex,
     pub joined: Vec<Joined>,
 }
@@ -33,7 +35,7 @@ pub fn add_key(
 ) -> Result<(), NoMemory>
     ensures { OnOk result ((k : SymbolKeyOf) → IsIn k index.new ↔ ((key_for joined row.now ≡ k) ⊎ IsIn k index.old)) }
 {
-    let tags = List::from_slice(alloc, row.tags())?;
+    let tags = RowTags::of(alloc, row.tags())?;
     index.add(key_of(joined, tags, row.bindings()))?;
     Ok(())
 }
@@ -64,43 +66,33 @@ fn symbol_in(variable: Option<u32>, bindings: &[(u32, Sym)]) -> Option<Sym>
 }
 
 /// The key of a row for variables. It takes no memory.
-fn key_of(joined: Joined, tags: List<u32>, bindings: &[(u32, Sym)]) -> SymbolKey
+fn key_of(joined: Joined, tags: RowTags, bindings: &[(u32, Sym)]) -> PackedSymbolKey
     ensures { result ≡ key_for joined (record { tags = tags; bindings = bindings.now }) }
 {
     let symbols = Symbols {
         id: symbol_in(joined.id, bindings),
         value: symbol_in(joined.value, bindings),
     };
-    SymbolKey {
-        joined,
-        symbols,
-        tags,
-    }
+    PackedSymbolKey::new(joined, symbols, tags)
 }
 
 /// Takes the key of a row for variables out, and answers the tags. It takes no memory.
 fn remove_key(
     index: &mut SymbolIndex,
     joined: Joined,
-    tags: List<u32>,
+    tags: RowTags,
     bindings: &[(u32, Sym)],
-) -> List<u32>
+) -> RowTags
     ensures tags { result ≡ tags }
     ensures index { (k : SymbolKeyOf) → IsIn k index.new ↔ (IsIn k index.old × (key_for joined (record { tags = tags; bindings = bindings.now }) ≢ k)) }
 {
     let key = key_of(joined, tags, bindings);
     index.remove(&key);
-    let SymbolKey { tags, .. } = key;
-    tags
+    key.into_tags()
 }
 
 /// Takes the keys of a row for all these variables out. It takes no memory.
-fn remove_keys(
-    index: &mut SymbolIndex,
-    all: &[Joined],
-    mut tags: List<u32>,
-    bindings: &[(u32, Sym)],
-)
+fn remove_keys(index: &mut SymbolIndex, all: &[Joined], mut tags: RowTags, bindings: &[(u32, Sym)])
     ensures { (k : SymbolKeyOf) → IsIn k index.new ↔ (IsIn k index.old × (IsIn k (keys_for all.now (record { tags = tags; bindings = bindings.now })) → ⊥)) }
 {
     'all: for joined in all {
@@ -115,7 +107,7 @@ pub fn put(alloc: Global, memory: &mut Memory, row: &Row) -> Result<(), NoMemory
     ensures joined { OnOk result (memory.new.joined.items ≡ memory.old.joined.items) }
     ensures indexed { OnOk result (IsIndexed memory.new.joined.items (get (slice_cmp nat_cmp) memory.new.rows) memory.new.index) }
 {
-    let tags = List::from_slice(alloc, row.tags())?;
+    let tags = RowTags::of(alloc, row.tags())?;
     if memory.rows.contains_key(&tags) {
         return Ok(());
     }
@@ -126,7 +118,7 @@ pub fn put(alloc: Global, memory: &mut Memory, row: &Row) -> Result<(), NoMemory
 }
 
 /// Takes the row of these tags away, where there is one. It takes no memory.
-pub fn take(memory: &mut Memory, tags: List<u32>)
+pub fn take(memory: &mut Memory, tags: RowTags)
     requires indexed { IsIndexed memory.old.joined.items (get (slice_cmp nat_cmp) memory.old.rows) memory.old.index }
     ensures found { (q : ListOf ℕ) → get (slice_cmp nat_cmp) memory.new.rows q ≡ taken_at tags (get (slice_cmp nat_cmp) memory.old.rows) q }
     ensures joined { memory.new.joined.items ≡ memory.old.joined.items }
@@ -142,34 +134,47 @@ pub fn take(memory: &mut Memory, tags: List<u32>)
     }
 }
 
+/// Adds the row under these tags, where there is one. The tags become those of the row.
+fn add_row(
+    alloc: Global,
+    rows: &BTreeMap<RowTags, List<(u32, Sym)>>,
+    tags: List<u32>,
+    out: &mut Vec<Row>,
+) -> Result<(), NoMemory>
+    ensures { OnOk result (out.new.items ≡ out.old.items ++ row_found tags (get (slice_cmp nat_cmp) rows.now tags)) }
+{
+    let tags = RowTags::new(tags);
+    if let Some(bindings) = rows.get(&tags) {
+        let bindings = List::from_slice(alloc, bindings.as_slice())?;
+        out.push(Row::new(tags.into_list(), bindings))?;
+    }
+    Ok(())
+}
+
 /// Adds the row under these tags, where there is one.
 pub fn add_found(
     alloc: Global,
-    rows: &BTreeMap<List<u32>, List<(u32, Sym)>>,
+    rows: &BTreeMap<RowTags, List<(u32, Sym)>>,
     tags: &List<u32>,
     out: &mut Vec<Row>,
 ) -> Result<(), NoMemory>
     ensures { OnOk result (out.new.items ≡ out.old.items ++ row_found tags.now (get (slice_cmp nat_cmp) rows.now tags.now)) }
 {
-    if let Some(bindings) = rows.get(tags) {
-        let tags = List::from_slice(alloc, tags.as_slice())?;
-        let bindings = List::from_slice(alloc, bindings.as_slice())?;
-        out.push(Row::new(tags, bindings))?;
-    }
-    Ok(())
+    let tags = List::from_slice(alloc, tags.as_slice())?;
+    add_row(alloc, rows, tags, out)
 }
 
 /// The rows under these tags.
 fn rows_at(
     alloc: Global,
-    rows: &BTreeMap<List<u32>, List<(u32, Sym)>>,
-    all: &[List<u32>],
+    rows: &BTreeMap<RowTags, List<(u32, Sym)>>,
+    all: Vec<List<u32>>,
 ) -> Result<Vec<Row>, NoMemory>
-    ensures { IfOk result (λ v. v.items ≡ flat_map (λ t. row_found t (get (slice_cmp nat_cmp) rows.now t)) all.now) }
+    ensures { IfOk result (λ v. v.items ≡ flat_map (λ t. row_found t (get (slice_cmp nat_cmp) rows.now t)) all.items) }
 {
     let mut out = Vec::new(alloc);
     'all: for tags in all {
-        add_found(alloc, rows, tags, &mut out)?;
+        add_row(alloc, rows, tags, &mut out)?;
     }
     Ok(out)
 }
@@ -186,7 +191,7 @@ pub fn rows_with(
     ensures { IfOk result (λ v. (x : RowOf) → IsIn x v.items ↔ (has (get (slice_cmp nat_cmp) memory.now.rows) x × (symbols_in joined x.bindings ≡ symbols))) }
 {
     let all = memory.index.with_symbols(alloc, joined, symbols)?;
-    rows_at(alloc, &memory.rows, all.as_slice())
+    rows_at(alloc, &memory.rows, all)
 }
 
 /// Takes the rows of these tags away.
@@ -197,7 +202,7 @@ fn take_all(alloc: Global, memory: &mut Memory, gone: &[List<u32>]) -> Result<()
     ensures indexed { OnOk result (IsIndexed memory.new.joined.items (get (slice_cmp nat_cmp) memory.new.rows) memory.new.index) }
 {
     'gone: for tags in gone {
-        let tags = List::from_slice(alloc, tags.as_slice())?;
+        let tags = RowTags::of(alloc, tags.as_slice())?;
         take(memory, tags);
     }
     Ok(())

@@ -6,6 +6,8 @@ ghost use Rattle.defs_match.specs.Laws.{IsIn};
 ghost use Rattle.node_memory.specs.Runs.{front_while};
 ghost use Rattle.node_memory.specs.Symbols.{SymbolKeyOf, symbol_cmp, is_of, least_of, from_least};
 
+use crate::packed::PackedSymbolKey;
+use row_tags::RowTags;
 use soar_sym::{List, NoMemory, Sym};
 use std::alloc::Global;
 use std::collections::BTreeMap;
@@ -26,18 +28,18 @@ pub struct Symbols {
 }
 
 /// What variables stand for in the row of these tags.
-#[derive(Drop, PartialEq, Eq, PartialOrd, Ord)]
+#[derive(Drop)]
 pub struct SymbolKey {
     pub joined: Joined,
     pub symbols: Symbols,
-    pub tags: List<u32>,
+    pub tags: RowTags,
 }
 
 /// The tags of rows, by variables and what they stand for. What one change costs grows with the logarithm of their number,
 /// and what a look-up costs with that and what it finds.
 #[derive(Drop)]
 pub struct SymbolIndex {
-    keys: BTreeMap<SymbolKey, ()>,
+    keys: BTreeMap<PackedSymbolKey, ()>,
 }
 
 impl Model for SymbolIndex {
@@ -50,17 +52,10 @@ impl Model for SymbolIndex {
     ghost view = { λ a. keys_of a.keys.entries };
 }
 
-/// Whether a key is of these variables and of what they stand for.
-fn is_of(key: &SymbolKey, joined: Joined, symbols: Symbols) -> bool
-    ensures { result ≡ is_of joined symbols key.now }
-{
-    key.joined == joined && key.symbols == symbols
-}
-
 /// The tags under these variables and what they stand for, by a walk over their keys.
 fn run_of(
     alloc: Global,
-    keys: &BTreeMap<SymbolKey, ()>,
+    keys: &BTreeMap<PackedSymbolKey, ()>,
     joined: Joined,
     symbols: Symbols,
 ) -> Result<Vec<List<u32>>, NoMemory>
@@ -69,16 +64,13 @@ fn run_of(
 {
     let _count = keys.len();
     let mut out = Vec::new(alloc);
-    let least = SymbolKey {
-        joined,
-        symbols,
-        tags: List::new(alloc),
-    };
+    let asked = PackedSymbolKey::new(joined, symbols, RowTags::new(List::new(alloc)));
+    let least = PackedSymbolKey::new(joined, symbols, RowTags::new(List::new(alloc)));
     'run: for (key, _) in keys.range(least..) {
-        if !is_of(key, joined, symbols) {
+        if !key.is_beside(&asked) {
             break 'run;
         }
-        out.push(List::from_slice(alloc, key.tags.as_slice())?)?;
+        out.push(List::from_slice(alloc, key.tags().as_slice())?)?;
     }
     Ok(out)
 }
@@ -106,7 +98,7 @@ impl SymbolIndex {
     }
 
     /// Takes in a key.
-    pub fn add(&mut self, key: SymbolKey) -> Result<(), NoMemory>
+    pub fn add(&mut self, key: PackedSymbolKey) -> Result<(), NoMemory>
         ensures ok { OnOk result ((x : SymbolKeyOf) → IsIn x self.new ↔ ((key ≡ x) ⊎ IsIn x self.old)) }
         ensures err { OnErr result (self.new ≡ self.old) }
     {
@@ -115,7 +107,7 @@ impl SymbolIndex {
     }
 
     /// Takes a key out.
-    pub fn remove(&mut self, key: &SymbolKey)
+    pub fn remove(&mut self, key: &PackedSymbolKey)
         ensures { (x : SymbolKeyOf) → IsIn x self.new ↔ (IsIn x self.old × (key.now ≢ x)) }
     {
         let _count = self.keys.len();

@@ -18,6 +18,7 @@ use join_parts::come_to_join;
 use match_row::Row;
 use negation_parts::add_all_kept;
 use node_memory::{ElementIndex, Memory, all_rows, filled};
+use row_tags::RowTags;
 use slab::Slab;
 use soar_rule::Pattern;
 use soar_sym::{List, NoMemory, Sym};
@@ -60,7 +61,7 @@ fn fill_join(
 /// The rows with which no row of a map begins.
 fn kept_of(
     alloc: Global,
-    inner: &BTreeMap<List<u32>, List<(u32, Sym)>>,
+    inner: &BTreeMap<RowTags, List<(u32, Sym)>>,
     rows: &[Row],
 ) -> Result<Vec<Row>, NoMemory>
     ensures { IfOk result (λ v. v.items ≡ kept (rows_in inner.now.entries) rows.now) }

@@ -15,6 +15,7 @@ ghost use Rattle.node_table.specs.Serving.{found};
 use defs_match::Instance;
 use match_row::Row;
 use node_memory::Memory;
+use row_tags::RowTags;
 use soar_sym::{List, NoMemory, Sym};
 use std::alloc::Global;
 use std::collections::BTreeMap;
@@ -22,7 +23,7 @@ use std::collections::BTreeMap;
 /// Adds the instance of a row.
 fn add_token(
     alloc: Global,
-    tags: &List<u32>,
+    tags: &RowTags,
     bindings: &List<(u32, Sym)>,
     out: &mut List<Instance>,
 ) -> Result<(), NoMemory>
@@ -42,7 +43,7 @@ fn add_token(
 /// The instances of all rows of a map.
 fn all_tokens(
     alloc: Global,
-    rows: &BTreeMap<List<u32>, List<(u32, Sym)>>,
+    rows: &BTreeMap<RowTags, List<(u32, Sym)>>,
 ) -> Result<List<Instance>, NoMemory>
     ensures tokens { IfOk result (λ v. v ≡ map (instance_of 0) (rows_in rows.now.entries)) }
     ensures ordered { OnOk result (IsOrdered (slice_cmp nat_cmp) rows.now) }

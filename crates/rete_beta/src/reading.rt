@@ -17,6 +17,7 @@ use defs_match::{Instance, negation_keeps};
 use match_row::Row;
 use node_memory::add_found;
 use node_table::{Node, tokens};
+use row_tags::RowTags;
 use slab::Slab;
 use soar_sym::{List, NoMemory, Sym};
 use std::alloc::Global;
@@ -38,7 +39,7 @@ pub fn tokens_at(alloc: Global, net: &Network, n: usize) -> Result<List<Instance
 /// The row of these tags as an instance of rule 0, where it is found.
 fn instance_at(
     alloc: Global,
-    rows: &BTreeMap<List<u32>, List<(u32, Sym)>>,
+    rows: &BTreeMap<RowTags, List<(u32, Sym)>>,
     tags: &List<u32>,
 ) -> Result<Option<Instance>, NoMemory>
     ensures { IfOk result (λ i. i ≡ option_map (λ bindings. instance_of 0 (record { tags = tags.now; bindings = bindings })) (found.get (slice_cmp nat_cmp) rows.now tags.now)) }

@@ -15,5 +15,5 @@ returns c =
     (λ v same x.
     let found = get (slice_cmp nat_cmp) c.args.memory.now.rows in
     subst (λ (rs : List Row). IsIn x rs ↔ (has found x × (symbols_in c.args.joined x.bindings ≡ c.args.symbols)))
-    (sym (same ∙ ap (flat_map (λ t. row_found t (found t))) (c.as_slice.ensures.value ∙ c.in_ok-all.ensures)))
+    (sym (same ∙ ap (flat_map (λ t. row_found t (found t))) c.in_ok-all.ensures))
     (rows_with c.args.memory.now.joined.items found c.args.memory.now.index c.args.joined c.args.symbols c.requires.indexed c.requires.joined x)) c.rows_at.ensures
