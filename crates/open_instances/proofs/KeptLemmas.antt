@@ -4,6 +4,7 @@ use Rattle.std.specs.BTreeMap as map
 use Rattle.std.specs.BTreeMap.{BTreeMap}
 use Rattle.std.specs.BTreeSet as set
 use Rattle.std.specs.BTreeSet.{BTreeSet}
+use Rattle.std.specs.HashMap as table
 use Rattle.std.specs.List.{list_any}
 use Rattle.std.specs.Map.{keys_of, lookup}
 use Rattle.defs_match.specs.Laws.{IsIn}
@@ -12,6 +13,8 @@ use Rattle.match_changes.specs.Told.{AreTold, IsTheOne, key_of}
 use Rattle.match_changes.specs.declared.key.MatchKey.{MatchKey}
 use Rattle.open_instances.specs.Keeping.{AreLooked, AreLookedBut, Fits, IsLookedIn, gone_of, open_of}
 use Rattle.open_instances.specs.Keys.{alike, count_in, key_cmp}
+use Rattle.open_instances.specs.Noted as noted
+use Rattle.open_instances.specs.Noted.{NotedKeys}
 use Rattle.open_instances.specs.declared.kept.Kept.{Kept}
 use Rattle.open_instances.proofs.KeyLemmas.{alike_back, alike_by, alike_same, in_any}
 
@@ -29,8 +32,8 @@ stays_one : (before after : List Instance) (keys : List MatchKey) (q : MatchKey)
 stays_one before after keys q None told apart one = λ i h e. one i ((told i (λ k. apart (subst (λ r. IsIn r keys) e k))).1 h) e
 stays_one before after keys q (Some i) told apart one = ((told i (λ k. apart (subst (λ r. IsIn r keys) one.1 k))).0 one.0, one.1)
 
-pub told_fits : (old : Kept) (touched : BTreeSet MatchKey) (keys : List MatchKey)
-    → ((q : MatchKey) → set.contains key_cmp touched q ≡ (list_any (λ k. alike k q) keys || set.contains key_cmp old.touched q))
+pub told_fits : (old : Kept) (touched : NotedKeys) (keys : List MatchKey)
+    → ((q : MatchKey) → noted.contains key_cmp touched q ≡ (list_any (λ k. alike k q) keys || noted.contains key_cmp old.touched q))
     → (before after : List Instance) → AreTold before after keys → Fits before old → Fits after (record old { touched = touched })
 told_fits old touched keys grown before after told fits fresh = looked
   where
@@ -39,7 +42,7 @@ told_fits old touched keys grown before after told fits fresh = looked
 
     looked : AreLooked after (record old { touched = touched })
     looked q h =
-        let apart = neither (list_any (λ k. alike k q) keys) (set.contains key_cmp old.touched q) (sym (grown q) ∙ h) in
+        let apart = neither (list_any (λ k. alike k q) keys) (noted.contains key_cmp old.touched q) (sym (grown q) ∙ h) in
         let was : IsLookedIn before old q = kept q apart.1 in
         record { found = was.found; is = stays_one before after keys q was.found told (not_told q keys apart.0) was.is; open_is = was.open_is; gone_is = was.gone_is }
 
@@ -61,7 +64,7 @@ none_counted q (e ∷ es) h =
     ap (λ b. cond b (Some e.1) (lookup (λ k. map.is_at (key_cmp q) k) es)) (alike_back q e.0 ∙ apart.0) ∙ none_counted q es apart.1
 
 pub renewed : (instances : List Instance) (kept : Kept) → kept.free.entries ≡ [] → kept.gone.keys ≡ []
-    → ((q : MatchKey) → set.contains key_cmp kept.touched q ≡ (list_any (λ i. alike (key_of i) q) instances || list_any (λ k. alike k q) (map.keys kept.counts))) → AreLooked instances kept
+    → ((q : MatchKey) → noted.contains key_cmp kept.touched q ≡ (list_any (λ i. alike (key_of i) q) instances || list_any (λ k. alike k q) (table.keys kept.counts))) → AreLooked instances kept
 renewed instances kept free gone touched q h = record {
   found = None;
   is = λ i k e. (let bad : true ≡ false = sym (any_in instances q i k e) ∙ apart.0 in cc);
@@ -69,8 +72,8 @@ renewed instances kept free gone touched q h = record {
   gone_is = ap (λ ks. list_any (λ k. map.is_at (key_cmp q) k) ks) gone ∙ ap (λ n. gone_of (nat_lt 0 n) None) (sym none);
 }
   where
-    apart : (list_any (λ i. alike (key_of i) q) instances ≡ false) × (list_any (λ k. alike k q) (map.keys kept.counts) ≡ false)
-    apart = neither (list_any (λ i. alike (key_of i) q) instances) (list_any (λ k. alike k q) (map.keys kept.counts)) (sym (touched q) ∙ h)
+    apart : (list_any (λ i. alike (key_of i) q) instances ≡ false) × (list_any (λ k. alike k q) (table.keys kept.counts) ≡ false)
+    apart = neither (list_any (λ i. alike (key_of i) q) instances) (list_any (λ k. alike k q) (table.keys kept.counts)) (sym (touched q) ∙ h)
 
     none : count_in kept.counts q ≡ 0
     none = ap (λ o. unwrap_or o 0) (none_counted q kept.counts.entries apart.1)

@@ -2,6 +2,7 @@
 use Rattle.std.proofs.Common.{◌≡◌, refl, sym, ap, ap₂, ◌∙◌, Bool, true, false, cond, ◌||◌, ◌&&◌, not, ◌==◌, eqb-true, eq-eqb, nat_lt, ℕ, List, [], ◌∷◌, Option, Some, None, unwrap_or}
 use Rattle.std.specs.BTreeMap as map
 use Rattle.std.specs.BTreeSet as set
+use Rattle.std.specs.HashMap as table
 use Rattle.std.specs.List.{list_any}
 use Rattle.std.specs.Map.{keys_of, lookup}
 use Rattle.defs_match.specs.declared.instance.Instance.{Instance}
@@ -9,6 +10,7 @@ use Rattle.match_changes.specs.Told.{IsTheOne}
 use Rattle.match_changes.specs.declared.key.MatchKey.{MatchKey}
 use Rattle.open_instances.specs.Keeping.{AreLooked, IsLookedIn, LosesRule, gone_of, live_test, open_of, open_test}
 use Rattle.open_instances.specs.Keys.{alike, count_in, key_cmp}
+use Rattle.open_instances.specs.Noted as noted
 use Rattle.open_instances.specs.declared.kept.Kept.{Kept}
 use Rattle.open_instances.proofs.KeyLemmas.{alike_same}
 
@@ -30,11 +32,11 @@ open_none true = refl
 open_none false = refl
 
 module _ (kept : Kept) (number : ℕ) where
-  pub leaves : list_any (open_test kept number) (map.keys kept.free) ≡ false → list_any (live_test kept number) (map.keys kept.counts) ≡ false
+  pub leaves : list_any (open_test kept number) (map.keys kept.free) ≡ false → list_any (live_test kept number) (table.keys kept.counts) ≡ false
       → (before after : List Instance) → LosesRule before after number → AreLooked before kept → AreLooked after kept
   leaves open_free live_free before after loses was = looked
     where
-      own : (q : MatchKey) → (q.rule == number) ≡ true → set.contains key_cmp kept.touched q ≡ false → IsLookedIn before kept q → IsLookedIn after kept q
+      own : (q : MatchKey) → (q.rule == number) ≡ true → noted.contains key_cmp kept.touched q ≡ false → IsLookedIn before kept q → IsLookedIn after kept q
       own q n h w = record {
         found = None;
         is = λ i k e. ((loses i).0 k).1 (ap (λ (r : MatchKey). r.rule) e ∙ eqb-true q.rule number n);

@@ -1,13 +1,13 @@
 -- What is kept of a conflict set and of the live firings.
 use Rattle.std.specs.Prelude.{◌≡◌, ◌≢◌, ◌↔◌, ℕ, Bool, false, ◌&&◌, ◌==◌, not, nat_lt, List, Option, None, is_some, if◌then◌else◌}
 use Rattle.std.specs.BTreeMap as map
-use Rattle.std.specs.BTreeMap.{BTreeMap}
 use Rattle.std.specs.BTreeSet as set
 use Rattle.defs_match.specs.Laws.{IsIn}
 use Rattle.defs_match.specs.declared.instance.Instance.{Instance}
 use Rattle.match_changes.specs.Told.{IsTheOne}
 use Rattle.match_changes.specs.declared.key.MatchKey.{MatchKey}
-use Rattle.open_instances.specs.Keys.{alike, count_in, key_cmp, times}
+use Rattle.open_instances.specs.Keys.{KeyCounts, alike, count_in, key_cmp, times}
+use Rattle.open_instances.specs.Noted as noted
 use Rattle.open_instances.specs.declared.kept.Kept.{Kept}
 
 -- what is open of a key: its instance, unless a live firing has it
@@ -30,13 +30,13 @@ IsLookedIn instances kept q = IsLooked instances (nat_lt 0 (count_in kept.counts
 
 -- each key that is not to be looked at again
 abbrev pub AreLooked : List Instance → Kept → Type 0
-AreLooked instances kept = (q : MatchKey) → set.contains key_cmp kept.touched q ≡ false → IsLookedIn instances kept q
+AreLooked instances kept = (q : MatchKey) → noted.contains key_cmp kept.touched q ≡ false → IsLookedIn instances kept q
 
 -- the same, but for a key
 abbrev pub AreLookedBut : MatchKey → List Instance → Kept → Type 0
-AreLookedBut key instances kept = (q : MatchKey) → set.contains key_cmp kept.touched q ≡ false → alike key q ≡ false → IsLookedIn instances kept q
+AreLookedBut key instances kept = (q : MatchKey) → noted.contains key_cmp kept.touched q ≡ false → alike key q ≡ false → IsLookedIn instances kept q
 
-abbrev pub Counts : BTreeMap MatchKey ℕ → List MatchKey → Type 0
+abbrev pub Counts : KeyCounts → List MatchKey → Type 0
 Counts counts keys = (q : MatchKey) → count_in counts q ≡ times q keys
 
 -- unless all is to be compared anew
@@ -49,8 +49,8 @@ LosesRule before after number = (i : Instance) → IsIn i after ↔ (IsIn i befo
 
 -- a key of the rule that is not to be looked at again
 abbrev pub open_test : Kept → ℕ → MatchKey → Bool
-open_test kept number k = (k.rule == number) && not (set.contains key_cmp kept.touched k)
+open_test kept number k = (k.rule == number) && not (noted.contains key_cmp kept.touched k)
 
 -- one that is not gone either
 abbrev pub live_test : Kept → ℕ → MatchKey → Bool
-live_test kept number k = (k.rule == number) && (not (set.contains key_cmp kept.gone k) && not (set.contains key_cmp kept.touched k))
+live_test kept number k = (k.rule == number) && (not (set.contains key_cmp kept.gone k) && not (noted.contains key_cmp kept.touched k))

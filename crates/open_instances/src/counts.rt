@@ -1,26 +1,27 @@
 // How many live firings have the instance of a key.
 ghost use Rattle.std.specs.Prelude.{◌≡◌, ◌<◌, ◌+◌, ◌-◌, nat_lt, OnOk, if◌then◌else◌};
-ghost use Rattle.open_instances.specs.Keys.{KeyOf, alike, count_in};
+ghost use Rattle.open_instances.specs.Keys.{KeyOf, alike, count_in, held_in, same_key};
 
 use match_changes::MatchKey;
 use soar_sym::NoMemory;
-use std::collections::BTreeMap;
+use std::collections::HashMap;
 
 /// Whether a live firing has the instance of a key.
-pub(crate) fn is_live(counts: &BTreeMap<MatchKey, u64>, key: &MatchKey) -> bool
+#[tactic(auto, using(crate::proofs::CountLemmas::held_as_counted))]
+pub(crate) fn is_live(counts: &HashMap<MatchKey, u64>, key: &MatchKey) -> bool
     ensures { result ≡ nat_lt 0 (count_in counts.now key.now) }
 {
     count_of(counts, key) > 0
 }
 
-fn count_of(counts: &BTreeMap<MatchKey, u64>, key: &MatchKey) -> u64
-    ensures { result ≡ count_in counts.now key.now }
+fn count_of(counts: &HashMap<MatchKey, u64>, key: &MatchKey) -> u64
+    ensures { result ≡ held_in counts.now key.now }
 {
     counts.get(key).copied().unwrap_or(0)
 }
 
 /// One firing more.
-pub fn raise(counts: &mut BTreeMap<MatchKey, u64>, key: MatchKey) -> Result<(), NoMemory>
+pub fn raise(counts: &mut HashMap<MatchKey, u64>, key: MatchKey) -> Result<(), NoMemory>
     ensures { OnOk result ((q : KeyOf) → count_in counts.new q ≡ (if alike key q then count_in counts.old q + 1 else count_in counts.old q)) }
 {
     let Some(count) = count_of(counts, &key).checked_add(1) else {
@@ -31,7 +32,7 @@ pub fn raise(counts: &mut BTreeMap<MatchKey, u64>, key: MatchKey) -> Result<(), 
 }
 
 /// One firing less. It takes no memory.
-pub fn lower(counts: &mut BTreeMap<MatchKey, u64>, key: &MatchKey)
+pub fn lower(counts: &mut HashMap<MatchKey, u64>, key: &MatchKey)
     ensures { (q : KeyOf) → count_in counts.new q ≡ (if alike key.now q then count_in counts.old q - 1 else count_in counts.old q) }
 {
     let count = count_of(counts, key);
@@ -43,9 +44,9 @@ pub fn lower(counts: &mut BTreeMap<MatchKey, u64>, key: &MatchKey)
 }
 
 /// Writes the count of a key that has one.
-fn set_count(counts: &mut BTreeMap<MatchKey, u64>, key: &MatchKey, count: u64)
-    requires { 0 < count_in counts.old key.now }
-    ensures { (q : KeyOf) → count_in counts.new q ≡ (if alike key.now q then count else count_in counts.old q) }
+fn set_count(counts: &mut HashMap<MatchKey, u64>, key: &MatchKey, count: u64)
+    requires { 0 < held_in counts.old key.now }
+    ensures { (q : KeyOf) → held_in counts.new q ≡ (if same_key key.now q then count else held_in counts.old q) }
 {
     if let Some(place) = counts.get_mut(key) {
         *place = count;

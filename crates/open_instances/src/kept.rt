@@ -1,9 +1,10 @@
 ghost use Rattle.std.specs.Prelude.{◌≡◌, true, []};
 
 use defs_match::Instance;
+use indexmap::IndexSet;
 use match_changes::MatchKey;
 use std::alloc::Global;
-use std::collections::{BTreeMap, BTreeSet};
+use std::collections::{BTreeMap, BTreeSet, HashMap};
 
 /// What is open and what is gone, by key, as it was when it was last asked for, and what may have changed since.
 #[derive(Drop)]
@@ -13,9 +14,9 @@ pub struct Kept {
     /// The keys of live firings whose instances are not in the conflict set.
     pub gone: BTreeSet<MatchKey>,
     /// How many live firings have the instance of a key.
-    pub counts: BTreeMap<MatchKey, u64>,
+    pub counts: HashMap<MatchKey, u64>,
     /// The keys that are to be looked at again.
-    pub touched: BTreeSet<MatchKey>,
+    pub touched: IndexSet<MatchKey>,
     /// Whether all is to be compared anew.
     pub stale: bool,
 }
@@ -32,8 +33,8 @@ impl Kept {
         Kept {
             free: BTreeMap::new(alloc),
             gone: BTreeSet::new(alloc),
-            counts: BTreeMap::new(alloc),
-            touched: BTreeSet::new(alloc),
+            counts: HashMap::new(alloc),
+            touched: IndexSet::new(alloc),
             stale: true,
         }
     }

@@ -1,5 +1,5 @@
 // Looking at a key again.
-ghost use Rattle.std.specs.Prelude.{◌≡◌, OnOk, if◌then◌else◌, Some, List as ListOf};
+ghost use Rattle.std.specs.Prelude.{◌≡◌, ◌||◌, OnOk, if◌then◌else◌, Some, List as ListOf};
 ghost use Rattle.std.specs.BTreeMap as map;
 ghost use Rattle.std.specs.BTreeSet as set;
 ghost use Rattle.defs_match.specs.declared.instance.Instance.{Instance as InstanceOf};
@@ -9,7 +9,7 @@ ghost use Rattle.open_instances.specs.Keys.{KeyOf, alike, key_cmp};
 
 use crate::counts::is_live;
 use crate::kept::Kept;
-use crate::keys::{add_key, copy_of};
+use crate::keys::copy_of;
 use defs_match::Instance;
 use match_changes::MatchKey;
 use soar_sym::NoMemory;
@@ -85,9 +85,16 @@ fn set_gone(
     ensures { OnOk result ((q : KeyOf) → set.contains key_cmp gone.new q ≡ (if alike key.now q then is_gone else set.contains key_cmp gone.old q)) }
 {
     if is_gone {
-        add_key(gone, copy_of(alloc, key)?)
+        put_gone(gone, copy_of(alloc, key)?)
     } else {
         gone.remove(key);
         Ok(())
     }
+}
+
+fn put_gone(gone: &mut BTreeSet<MatchKey>, key: MatchKey) -> Result<(), NoMemory>
+    ensures { OnOk result ((q : KeyOf) → set.contains key_cmp gone.new q ≡ (alike key q || set.contains key_cmp gone.old q)) }
+{
+    gone.insert(key)?;
+    Ok(())
 }

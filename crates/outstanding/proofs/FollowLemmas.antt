@@ -1,14 +1,12 @@
 -- Following the live firings that come and go keeps what is kept.
-use Rattle.std.proofs.Common.{◌≡◌, refl, sym, ap, ap₂, ◌∙◌, Bool, true, false, cond, ◌||◌, nat_lt, ℕ, ◌+◌, ◌-◌, List, [], ◌∷◌, ◌++◌, arith}
-use Rattle.std.specs.BTreeMap.{BTreeMap}
-use Rattle.std.specs.BTreeSet as set
-use Rattle.std.specs.BTreeSet.{BTreeSet}
-use Rattle.defs_match.specs.declared.instance.Instance.{Instance}
+use Rattle.std.proofs.Common.{◌≡◌, refl, sym, ap, ◌∙◌, Bool, true, false, cond, ◌||◌, nat_lt, ℕ, ◌+◌, ◌-◌, List, [], ◌∷◌, ◌++◌, arith}
 use Rattle.live_firings.specs.declared.live.Live.{Live}
 use Rattle.live_firings.specs.Living.{AreNews, keys_of}
 use Rattle.match_changes.specs.declared.key.MatchKey.{MatchKey}
-use Rattle.open_instances.specs.Keeping.{AreLooked, Counts, IsLookedIn, gone_of, open_of}
-use Rattle.open_instances.specs.Keys.{alike, count_in, key_cmp, times}
+use Rattle.open_instances.specs.Keeping.{Counts, IsLookedIn, gone_of, open_of}
+use Rattle.open_instances.specs.Keys.{KeyCounts, alike, count_in, key_cmp, times}
+use Rattle.open_instances.specs.Noted as noted
+use Rattle.open_instances.specs.Noted.{NotedKeys}
 use Rattle.open_instances.specs.declared.kept.Kept.{Kept}
 use Rattle.open_instances.proofs.KeyLemmas.{times_append}
 use Rattle.outstanding.specs.Following.{Loses, LosesAll, Meets, MeetsAll, StaysLooked}
@@ -19,10 +17,10 @@ neither false b h = (refl, h)
 
 -- ---- a key whose count changes is to be looked at again
 
-module _ (old : Kept) (counts : BTreeMap MatchKey ℕ) (touched : BTreeSet MatchKey) (key : MatchKey) (grown : (q : MatchKey) → set.contains key_cmp touched q ≡ (alike key q || set.contains key_cmp old.touched q)) where
+module _ (old : Kept) (counts : KeyCounts) (touched : NotedKeys) (key : MatchKey) (grown : (q : MatchKey) → noted.contains key_cmp touched q ≡ (alike key q || noted.contains key_cmp old.touched q)) where
   changed_stays : ((q : MatchKey) → alike key q ≡ false → count_in counts q ≡ count_in old.counts q) → StaysLooked old (record old { counts = counts; touched = touched })
   changed_stays others instances was q h =
-      let apart = neither (alike key q) (set.contains key_cmp old.touched q) (sym (grown q) ∙ h) in
+      let apart = neither (alike key q) (noted.contains key_cmp old.touched q) (sym (grown q) ∙ h) in
       let w : IsLookedIn instances old q = was q apart.1 in
       let same = sym (others q apart.0) in
       record {

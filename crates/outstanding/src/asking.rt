@@ -91,7 +91,7 @@ fn look_again<M: MatchChanges>(
     ensures counts { OnOk result (kept.new.counts ≡ kept.old.counts) }
     ensures touched { OnOk result (kept.new.touched.keys ≡ []) }
 {
-    'touched: while let Some(key) = kept.touched.pop_first() {
+    'touched: while let Some(key) = kept.touched.pop() {
         look(alloc, matcher, kept, key)?;
     }
     Ok(())

@@ -1,5 +1,5 @@
 use Rattle.std.proofs.Common.{◌∙◌, ◌-◌, ap, cond, arith}
-use Rattle.open_instances.specs.Keys.{alike, count_in}
+use Rattle.open_instances.specs.Keys.{held_in, same_key}
 use Rattle.open_instances.proofs.CountLemmas.{dropped, lowered}
 use Rattle.open_instances.proofs.counts.lower.Goals as goal
 
@@ -7,7 +7,7 @@ pub returns-then-count-gt1 : goal.returns-then-count-gt1
 returns-then-count-gt1 c =
     let old = c.args.counts.now in
     let key = c.args.key.now in
-    lowered old c.set_count.new.counts key (λ q. c.set_count.ensures q ∙ ap (λ n. cond (alike key q) (n - 1) (count_in old q)) c.count_of-count.ensures)
+    lowered old c.set_count.new.counts key (λ q. c.set_count.ensures q ∙ ap (λ n. cond (same_key key q) (n - 1) (held_in old q)) c.count_of-count.ensures)
 
 pub returns-else-count-gt1 : goal.returns-else-count-gt1
 returns-else-count-gt1 c = dropped c.args.counts.now c.remove.new.self c.args.key.now (omega (arith, c.count_of-count.ensures, c.if-count-gt1.false)) c.remove.ensures.updates.0

@@ -1,8 +1,8 @@
 use Rattle.std.proofs.Common.{◌≡◌, ◌||◌}
-use Rattle.std.specs.BTreeSet as set
 use Rattle.std.specs.List.{list_any}
 use Rattle.match_changes.specs.declared.key.MatchKey.{MatchKey}
 use Rattle.open_instances.specs.Keys.{alike, key_cmp}
+use Rattle.open_instances.specs.Noted as set
 use Rattle.open_instances.proofs.keys.add_keys.Given as goal
 
 abbrev pub invariant-more : goal.invariant-more

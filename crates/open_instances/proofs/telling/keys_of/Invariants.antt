@@ -1,9 +1,9 @@
 use Rattle.std.proofs.Common.{◌≡◌, ◌||◌, drop}
-use Rattle.std.specs.BTreeSet as set
 use Rattle.std.specs.List.{list_any}
 use Rattle.match_changes.specs.Told.{key_of}
 use Rattle.match_changes.specs.declared.key.MatchKey.{MatchKey}
 use Rattle.open_instances.specs.Keys.{alike, key_cmp}
+use Rattle.open_instances.specs.Noted as set
 use Rattle.open_instances.proofs.telling.keys_of.Given as goal
 
 abbrev pub invariant-instances : goal.invariant-instances
