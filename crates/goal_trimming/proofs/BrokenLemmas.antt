@@ -1,5 +1,5 @@
 -- The goal that is broken, by tags.
-use Rattle.std.proofs.Common.{◌≡◌, refl, sym, ap, ap₂, ℕ, suc, Bool, true, false, not, List, [], ◌∷◌, Option, Some, None}
+use Rattle.std.proofs.Common.{◌≡◌, refl, sym, ap, ap₂, ℕ, suc, Bool, true, false, not, arith, List, [], ◌∷◌, length, Option, Some, None}
 use Rattle.soar_sym.specs.declared.symbol.Triple.{Triple}
 use Rattle.soar_wm.specs.declared.element.Element.{Element}
 use Rattle.soar_wm.specs.WorkingMemory.{element_of, triple_of}
@@ -29,3 +29,8 @@ same_lost elements a b same = λ i tag. elim (element_of tag elements) as (λ _.
 pub same_broken : (elements : List Element) (a b : List Triple) (depth : ℕ) (depends : List (List ℕ)) → ((t : Triple) → has_triple_among a t ≡ has_triple_among b t)
     → first_with (is_lost elements a) depth depends ≡ first_with (is_lost elements b) depth depends
 same_broken elements a b depth depends same = ap (λ lost. first_with lost depth depends) (same_lost elements a b same)
+
+-- where there is no goal below the top, none is broken
+pub none_below : (depends : List (List ℕ)) (elements : List Element) (kept : List Triple) → length depends ≡ 0 → highest_broken_by depends elements kept 2 ≡ None
+none_below [] elements kept h = refl
+none_below (tags ∷ depends) elements kept h = absurd (omega arith)

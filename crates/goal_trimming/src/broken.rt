@@ -12,7 +12,8 @@ use soar_wm::{Element, Memory};
 use std::alloc::Global;
 
 /// The depth of the highest goal that is broken. Looks only at the tags that are doubted, and at those of the triples
-/// that were looked at.
+/// that were looked at, and at none where there is no goal below the top.
+#[tactic(auto, using(crate::proofs::BrokenLemmas::none_below))]
 pub fn highest_broken(
     alloc: Global,
     memory: &Memory,
@@ -24,6 +25,9 @@ pub fn highest_broken(
     requires looked { AreLooked depends.now memory.now.elements kept.now.triples doubted.now touched.now }
     ensures { IfOk result (λ depth. depth ≡ highest_broken_by depends.now memory.now.elements kept.now.triples 2) }
 {
+    if depends.len() == 0 {
+        return Ok(None);
+    }
     no_triple_twice(memory);
     let lost = lost_among(alloc, memory, kept, doubted, touched)?;
     Ok(depends.highest_with(lost.as_slice()))

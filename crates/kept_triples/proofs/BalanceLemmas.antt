@@ -39,8 +39,10 @@ edges_last (u ∷ triples) t x y = by (leads x y u) (edges_last triples t x y)
     by false h = h
 
 -- nothing went or came
-pub stays : (triples : List Triple) (d : Difference) → Balances triples d triples d
-stays triples d x y = refl
+pub stays : (old new : List Triple) (d : Difference) → ((p : Triple → Bool) → how_many p new ≡ how_many p old) → Balances old d new d
+stays old new d same x y =
+    let set : edge_count new x y ≡ edge_count old x y = edges_are new x y ∙ same (leads x y) ∙ sym (edges_are old x y) in
+    ap (λ n. n + edge_count d.gone x y + edge_count d.come x y) set
 
 -- one triple came
 pub one_came : (old new : List Triple) (before after : Difference) (t : Triple) → ((p : Triple → Bool) → how_many p new ≡ how_many p (t ∷ old))

@@ -2,4 +2,5 @@ pub mod BalanceLemmas
 pub mod HeldLemmas
 pub mod KeyLemmas
 pub mod LookLemmas
+pub mod OwnLemmas
 pub mod SetLemmas

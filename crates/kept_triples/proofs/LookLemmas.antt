@@ -7,23 +7,8 @@ use Rattle.settling_laws.specs.Changes.{has_value}
 use Rattle.soar_prefs.specs.Memory.{has_plain}
 use Rattle.level_laws.proofs.SymbolLemmas.{symbol_same, symbol_turned}
 use Rattle.kept_triples.specs.Looking.{with_mark}
-use Rattle.kept_triples.proofs.KeyLemmas.{triple_is}
 
 -- ---- one triple
-
-pub had_already : (set : List Triple) (u : Triple) → has_triple_among set u ≡ true → (t : Triple) → has_triple_among set t ≡ (triple_eq t u || has_triple_among set t)
-had_already set u has t = by (triple_eq t u) refl
-  where
-    by : (b : Bool) → triple_eq t u ≡ b → has_triple_among set t ≡ (b || has_triple_among set t)
-    by true e = ap (has_triple_among set) (triple_is t u e) ∙ has
-    by false e = refl
-
-pub lacked_already : (set : List Triple) (u : Triple) → has_triple_among set u ≡ false → (t : Triple) → has_triple_among set t ≡ (not (triple_eq t u) && has_triple_among set t)
-lacked_already set u lacks t = by (triple_eq t u) refl
-  where
-    by : (b : Bool) → triple_eq t u ≡ b → has_triple_among set t ≡ (not b && has_triple_among set t)
-    by true e = ap (has_triple_among set) (triple_is t u e) ∙ lacks
-    by false e = refl
 
 pub came_so : (a b : Bool) → (a || b) ≡ cond a true b
 came_so true b = refl

@@ -1,5 +1,6 @@
 -- What is the goals' own.
-use Rattle.std.specs.Prelude.{◌≡◌, List}
+use Rattle.std.specs.Prelude.{◌≡◌, false, List, [], ◌∷◌}
+use Rattle.std.specs.Bool.{⊤}
 use Rattle.soar_sym.specs.declared.symbol.Sym.{Sym}
 use Rattle.soar_sym.specs.declared.symbol.Triple.{Triple}
 use Rattle.defs_soar.specs.declared.goal.Goal.{Goal}
@@ -20,3 +21,8 @@ pub record TellsOwn (goals : List Goal) (own : OwnOf) : Type 0 where
 -- the set has the triples of the list, and no others
 abbrev pub IsSetOf : List Triple → List Triple → Type 0
 IsSetOf triples set = (t : Triple) → has_triple_among set t ≡ has_triple_among triples t
+
+-- none of the triples is marked
+abbrev pub ArePlain : List Triple → Type 0
+ArePlain [] = ⊤
+ArePlain (t ∷ triples) = (t.accept ≡ false) × ArePlain triples

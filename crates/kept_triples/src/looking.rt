@@ -105,21 +105,21 @@ fn come(held: &mut TripleSet, difference: &mut Difference, triple: Triple) -> Re
     ensures members { OnOk result ((t : TripleOf) → has_triple_among held.new t ≡ (triple_eq t triple || has_triple_among held.old t)) }
     ensures counts { OnOk result (Balances held.old difference.old held.new difference.new) }
 {
-    if held.has(triple) {
+    let is_new = held.add(triple)?;
+    if !is_new {
         return Ok(());
     }
     difference.come.push(triple)?;
-    held.add(triple)
+    Ok(())
 }
 
 fn go(held: &mut TripleSet, difference: &mut Difference, triple: Triple) -> Result<(), NoMemory>
     ensures members { OnOk result ((t : TripleOf) → has_triple_among held.new t ≡ (not (triple_eq t triple) && has_triple_among held.old t)) }
     ensures counts { OnOk result (Balances held.old difference.old held.new difference.new) }
 {
-    if !held.has(triple) {
+    if !held.remove(triple) {
         return Ok(());
     }
     difference.gone.push(triple)?;
-    held.remove(triple);
     Ok(())
 }

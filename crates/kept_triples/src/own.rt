@@ -22,13 +22,13 @@ pub struct Own {
 }
 
 impl Model for Own {
-    ghost use Rattle.kept_triples.specs.Owned.{IsSetOf, OwnOf};
+    ghost use Rattle.kept_triples.specs.Owned.{ArePlain, IsSetOf, OwnOf};
 
     ghost Value = { OwnOf };
 
     ghost view = { λ own. record { triples = own.all; ids = own.goals } };
 
-    ghost invariant = { λ own. IsSetOf own.all own.set };
+    ghost invariant = { λ own. IsSetOf own.all own.set × ArePlain own.all };
 }
 
 impl Own {
@@ -42,11 +42,11 @@ impl Own {
         Ok(Own { set, all, goals })
     }
 
-    /// Whether a triple is among them.
+    /// Whether a triple is among them. A marked one never is.
     pub fn has(&self, triple: Triple) -> bool
         ensures { result ≡ has_triple_among self.now.triples triple }
     {
-        self.set.has(triple)
+        !triple.accept && self.set.has(triple)
     }
 
     /// The triples, in the order of the goals: first all elements, then the selected operators.

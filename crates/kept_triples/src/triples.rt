@@ -1,11 +1,11 @@
 // Triples in a set.
-ghost use Rattle.std.specs.Prelude.{◌≡◌, ◌||◌, ◌&&◌, not, Bool, true, false, [], ◌∷◌, IfOk, OnOk};
+ghost use Rattle.std.specs.Prelude.{◌≡◌, ◌||◌, ◌&&◌, not, cond, Bool, [], ◌∷◌, IfOk, OnOk};
 ghost use Rattle.soar_sym.specs.declared.symbol.Triple.{Triple as TripleOf};
 ghost use Rattle.defs_soar.specs.Values.{has_triple_among, triple_eq};
 ghost use Rattle.kept_triples.specs.Counts.{how_many};
-ghost use Rattle.kept_triples.specs.Keys.{key_of};
 
-use soar_sym::{NoMemory, Sym, Triple};
+use packed_triples::PackedTriple;
+use soar_sym::{NoMemory, Triple};
 use std::alloc::Global;
 use std::collections::HashSet;
 use std::marker::Model;
@@ -13,17 +13,16 @@ use std::marker::Model;
 /// Triples, each once, of which one can tell in short time whether one is among them.
 #[derive(Drop)]
 pub struct TripleSet {
-    table: HashSet<(Sym, Sym, Sym, bool)>,
+    table: HashSet<PackedTriple>,
 }
 
 impl Model for TripleSet {
     ghost use Rattle.std.specs.Prelude.{List as ListOf};
     ghost use Rattle.soar_sym.specs.declared.symbol.Triple.{Triple as TripleOf};
-    ghost use Rattle.kept_triples.specs.Keys.{triples_of_keys};
 
     ghost Value = { ListOf TripleOf };
 
-    ghost view = { λ set. triples_of_keys set.table.keys };
+    ghost view = { λ set. set.table.keys };
 }
 
 impl TripleSet {
@@ -51,30 +50,25 @@ impl TripleSet {
     pub fn has(&self, triple: Triple) -> bool
         ensures { result ≡ has_triple_among self.now triple }
     {
-        self.table.contains(&key_of(triple))
+        self.table.contains(&PackedTriple::new(triple))
     }
 
-    /// One triple more. Of a new one there is one more then.
-    pub fn add(&mut self, triple: Triple) -> Result<(), NoMemory>
+    /// One triple more, and whether it is new. Of a new one there is one more then, of any other as many as before.
+    pub fn add(&mut self, triple: Triple) -> Result<bool, NoMemory>
+        ensures new { IfOk result (λ is_new. is_new ≡ not (has_triple_among self.old triple)) }
         ensures has { OnOk result ((t : TripleOf) → has_triple_among self.new t ≡ (triple_eq t triple || has_triple_among self.old t)) }
-        ensures once { OnOk result (has_triple_among self.old triple ≡ false → (p : TripleOf → Bool) → how_many p self.new ≡ how_many p (triple ∷ self.old)) }
+        ensures once { IfOk result (λ is_new. (p : TripleOf → Bool) → how_many p self.new ≡ how_many p (cond is_new (triple ∷ self.old) self.old)) }
     {
-        self.table.insert(key_of(triple))?;
-        Ok(())
+        let is_new = self.table.insert(PackedTriple::new(triple))?;
+        Ok(is_new)
     }
 
-    /// One triple less. Of one that was there, there is one less then.
-    pub fn remove(&mut self, triple: Triple)
+    /// One triple less, and whether it was there. Of one that was there, there is one less then, of any other as many as before.
+    pub fn remove(&mut self, triple: Triple) -> bool
+        ensures was { result ≡ has_triple_among self.old triple }
         ensures has { (t : TripleOf) → has_triple_among self.new t ≡ (not (triple_eq t triple) && has_triple_among self.old t) }
-        ensures once { has_triple_among self.old triple ≡ true → (p : TripleOf → Bool) → how_many p (triple ∷ self.new) ≡ how_many p self.old }
+        ensures once { (p : TripleOf → Bool) → how_many p (cond result (triple ∷ self.new) self.new) ≡ how_many p self.old }
     {
-        self.table.remove(&key_of(triple));
+        self.table.remove(&PackedTriple::new(triple))
     }
-}
-
-/// The parts of a triple, by which the table finds it.
-fn key_of(triple: Triple) -> (Sym, Sym, Sym, bool)
-    ensures { result ≡ key_of triple }
-{
-    (triple.id, triple.attr, triple.value, triple.accept)
 }

@@ -1,12 +1,13 @@
 -- The element that has a triple.
-use Rattle.std.proofs.Common.{◌≡◌, ◌∙◌, refl, sym, ap, subst, ℕ, ◌<◌, ◌==◌, Bool, true, false, cond, ◌||◌, ◌⊎◌, inl, inr, arith, List, [], ◌∷◌, map, Some, None, is_some}
+use Rattle.std.proofs.Common.{◌≡◌, ◌∙◌, refl, sym, ap, ap₂, subst, ℕ, ◌<◌, ◌==◌, Bool, true, false, cond, not, ◌&&◌, ◌||◌, ◌⊎◌, inl, inr, arith, List, [], ◌∷◌, map, Some, None, is_some}
 use Rattle.soar_sym.specs.declared.symbol.Triple.{Triple}
 use Rattle.soar_wm.specs.declared.element.Element.{Element}
 use Rattle.soar_wm.specs.WorkingMemory.{IsBelow, IsDistinct, IsRising, Lacks, element_of, has_triple, tag_of, triple_of}
+use Rattle.defs_soar.specs.declared.goal.Goal.{Goal}
 use Rattle.defs_soar.specs.Laws.{IsIn}
 use Rattle.defs_soar.specs.Values.{has_triple_among}
 use Rattle.settling_laws.proofs.SlotLemmas.{triple_itself}
-use Rattle.touched_tags.specs.Looked.{first_with}
+use Rattle.touched_tags.specs.Looked.{comes, first_with, is_flagged, is_standing}
 use Rattle.touched_tags.proofs.MemoryLemmas.{has_as_equal}
 use Rattle.touched_tags.proofs.MemberLemmas.{same_some}
 use Rattle.touched_tags.proofs.MemoryLemmas.{below_apart, itself}
@@ -49,6 +50,11 @@ first_is t (f ∷ elements) e h = by (has_triple t f) refl h (first_is t element
         → ((f ≡ e) ⊎ IsIn e elements) × (triple_of e ≡ t)
     by true k i later = let is = same_some f e i in (inl is, ap triple_of (sym is) ∙ triple_same (triple_of f) t k)
     by false k i later = let there = later i in (inr there.0, there.1)
+
+-- what comes of a triple that an element has is told by that element
+pub comes_with : (goals : List Goal) (kept : List Triple) (elements : List Element) (t : Triple) (e : Element) → first_with t elements ≡ Some e
+    → comes goals kept elements t ≡ (has_triple_among kept (triple_of e) && not (is_flagged goals e))
+comes_with goals kept elements t e h = ap₂ (λ u o. has_triple_among kept u && not (is_standing goals o)) (sym (first_is t elements e h).1) h
 
 pub found_when : (t : Triple) (elements : List Element) → has_triple_among (map triple_of elements) t ≡ is_some (first_with t elements)
 found_when t [] = refl

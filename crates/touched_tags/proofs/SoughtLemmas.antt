@@ -17,14 +17,14 @@ use Rattle.settling_laws.proofs.OrderLemmas.{has_filtered, order_is_of_members}
 use Rattle.settling_laws.proofs.SlotLemmas.{has_its_triple}
 use Rattle.soar_settle.specs.Known.{AreTriplesKnown}
 use Rattle.soar_settle.specs.Tagging.{IsTripleKnown}
-use Rattle.touched_tags.specs.Looked.{IsLooked, comes, elements_at, first_with, gone_of, is_flagged, is_standing, unless_stays, with_tags}
+use Rattle.touched_tags.specs.Looked.{IsLooked, comes, elements_in, first_with, gone_of, is_flagged, is_standing, unless_stays, with_elements}
 use Rattle.touched_tags.specs.Plans.{IsSought}
 use Rattle.touched_tags.specs.Touched.{has_plain}
-use Rattle.touched_tags.proofs.FirstLemmas.{at_tag_in, first_is, found_when, in_at_tag, in_is_first}
+use Rattle.touched_tags.proofs.FirstLemmas.{first_is, found_when, in_at_tag, in_is_first}
 use Rattle.touched_tags.proofs.KnownLemmas.{known_each}
 use Rattle.touched_tags.proofs.LookedLemmas.{come_is_looked, gone_is_looked}
 use Rattle.touched_tags.proofs.MemberLemmas.{in_filter_map, of_filter_map, same_some}
-use Rattle.touched_tags.proofs.TagLemmas.{of_tags, picked_rise, rising_filter, rising_same, tag_there, tags_rise}
+use Rattle.touched_tags.proofs.TagLemmas.{all_rise, each_there, elements_rise, of_all, rising_filter, rising_same}
 use Rattle.soar_settle.proofs.TripleOrderLemmas.{both}
 
 apart : true ≡ false → ⊥
@@ -55,41 +55,35 @@ module _ (goals : List Goal) (kept : List Triple) (elements : List Element) (loo
       by t None p q = absurd (cc)
       by t (Some f) p q = choose f (stays goals kept f) refl q (first_is t elements f p).0
 
+  -- those of one tag are one
+  one_of_tag : (f g : Element) → IsIn f gone → IsIn g gone → f.tag ≡ g.tag → f ≡ g
+  one_of_tag f g i j same =
+      same_some f g (sym (in_at_tag f elements rising (of_gone f i).0) ∙ ap (λ n. element_of n elements) same ∙ in_at_tag g elements rising (of_gone g j).0)
+
   module _ (gone_is_looked : (e : Element) → IsIn e elements → stays goals kept e ≡ false → IsIn (triple_of e) looked) where
     to_gone : (e : Element) → IsIn e elements → stays goals kept e ≡ false → IsIn e gone
     to_gone e i out =
         in_filter_map (gone_of goals kept elements) looked (triple_of e) e (gone_is_looked e i out)
         (ap (unless_stays goals kept) (in_is_first e elements distinct i) ∙ ap (λ b. cond b None (Some e)) out)
 
-    of_picked : (e : Element) → IsIn e (elements_at elements (with_tags gone [])) → IsIn e (filter goes elements)
-    of_picked e i =
-        let there = of_filter_map (λ (tag : ℕ). element_of tag elements) (with_tags gone []) e i in
-        let at = at_tag_in there.0 elements e there.2 in
-        by there.0 there.2 at.0 (of_tags gone [] there.0 there.1)
-      where
-        passes : (f : Element) → f ≡ e → IsIn e elements → stays goals kept f ≡ false → IsIn e (filter goes elements)
-        passes f is there out = filter_has goes elements e there (ap not (ap (stays goals kept) (sym is) ∙ out))
-
-        by : (tag : ℕ) → element_of tag elements ≡ Some e → IsIn e elements → ((f : Element) × IsIn f gone × (f.tag ≡ tag)) ⊎ ⊥ → IsIn e (filter goes elements)
-        by tag at there (inr j) = absurd j
-        by tag at there (inl from) =
-            let f = of_gone from.0 from.1 in
-            passes from.0 (same_some from.0 e (sym (in_at_tag from.0 elements rising f.0) ∙ ap (λ n. element_of n elements) from.2 ∙ at)) there f.1
-
-    going_are : elements_at elements (with_tags gone []) ≡ filter goes elements
+    going_are : elements_in (with_elements gone []) ≡ filter goes elements
     going_are =
-        rising_same (elements_at elements (with_tags gone [])) (filter goes elements)
-        (picked_rise elements (with_tags gone []) (tags_rise gone [] tt)) (rising_filter goes elements rising) of_picked back
+        rising_same (elements_in (with_elements gone [])) (filter goes elements)
+        (elements_rise (with_elements gone []) (all_rise gone [] tt)) (rising_filter goes elements rising) forth back
       where
         turned : (b : Bool) → not b ≡ true → b ≡ false
         turned true h = absurd (cc)
         turned false h = refl
 
-        back : (e : Element) → IsIn e (filter goes elements) → IsIn e (elements_at elements (with_tags gone []))
-        back e i =
-            let there = filter_within goes elements e i in
-            let out = turned (stays goals kept e) (filter_passes goes elements e i) in
-            in_filter_map (λ (tag : ℕ). element_of tag elements) (with_tags gone []) e.tag e (tag_there gone [] e (to_gone e there out)) (in_at_tag e elements rising there)
+        forth : (e : Element) → IsIn e (elements_in (with_elements gone [])) → IsIn e (filter goes elements)
+        forth e i = by (of_all gone [] e i)
+          where
+            by : IsIn e gone ⊎ ⊥ → IsIn e (filter goes elements)
+            by (inl j) = let there = of_gone e j in filter_has goes elements e there.0 (ap not there.1)
+            by (inr j) = absurd j
+
+        back : (e : Element) → IsIn e (filter goes elements) → IsIn e (elements_in (with_elements gone []))
+        back e i = each_there gone one_of_tag e (to_gone e (filter_within goes elements e i) (turned (stays goals kept e) (filter_passes goes elements e i)))
 
   -- ---- what comes
 
@@ -148,22 +142,22 @@ module _ (words : Texts) (before : List Sym) (goals : List Goal) (kept touched :
     (is : IsLooked before goals touched m.elements looked) (known : (t : Triple) → has_triple_among kept t ≡ true → IsTripleKnown words t)
     (same : (t : Triple) → has_plain touched t ≡ false → has_triple_among kept t ≡ has_triple_among (map triple_of m.elements) t)
     (flags : (e : Element) → IsIn e m.elements → e.of_state ≡ has_symbol before e.id) where
-  pub sought : (seen also come come_seen triples : List Triple) (out out_seen going : List Element) → seen ≡ looked → out ≡ filter_map (gone_of goals kept m.elements) seen → out_seen ≡ out
-      → going ≡ elements_at m.elements (with_tags out_seen []) → also ≡ looked → come ≡ filter (comes goals kept m.elements) also → come_seen ≡ come
-      → triples ≡ in_order words come_seen → IsSought words goals kept m (record { going = going; triples = triples })
-  sought seen also come come_seen triples out out_seen going seen_is out_is out_seen_is going_is also_is come_is come_seen_is triples_is = record {
+  pub sought : (seen come come_seen triples : List Triple) (entries : List (ℕ × Element)) (going : List Element) → seen ≡ looked → entries ≡ with_elements (filter_map (gone_of goals kept m.elements) seen) []
+      → going ≡ elements_in entries → come ≡ filter (comes goals kept m.elements) seen → come_seen ≡ come → triples ≡ in_order words come_seen
+      → IsSought words goals kept m (record { going = going; triples = triples })
+  sought seen come come_seen triples entries going seen_is entries_are going_is come_is come_seen_is triples_is = record {
     lawful = lawful;
     going_are =
-        going_is ∙ ap (λ l. elements_at m.elements (with_tags l [])) (out_seen_is ∙ out_is ∙ ap (filter_map (gone_of goals kept m.elements)) seen_is)
+        going_is ∙ ap elements_in (entries_are ∙ ap (λ l. with_elements (filter_map (gone_of goals kept m.elements) l) []) seen_is)
         ∙ going_are goals kept m.elements looked lawful.rising lawful.distinct (gone_is_looked before goals kept touched m.elements looked is same flags);
     triples_are =
-        triples_is ∙ ap (in_order words) (come_seen_is ∙ come_is ∙ ap (filter (comes goals kept m.elements)) also_is)
+        triples_is ∙ ap (in_order words) (come_seen_is ∙ come_is ∙ ap (filter (comes goals kept m.elements)) seen_is)
         ∙ triples_are goals kept m.elements looked lawful.rising lawful.distinct (come_is_looked before goals kept touched m.elements looked is same flags) words table known;
   }
 
 -- what comes is known
-pub come_are_known : (words : Texts) (goals : List Goal) (kept : List Triple) (elements : List Element) (also come come_seen : List Triple) → ((t : Triple) → has_triple_among kept t ≡ true → IsTripleKnown words t)
-    → come ≡ filter (comes goals kept elements) also → come_seen ≡ come → AreTriplesKnown words come_seen
-come_are_known words goals kept elements also come come_seen known come_is come_seen_is =
+pub come_are_known : (words : Texts) (goals : List Goal) (kept : List Triple) (elements : List Element) (seen come come_seen : List Triple) → ((t : Triple) → has_triple_among kept t ≡ true → IsTripleKnown words t)
+    → come ≡ filter (comes goals kept elements) seen → come_seen ≡ come → AreTriplesKnown words come_seen
+come_are_known words goals kept elements seen come come_seen known come_is come_seen_is =
     let P : List Triple → Type 0 = AreTriplesKnown words in
-    subst P (sym (come_seen_is ∙ come_is)) (known_each words (filter (comes goals kept elements) also) (λ t i. known t (come_is_kept goals kept elements also t i)))
+    subst P (sym (come_seen_is ∙ come_is)) (known_each words (filter (comes goals kept elements) seen) (λ t i. known t (come_is_kept goals kept elements seen t i)))

@@ -1,14 +1,13 @@
--- Elements at tags in order are in order of tag, each once.
-use Rattle.std.proofs.Common.{◌≡◌, ◌∙◌, refl, sym, ap, subst, ℕ, ◌<◌, Bool, true, false, cond, ◌⊎◌, inl, inr, arith, List, [], ◌∷◌, filter, Option, Some, None, Ordering, Less, Equal, Greater, nat_cmp}
+-- Elements by tag are in order of tag, each once.
+use Rattle.std.proofs.Common.{◌≡◌, ◌∙◌, refl, sym, ap, subst, ℕ, ◌<◌, Bool, true, false, cond, ◌⊎◌, inl, inr, arith, List, [], ◌∷◌, filter, Ordering, Less, Equal, Greater, nat_cmp}
 use Rattle.std.proofs.lemmas.Grind.{common_steps}
-use Rattle.std.specs.BTreeSet.{insert_key}
-use Rattle.std.specs.List.{cons_option}
+use Rattle.std.specs.BTreeMap.{insert_entry}
 use Rattle.std.specs.Ordering.{match_ordering}
 use Rattle.soar_wm.specs.declared.element.Element.{Element}
-use Rattle.soar_wm.specs.WorkingMemory.{IsBelow, IsRising, element_of}
+use Rattle.soar_wm.specs.WorkingMemory.{IsBelow, IsRising}
 use Rattle.defs_soar.specs.Laws.{IsIn}
-use Rattle.touched_tags.specs.Looked.{elements_at, with_tags}
-use Rattle.touched_tags.proofs.FirstLemmas.{at_tag_in, below_in}
+use Rattle.touched_tags.specs.Looked.{elements_in, with_elements}
+use Rattle.touched_tags.proofs.FirstLemmas.{below_in}
 use Rattle.touched_tags.proofs.MemoryLemmas.{below_filter}
 
 -- ---- numbers in order
@@ -22,112 +21,131 @@ equal_is m k h = grind (arith, common_steps)
 more_is : (m k : ℕ) → nat_cmp m k ≡ Greater → k < m
 more_is m k h = grind (arith, common_steps)
 
-abbrev AllAbove : ℕ → List ℕ → Type 0
+-- ---- an element more
+
+abbrev AllAbove : ℕ → List (ℕ × Element) → Type 0
 AllAbove n [] = Unit {0}
-AllAbove n (k ∷ ks) = (n < k) × AllAbove n ks
+AllAbove n (p ∷ entries) = (n < p.0) × AllAbove n entries
 
-abbrev pub Rise : List ℕ → Type 0
+-- each stands at its tag, and the tags rise
+abbrev pub Rise : List (ℕ × Element) → Type 0
 Rise [] = Unit {0}
-Rise (k ∷ ks) = AllAbove k ks × Rise ks
+Rise (p ∷ entries) = (p.1.tag ≡ p.0) × AllAbove p.0 entries × Rise entries
 
-above_less : (n m : ℕ) (ks : List ℕ) → n < m → AllAbove m ks → AllAbove n ks
+above_less : (n m : ℕ) (entries : List (ℕ × Element)) → n < m → AllAbove m entries → AllAbove n entries
 above_less n m [] l h = tt
-above_less n m (k ∷ ks) l h = (omega (arith, l, h.0), above_less n m ks l h.1)
+above_less n m (p ∷ entries) l h = (omega (arith, l, h.0), above_less n m entries l h.1)
 
-above_with : (n m : ℕ) (ks : List ℕ) → n < m → AllAbove n ks → AllAbove n (insert_key nat_cmp ks m)
-above_with n m [] l h = (l, tt)
-above_with n m (k ∷ ks) l h = by (nat_cmp m k) (above_with n m ks l h.1)
+above_with : (n : ℕ) (e : Element) (entries : List (ℕ × Element)) → n < e.tag → AllAbove n entries → AllAbove n (insert_entry nat_cmp entries e.tag e)
+above_with n e [] l h = (l, tt)
+above_with n e (p ∷ entries) l h = by (nat_cmp e.tag p.0) (above_with n e entries l h.1)
   where
-    by : (o : Ordering) → AllAbove n (insert_key nat_cmp ks m) → AllAbove n (match_ordering o (m ∷ k ∷ ks) (k ∷ ks) (k ∷ insert_key nat_cmp ks m))
+    by : (o : Ordering) → AllAbove n (insert_entry nat_cmp entries e.tag e) → AllAbove n (match_ordering o ((e.tag, e) ∷ p ∷ entries) ((p.0, e) ∷ entries) (p ∷ insert_entry nat_cmp entries e.tag e))
     by Less later = (l, h)
     by Equal later = h
     by Greater later = (h.0, later)
 
-rise_with : (m : ℕ) (ks : List ℕ) → Rise ks → Rise (insert_key nat_cmp ks m)
-rise_with m [] h = (tt, tt)
-rise_with m (k ∷ ks) h = by (nat_cmp m k) refl (rise_with m ks h.1)
+rise_with : (e : Element) (entries : List (ℕ × Element)) → Rise entries → Rise (insert_entry nat_cmp entries e.tag e)
+rise_with e [] h = (refl, tt, tt)
+rise_with e (p ∷ entries) h = by (nat_cmp e.tag p.0) refl (rise_with e entries h.2)
   where
-    by : (o : Ordering) → nat_cmp m k ≡ o → Rise (insert_key nat_cmp ks m) → Rise (match_ordering o (m ∷ k ∷ ks) (k ∷ ks) (k ∷ insert_key nat_cmp ks m))
-    by Less p later = let less = less_is m k p in ((less, above_less m k ks less h.0), h)
-    by Equal p later = h
-    by Greater p later = (above_with k m ks (more_is m k p) h.0, later)
+    by : (o : Ordering) → nat_cmp e.tag p.0 ≡ o → Rise (insert_entry nat_cmp entries e.tag e)
+        → Rise (match_ordering o ((e.tag, e) ∷ p ∷ entries) ((p.0, e) ∷ entries) (p ∷ insert_entry nat_cmp entries e.tag e))
+    by Less q later = let less = less_is e.tag p.0 q in (refl, (less, above_less e.tag p.0 entries less h.1), h)
+    by Equal q later = (equal_is e.tag p.0 q, h.1, h.2)
+    by Greater q later = (h.0, above_with p.0 e entries (more_is e.tag p.0 q) h.1, later)
 
-with_this : (m : ℕ) (ks : List ℕ) → IsIn m (insert_key nat_cmp ks m)
-with_this m [] = inl refl
-with_this m (k ∷ ks) = by (nat_cmp m k) refl (with_this m ks)
+with_this : (e : Element) (entries : List (ℕ × Element)) → IsIn e (elements_in (insert_entry nat_cmp entries e.tag e))
+with_this e [] = inl refl
+with_this e (p ∷ entries) = by (nat_cmp e.tag p.0) (with_this e entries)
   where
-    by : (o : Ordering) → nat_cmp m k ≡ o → IsIn m (insert_key nat_cmp ks m) → IsIn m (match_ordering o (m ∷ k ∷ ks) (k ∷ ks) (k ∷ insert_key nat_cmp ks m))
-    by Less p later = inl refl
-    by Equal p later = inl (sym (equal_is m k p))
-    by Greater p later = inr later
+    by : (o : Ordering) → IsIn e (elements_in (insert_entry nat_cmp entries e.tag e))
+        → IsIn e (elements_in (match_ordering o ((e.tag, e) ∷ p ∷ entries) ((p.0, e) ∷ entries) (p ∷ insert_entry nat_cmp entries e.tag e)))
+    by Less later = inl refl
+    by Equal later = inl refl
+    by Greater later = inr later
 
-with_others : (m n : ℕ) (ks : List ℕ) → IsIn n ks → IsIn n (insert_key nat_cmp ks m)
-with_others m n [] i = absurd i
-with_others m n (k ∷ ks) i = by (nat_cmp m k) i (with_others m n ks)
+-- what was there stays, where its tag is another
+with_others : (e f : Element) (entries : List (ℕ × Element)) → Rise entries → IsIn f (elements_in entries) → IsIn f (elements_in (insert_entry nat_cmp entries e.tag e)) ⊎ (f.tag ≡ e.tag)
+with_others e f [] h i = absurd i
+with_others e f (p ∷ entries) h i = by (nat_cmp e.tag p.0) refl i (with_others e f entries h.2)
   where
-    by : (o : Ordering) → (k ≡ n) ⊎ IsIn n ks → (IsIn n ks → IsIn n (insert_key nat_cmp ks m)) → IsIn n (match_ordering o (m ∷ k ∷ ks) (k ∷ ks) (k ∷ insert_key nat_cmp ks m))
-    by Less j later = inr j
-    by Equal j later = j
-    by Greater (inl q) later = inl q
-    by Greater (inr j) later = inr (later j)
+    same : nat_cmp e.tag p.0 ≡ Equal → p.1 ≡ f → f.tag ≡ e.tag
+    same q r = ap (λ (g : Element). g.tag) (sym r) ∙ h.0 ∙ sym (equal_is e.tag p.0 q)
 
-from_with : (m n : ℕ) (ks : List ℕ) → IsIn n (insert_key nat_cmp ks m) → (m ≡ n) ⊎ IsIn n ks
-from_with m n [] (inl q) = inl q
-from_with m n [] (inr i) = absurd i
-from_with m n (k ∷ ks) i = by (nat_cmp m k) i (from_with m n ks)
+    by : (o : Ordering) → nat_cmp e.tag p.0 ≡ o → (p.1 ≡ f) ⊎ IsIn f (elements_in entries)
+        → (IsIn f (elements_in entries) → IsIn f (elements_in (insert_entry nat_cmp entries e.tag e)) ⊎ (f.tag ≡ e.tag))
+        → IsIn f (elements_in (match_ordering o ((e.tag, e) ∷ p ∷ entries) ((p.0, e) ∷ entries) (p ∷ insert_entry nat_cmp entries e.tag e))) ⊎ (f.tag ≡ e.tag)
+    by Less q j later = inl (inr j)
+    by Equal q (inl r) later = inr (same q r)
+    by Equal q (inr j) later = inl (inr j)
+    by Greater q (inl r) later = inl (inl r)
+    by Greater q (inr j) later = elim (later j) [ inl k ↦ inl (inr k) | inr k ↦ inr k ]
+
+from_with : (e f : Element) (entries : List (ℕ × Element)) → IsIn f (elements_in (insert_entry nat_cmp entries e.tag e)) → (e ≡ f) ⊎ IsIn f (elements_in entries)
+from_with e f [] (inl q) = inl q
+from_with e f [] (inr i) = absurd i
+from_with e f (p ∷ entries) i = by (nat_cmp e.tag p.0) i (from_with e f entries)
   where
-    by : (o : Ordering) → IsIn n (match_ordering o (m ∷ k ∷ ks) (k ∷ ks) (k ∷ insert_key nat_cmp ks m)) → (IsIn n (insert_key nat_cmp ks m) → (m ≡ n) ⊎ IsIn n ks)
-        → (m ≡ n) ⊎ ((k ≡ n) ⊎ IsIn n ks)
+    by : (o : Ordering) → IsIn f (elements_in (match_ordering o ((e.tag, e) ∷ p ∷ entries) ((p.0, e) ∷ entries) (p ∷ insert_entry nat_cmp entries e.tag e)))
+        → (IsIn f (elements_in (insert_entry nat_cmp entries e.tag e)) → (e ≡ f) ⊎ IsIn f (elements_in entries)) → (e ≡ f) ⊎ ((p.1 ≡ f) ⊎ IsIn f (elements_in entries))
     by Less (inl q) later = inl q
     by Less (inr j) later = inr j
-    by Equal j later = inr j
+    by Equal (inl q) later = inl q
+    by Equal (inr j) later = inr (inr j)
     by Greater (inl q) later = inr (inl q)
-    by Greater (inr j) later = elim (later j) [ inl q ↦ inl q | inr l ↦ inr (inr l) ]
+    by Greater (inr j) later = elim (later j) [ inl q ↦ inl q | inr k ↦ inr (inr k) ]
 
--- ---- tags of elements
+-- ---- more elements
 
-pub tags_rise : (elements : List Element) (tags : List ℕ) → Rise tags → Rise (with_tags elements tags)
-tags_rise [] tags h = h
-tags_rise (e ∷ elements) tags h = tags_rise elements (insert_key nat_cmp tags e.tag) (rise_with e.tag tags h)
+pub all_rise : (elements : List Element) (entries : List (ℕ × Element)) → Rise entries → Rise (with_elements elements entries)
+all_rise [] entries h = h
+all_rise (e ∷ elements) entries h = all_rise elements (insert_entry nat_cmp entries e.tag e) (rise_with e entries h)
 
-tags_stay : (elements : List Element) (tags : List ℕ) (n : ℕ) → IsIn n tags → IsIn n (with_tags elements tags)
-tags_stay [] tags n i = i
-tags_stay (e ∷ elements) tags n i = tags_stay elements (insert_key nat_cmp tags e.tag) n (with_others e.tag n tags i)
-
-pub tag_there : (elements : List Element) (tags : List ℕ) (e : Element) → IsIn e elements → IsIn e.tag (with_tags elements tags)
-tag_there [] tags e i = absurd i
-tag_there (f ∷ elements) tags e (inl q) = tags_stay elements (insert_key nat_cmp tags f.tag) e.tag (subst (λ n. IsIn n (insert_key nat_cmp tags f.tag)) (ap (λ g. g.tag) q) (with_this f.tag tags))
-tag_there (f ∷ elements) tags e (inr i) = tag_there elements (insert_key nat_cmp tags f.tag) e i
-
-pub of_tags : (elements : List Element) (tags : List ℕ) (n : ℕ) → IsIn n (with_tags elements tags) → ((e : Element) × IsIn e elements × (e.tag ≡ n)) ⊎ IsIn n tags
-of_tags [] tags n i = inr i
-of_tags (f ∷ elements) tags n i = by (of_tags elements (insert_key nat_cmp tags f.tag) n i)
+pub of_all : (elements : List Element) (entries : List (ℕ × Element)) (f : Element) → IsIn f (elements_in (with_elements elements entries)) → IsIn f elements ⊎ IsIn f (elements_in entries)
+of_all [] entries f i = inr i
+of_all (e ∷ elements) entries f i = by (of_all elements (insert_entry nat_cmp entries e.tag e) f i)
   where
-    first : (f.tag ≡ n) ⊎ IsIn n tags → ((e : Element) × IsIn e (f ∷ elements) × (e.tag ≡ n)) ⊎ IsIn n tags
-    first (inl q) = inl (f, inl refl, q)
+    first : (e ≡ f) ⊎ IsIn f (elements_in entries) → IsIn f (e ∷ elements) ⊎ IsIn f (elements_in entries)
+    first (inl q) = inl (inl q)
     first (inr j) = inr j
 
-    by : ((e : Element) × IsIn e elements × (e.tag ≡ n)) ⊎ IsIn n (insert_key nat_cmp tags f.tag) → ((e : Element) × IsIn e (f ∷ elements) × (e.tag ≡ n)) ⊎ IsIn n tags
-    by (inl there) = inl (there.0, inr there.1, there.2)
-    by (inr j) = first (from_with f.tag n tags j)
+    by : IsIn f elements ⊎ IsIn f (elements_in (insert_entry nat_cmp entries e.tag e)) → IsIn f (e ∷ elements) ⊎ IsIn f (elements_in entries)
+    by (inl j) = inl (inr j)
+    by (inr j) = first (from_with e f entries j)
 
--- ---- elements at tags
+-- where those of one tag are one, none takes the place of another
+module _ (all : List Element) (one : (f g : Element) → IsIn f all → IsIn g all → f.tag ≡ g.tag → f ≡ g) where
+  all_stay : (elements : List Element) (entries : List (ℕ × Element)) (f : Element) → ((g : Element) → IsIn g elements → IsIn g all) → Rise entries → IsIn f all → IsIn f (elements_in entries)
+      → IsIn f (elements_in (with_elements elements entries))
+  all_stay [] entries f within h j i = i
+  all_stay (e ∷ elements) entries f within h j i =
+      all_stay elements (insert_entry nat_cmp entries e.tag e) f (λ g k. within g (inr k)) (rise_with e entries h) j (by (with_others e f entries h i))
+    where
+      by : IsIn f (elements_in (insert_entry nat_cmp entries e.tag e)) ⊎ (f.tag ≡ e.tag) → IsIn f (elements_in (insert_entry nat_cmp entries e.tag e))
+      by (inl k) = k
+      by (inr same) = subst (λ g. IsIn g (elements_in (insert_entry nat_cmp entries e.tag e))) (one e f (within e (inl refl)) j (sym same)) (with_this e entries)
 
-picked_above : (n : ℕ) (elements : List Element) (tags : List ℕ) → AllAbove n tags → IsBelow n (elements_at elements tags)
-picked_above n elements [] h = tt
-picked_above n elements (k ∷ tags) h = by (element_of k elements) refl (picked_above n elements tags h.1)
-  where
-    by : (o : Option Element) → element_of k elements ≡ o → IsBelow n (elements_at elements tags) → IsBelow n (cons_option o (elements_at elements tags))
-    by None p later = later
-    by (Some e) p later = (subst (λ x. n < x) (sym (at_tag_in k elements e p).1) h.0, later)
+  all_there : (elements : List Element) (entries : List (ℕ × Element)) (f : Element) → ((g : Element) → IsIn g elements → IsIn g all) → Rise entries → IsIn f elements
+      → IsIn f (elements_in (with_elements elements entries))
+  all_there [] entries f within h i = absurd i
+  all_there (e ∷ elements) entries f within h (inl q) =
+      all_stay elements (insert_entry nat_cmp entries e.tag e) f (λ g k. within g (inr k)) (rise_with e entries h) (within f (inl q))
+      (subst (λ g. IsIn g (elements_in (insert_entry nat_cmp entries e.tag e))) q (with_this e entries))
+  all_there (e ∷ elements) entries f within h (inr i) = all_there elements (insert_entry nat_cmp entries e.tag e) f (λ g k. within g (inr k)) (rise_with e entries h) i
 
-pub picked_rise : (elements : List Element) (tags : List ℕ) → Rise tags → IsRising (elements_at elements tags)
-picked_rise elements [] h = tt
-picked_rise elements (k ∷ tags) h = by (element_of k elements) refl (picked_rise elements tags h.1)
-  where
-    by : (o : Option Element) → element_of k elements ≡ o → IsRising (elements_at elements tags) → IsRising (cons_option o (elements_at elements tags))
-    by None p later = later
-    by (Some e) p later = (subst (λ x. IsBelow x (elements_at elements tags)) (sym (at_tag_in k elements e p).1) (picked_above k elements tags h.0), later)
+  pub each_there : (f : Element) → IsIn f all → IsIn f (elements_in (with_elements all []))
+  each_there f i = all_there all [] f (λ g k. k) tt i
+
+-- ---- elements of entries
+
+below_all : (n : ℕ) (entries : List (ℕ × Element)) → AllAbove n entries → Rise entries → IsBelow n (elements_in entries)
+below_all n [] l h = tt
+below_all n (p ∷ entries) l h = (subst (λ k. n < k) (sym h.0) l.0, below_all n entries l.1 h.2)
+
+pub elements_rise : (entries : List (ℕ × Element)) → Rise entries → IsRising (elements_in entries)
+elements_rise [] h = tt
+elements_rise (p ∷ entries) h = (subst (λ k. IsBelow k (elements_in entries)) (sym h.0) (below_all p.0 entries h.1 h.2), elements_rise entries h.2)
 
 pub rising_filter : (p : Element → Bool) (elements : List Element) → IsRising elements → IsRising (filter p elements)
 rising_filter p [] rising = tt

@@ -1,12 +1,12 @@
 -- Which triples are looked at, and which elements go and which triples come of them. No public clause cites this module.
-use Rattle.std.specs.Prelude.{◌≡◌, ℕ, ◌<◌, Bool, true, false, ◌&&◌, not, List, [], ◌∷◌, ◌++◌, filter, filter_map, flat_map, get_or, length, map, Option, Some, None, if◌then◌else◌}
-use Rattle.std.specs.BTreeSet.{insert_key}
+use Rattle.std.specs.Prelude.{◌≡◌, ℕ, ◌<◌, Bool, true, false, ◌&&◌, not, List, [], ◌∷◌, ◌++◌, filter, flat_map, get_or, length, map, Option, Some, None, if◌then◌else◌}
+use Rattle.std.specs.BTreeMap.{insert_entry}
 use Rattle.std.specs.Ordering.{nat_cmp}
 use Rattle.soar_sym.specs.Equality.{mark_eq, symbol_eq}
 use Rattle.soar_sym.specs.declared.symbol.Sym.{Sym}
 use Rattle.soar_sym.specs.declared.symbol.Triple.{Triple}
 use Rattle.soar_wm.specs.declared.element.Element.{Element}
-use Rattle.soar_wm.specs.WorkingMemory.{element_of, elements_of, has_triple, triple_of}
+use Rattle.soar_wm.specs.WorkingMemory.{elements_of, has_triple, triple_of}
 use Rattle.defs_soar.specs.declared.goal.Goal.{Goal}
 use Rattle.defs_soar.specs.Goals.{goal_ids, is_goal}
 use Rattle.defs_soar.specs.Settling.{stays}
@@ -77,11 +77,11 @@ comes goals kept elements t = has_triple_among kept t && not (is_standing goals 
 
 -- ---- in order of tag
 
--- tags with those of elements, each at its place, once
-abbrev pub with_tags : List Element → List ℕ → List ℕ
-with_tags [] tags = tags
-with_tags (e ∷ elements) tags = with_tags elements (insert_key nat_cmp tags e.tag)
+-- entries with those of elements, each at its tag
+abbrev pub with_elements : List Element → List (ℕ × Element) → List (ℕ × Element)
+with_elements [] entries = entries
+with_elements (e ∷ elements) entries = with_elements elements (insert_entry nat_cmp entries e.tag e)
 
--- the elements of these tags
-abbrev pub elements_at : List Element → List ℕ → List Element
-elements_at elements tags = filter_map (λ tag. element_of tag elements) tags
+-- the elements of entries
+abbrev pub elements_in : List (ℕ × Element) → List Element
+elements_in entries = map (λ e. e.1) entries

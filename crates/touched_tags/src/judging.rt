@@ -1,94 +1,90 @@
-// What becomes of a triple that is looked at.
-ghost use Rattle.std.specs.Prelude.{◌≡◌, Some, filter, filter_map, IfOk};
-ghost use Rattle.defs_soar.specs.Settling.{stays};
-ghost use Rattle.touched_tags.specs.Looked.{comes, first_with, gone_of, is_flagged, is_standing, unless_stays};
+// What becomes of the triples that are looked at.
+ghost use Rattle.std.specs.Prelude.{◌≡◌, ◌&&◌, [], not, Some, filter, filter_map, IfOk};
+ghost use Rattle.soar_wm.specs.WorkingMemory.{triple_of};
+ghost use Rattle.defs_soar.specs.Values.{has_triple_among};
+ghost use Rattle.touched_tags.specs.Looked.{comes, first_with, gone_of, is_flagged, unless_stays, with_elements};
 
 use crate::kept_set::KeptSet;
 use crate::looking::triple_of;
+use crate::tag_order::add_element;
 use defs_soar::{Goal, is_goal};
 use soar_sym::{List, NoMemory, Triple};
 use soar_wm::{Element, Memory};
 use std::alloc::Global;
+use std::collections::BTreeMap;
 
-/// The elements that go, in the order in which they were looked at.
-pub fn all_gone<K: KeptSet>(
-    alloc: Global,
-    goals: &[Goal],
-    kept: &K,
-    looked: &[Triple],
-    memory: &Memory,
-) -> Result<List<Element>, NoMemory>
-    ensures { IfOk result (λ gone. gone ≡ filter_map (gone_of goals.now (K.triples kept.now) memory.now.elements) looked.now) }
-{
-    let mut gone = List::new(alloc);
-    'looked: for triple in looked {
-        if let Some(element) = gone_of(goals, kept, memory, *triple) {
-            gone.push(element)?;
-        }
-    }
-    Ok(gone)
+/// The elements that go, by tag, and the triples that come, in the order in which they were looked at.
+#[derive(Drop)]
+pub struct Judged {
+    pub gone: BTreeMap<u32, Element>,
+    pub come: List<Triple>,
 }
 
-/// The triples that come, in the order in which they were looked at.
-pub fn all_come<K: KeptSet>(
+/// What becomes of one triple: the element that goes, and whether the triple comes.
+#[derive(Clone, Copy)]
+struct Verdict {
+    gone: Option<Element>,
+    comes: bool,
+}
+
+/// What goes and what comes of the triples that are looked at. Each is looked up once in working memory, and once in
+/// what is kept.
+pub fn judge_all<K: KeptSet>(
     alloc: Global,
     goals: &[Goal],
     kept: &K,
     looked: &[Triple],
     memory: &Memory,
-) -> Result<List<Triple>, NoMemory>
-    ensures { IfOk result (λ come. come ≡ filter (comes goals.now (K.triples kept.now) memory.now.elements) looked.now) }
+) -> Result<Judged, NoMemory>
+    ensures gone { IfOk result (λ judged. judged.gone.entries ≡ with_elements (filter_map (gone_of goals.now (K.triples kept.now) memory.now.elements) looked.now) []) }
+    ensures come { IfOk result (λ judged. judged.come ≡ filter (comes goals.now (K.triples kept.now) memory.now.elements) looked.now) }
 {
+    let mut gone = BTreeMap::new(alloc);
     let mut come = List::new(alloc);
     'looked: for triple in looked {
-        if comes(goals, kept, memory, *triple) {
+        let verdict = verdict_of_triple(goals, kept, memory, *triple);
+        if let Some(element) = verdict.gone {
+            add_element(&mut gone, element)?;
+        }
+        if verdict.comes {
             come.push(*triple)?;
         }
     }
-    Ok(come)
+    Ok(Judged { gone, come })
 }
 
-/// The element that has a triple and does not stay.
-fn gone_of<K: KeptSet>(goals: &[Goal], kept: &K, memory: &Memory, triple: Triple) -> Option<Element>
-    ensures { result ≡ gone_of goals.now (K.triples kept.now) memory.now.elements triple }
+/// An element that has the triple goes where it does not stay. The triple comes where it is kept, and no element with
+/// the right flag has it.
+fn verdict_of_triple<K: KeptSet>(
+    goals: &[Goal],
+    kept: &K,
+    memory: &Memory,
+    triple: Triple,
+) -> Verdict
+    ensures gone { result.gone ≡ gone_of goals.now (K.triples kept.now) memory.now.elements triple }
+    ensures comes { result.comes ≡ comes goals.now (K.triples kept.now) memory.now.elements triple }
 {
     match element_with(memory, triple) {
-        Some(element) => unless_stays(goals, kept, element),
-        None => None,
+        Some(element) => verdict_of_element(goals, kept, element),
+        None => Verdict {
+            gone: None,
+            comes: kept.has(triple),
+        },
     }
 }
 
-/// The element, where its triple is not kept, or its flag is not that of its identifier.
-fn unless_stays<K: KeptSet>(goals: &[Goal], kept: &K, element: Element) -> Option<Element>
-    ensures { result ≡ unless_stays goals.now (K.triples kept.now) (Some element) }
+/// An element goes where its triple is not kept, or its flag is not that of its identifier. Its triple comes where it
+/// is kept, and the flag is another.
+fn verdict_of_element<K: KeptSet>(goals: &[Goal], kept: &K, element: Element) -> Verdict
+    ensures gone { result.gone ≡ unless_stays goals.now (K.triples kept.now) (Some element) }
+    ensures comes { result.comes ≡ (has_triple_among (K.triples kept.now) (triple_of element) && not (is_flagged goals.now element)) }
 {
-    if stays(goals, kept, element) {
-        None
-    } else {
-        Some(element)
-    }
-}
-
-fn stays<K: KeptSet>(goals: &[Goal], kept: &K, element: Element) -> bool
-    ensures { result ≡ stays goals.now (K.triples kept.now) element }
-{
-    kept.has(triple_of(&element)) && is_flagged(goals, element)
-}
-
-/// Whether a triple is kept, and no element with the right flag has it.
-fn comes<K: KeptSet>(goals: &[Goal], kept: &K, memory: &Memory, triple: Triple) -> bool
-    ensures { result ≡ comes goals.now (K.triples kept.now) memory.now.elements triple }
-{
-    kept.has(triple) && !is_standing(goals, memory, triple)
-}
-
-/// Whether an element with the right flag has a triple.
-fn is_standing(goals: &[Goal], memory: &Memory, triple: Triple) -> bool
-    ensures { result ≡ is_standing goals.now (first_with triple memory.now.elements) }
-{
-    match element_with(memory, triple) {
-        Some(element) => is_flagged(goals, element),
-        None => false,
+    let has = kept.has(triple_of(&element));
+    let flagged = is_flagged(goals, element);
+    let gone = if has && flagged { None } else { Some(element) };
+    Verdict {
+        gone,
+        comes: has && !flagged,
     }
 }
 

@@ -11,7 +11,7 @@ ghost use Rattle.soar_settle.specs.Tagging.{IsTripleKnown};
 ghost use Rattle.touched_tags.specs.Plans.{IsSought, Plans};
 ghost use Rattle.touched_tags.specs.Touched.{has_plain};
 
-use crate::judging::{all_come, all_gone};
+use crate::judging::judge_all;
 use crate::kept_set::KeptSet;
 use crate::looking::looked_at;
 use crate::tag_order::in_tag_order;
@@ -69,10 +69,9 @@ fn sought<K: KeptSet>(
     table.law();
     law(memory);
     let looked = looked_at(alloc, before, goals, touched, memory)?;
-    let gone = all_gone(alloc, goals, kept, looked.as_slice(), memory)?;
-    let come = all_come(alloc, goals, kept, looked.as_slice(), memory)?;
-    let going = in_tag_order(alloc, gone.as_slice(), memory)?;
-    let triples = in_order(alloc, table, come.as_slice())?;
+    let judged = judge_all(alloc, goals, kept, looked.as_slice(), memory)?;
+    let going = in_tag_order(alloc, judged.gone)?;
+    let triples = in_order(alloc, table, judged.come.as_slice())?;
     Ok(Plan { going, triples })
 }
 

@@ -1,59 +1,28 @@
 // Elements in order of tag.
-ghost use Rattle.std.specs.Prelude.{◌≡◌, [], IfOk, OnOk};
-ghost use Rattle.std.specs.BTreeSet.{insert_key};
+ghost use Rattle.std.specs.Prelude.{◌≡◌, IfOk, OnOk};
+ghost use Rattle.std.specs.BTreeMap.{insert_entry};
 ghost use Rattle.std.specs.Ordering.{nat_cmp};
-ghost use Rattle.touched_tags.specs.Looked.{elements_at, with_tags};
+ghost use Rattle.touched_tags.specs.Looked.{elements_in};
 
 use soar_sym::{List, NoMemory};
-use soar_wm::{Element, Memory};
+use soar_wm::Element;
 use std::alloc::Global;
-use std::collections::BTreeSet;
+use std::collections::BTreeMap;
 
-/// Elements of working memory in order of tag, each once.
+/// Adds an element at its tag.
+pub fn add_element(tagged: &mut BTreeMap<u32, Element>, element: Element) -> Result<(), NoMemory>
+    ensures { OnOk result (tagged.new.entries ≡ insert_entry nat_cmp tagged.old.entries element.tag element) }
+{
+    tagged.insert(element.tag, element)?;
+    Ok(())
+}
+
+/// Elements in order of tag.
 pub fn in_tag_order(
     alloc: Global,
-    elements: &[Element],
-    memory: &Memory,
+    tagged: BTreeMap<u32, Element>,
 ) -> Result<List<Element>, NoMemory>
-    ensures { IfOk result (λ ordered. ordered ≡ elements_at memory.now.elements (with_tags elements.now [])) }
+    ensures { IfOk result (λ elements. elements ≡ elements_in tagged.entries) }
 {
-    let mut tags = BTreeSet::new(alloc);
-    add_tags(&mut tags, elements)?;
-    let ordered = elements_at(alloc, &tags, memory)?;
-    Ok(ordered)
-}
-
-/// Adds the tags of elements.
-fn add_tags(tags: &mut BTreeSet<u32>, elements: &[Element]) -> Result<(), NoMemory>
-    ensures { OnOk result (tags.new.keys ≡ with_tags elements.now tags.old.keys) }
-{
-    'elements: for element in elements {
-        add_tag(tags, element.tag)?;
-    }
-    Ok(())
-}
-
-/// Adds a tag, where it is new.
-fn add_tag(tags: &mut BTreeSet<u32>, tag: u32) -> Result<(), NoMemory>
-    ensures { OnOk result (tags.new.keys ≡ insert_key nat_cmp tags.old.keys tag) }
-{
-    tags.insert(tag)?;
-    Ok(())
-}
-
-/// The elements of tags.
-fn elements_at(
-    alloc: Global,
-    tags: &BTreeSet<u32>,
-    memory: &Memory,
-) -> Result<List<Element>, NoMemory>
-    ensures { IfOk result (λ elements. elements ≡ elements_at memory.now.elements tags.now.keys) }
-{
-    let mut elements = List::new(alloc);
-    'tags: for tag in tags.iter() {
-        if let Some(element) = memory.get(*tag) {
-            elements.push(element)?;
-        }
-    }
-    Ok(elements)
+    Ok(List::from_vec(tagged.into_values().collect(alloc)?))
 }

@@ -1,16 +1,18 @@
-use Rattle.std.proofs.Common.{rules, ◌≡◌, refl, true, false}
-use Rattle.defs_soar.specs.Values.{has_triple_among}
-use Rattle.kept_triples.proofs.BalanceLemmas.{one_went}
-use Rattle.kept_triples.proofs.LookLemmas.{lacked_already}
+use Rattle.std.proofs.Common.{◌∙◌, ◌∷◌, cond, ap, refl, sym}
+use Rattle.kept_triples.specs.Counts.{how_many}
+use Rattle.kept_triples.proofs.BalanceLemmas.{one_went, stays}
 use Rattle.kept_triples.proofs.looking.go.Goals as goal
 
-pub returns-then-not-has-clause-members : goal.returns-then-not-has-clause-members
-returns-then-not-has-clause-members c =
-    let lacks : has_triple_among c.args.held.now c.args.triple ≡ false = search rules in
-    lacked_already c.args.held.now c.args.triple lacks
+pub returns-then-not-remove-clause-counts : goal.returns-then-not-remove-clause-counts
+returns-then-not-remove-clause-counts c =
+    let new = c.remove.new.self in
+    stays c.args.held.now new c.args.difference.now
+    (λ p. ap (λ b. how_many p (cond b (c.args.triple ∷ new) new)) (sym c.if-not-remove.true) ∙ c.remove.ensures.once p)
 
 pub returns-clause-counts : goal.returns-clause-counts
 returns-clause-counts c =
-    let found : has_triple_among c.args.held.now c.args.triple ≡ true = search rules in
-    one_went c.args.held.now c.remove.new.self c.args.difference.now (record { gone = c.push.new.self; come = c.args.difference.now.come }) c.args.triple
-    (c.remove.ensures.once found) c.in_ok-push.ensures.ok refl
+    let new = c.remove.new.self in
+    let before = c.args.difference.now in
+    one_went c.args.held.now new before (record { gone = c.push.new.self; come = before.come }) c.args.triple
+    (λ p. ap (λ b. how_many p (cond b (c.args.triple ∷ new) new)) (sym c.if-not-remove.false) ∙ c.remove.ensures.once p)
+    c.in_ok-push.ensures.ok refl
