@@ -101,6 +101,24 @@ def chain_of_identifiers(big):
     return linked(CHAIN, 1_000_000 if big else 100_000)
 
 
+def short_name(number):
+    digits = ""
+    while number or not digits:
+        digits = "0123456789abcdefghijklmnopqrstuvwxyz"[number % 36] + digits
+        number //= 36
+    return "n" + digits
+
+
+def longest_chain(big):
+    """As many identifiers as there may be elements, with labels so short that two files hold the commands."""
+    count = 3_999_900 if big else 200_000
+    half = count // 2
+    links = [f"input add <{short_name(n)}> ^n <{short_name(n + 1)}>\n" for n in range(count)]
+    front = "watch 0\n" + CHAIN + "input add S1 ^first <n0>\n"
+    back = "run 1\nstats\ninput remove S1 ^first <n0>\nrun 1\nstats\n"
+    return [front + "".join(links[:half]), "".join(links[half:]), back]
+
+
 def chain_that_a_pattern_takes(big):
     """The same where a condition asks for each link, so that all of them leave the members of one pattern in one step."""
     return linked(LINKS, 1_000_000 if big else 100_000)
@@ -134,6 +152,23 @@ def many_elements(big):
     return "watch 0\n" + "".join(f"input add S1 ^a {n}\n" for n in range(count)) + "run 1\nstats\n"
 
 
+def folded(a, b):
+    product = a * b
+    return (product & (1 << 64) - 1) ^ (product >> 64)
+
+
+def values_that_undo_attributes(big):
+    """For each attribute the value at which the hasher of the tables forgets what it was given before, as their seed is known."""
+    count = 1_000_000 if big else 100_000
+    seed, multiplier = 0x243F6A8885A308D3, 0x9E3779B97F4A7C15 ^ 16
+    top = folded(seed ^ ((ord("S") << 32) + 1), multiplier)
+    lines = ["watch 0"]
+    for attribute in range(1, count + 1):
+        value = folded(top ^ attribute, multiplier)
+        lines.append(f"input add S1 ^{attribute} {value - (1 << 64) if value >> 63 else value}")
+    return "\n".join(lines + ["run 1", "stats"]) + "\n"
+
+
 def many_goals(big):
     return "watch 0\nrun 1000\nstats\n"
 
@@ -162,9 +197,11 @@ ATTACKS = [
     many_variables,
     long_path,
     chain_of_identifiers,
+    longest_chain,
     chain_that_a_pattern_takes,
     deep_chain,
     many_elements,
+    values_that_undo_attributes,
     many_goals,
     ties,
 ]
@@ -183,14 +220,26 @@ def peak(pid, found, done):
         done.wait(0.05)
 
 
+def files_of(folder, texts):
+    """Writes the texts as files, and gives their names."""
+    names = [f"part{n}.soar" for n in range(len(texts))]
+    for name, text in zip(names, texts):
+        with open(os.path.join(folder, name), "wb") as file:
+            file.write(text)
+    return names
+
+
 def attack(given, make):
-    text = make(given.big).encode()
-    with tempfile.TemporaryFile() as file:
-        file.write(text)
+    """The last text is the input, and those before it are files that the command line names."""
+    made = make(given.big)
+    texts = [text.encode() for text in ([made] if isinstance(made, str) else made)]
+    with tempfile.TemporaryFile() as file, tempfile.TemporaryDirectory() as folder:
+        file.write(texts[-1])
         file.seek(0)
         before = resource.getrusage(resource.RUSAGE_CHILDREN)
         process = subprocess.Popen(
-            [given.program],
+            [given.program, *files_of(folder, texts[:-1])],
+            cwd=folder,
             stdin=file,
             stdout=subprocess.DEVNULL,
             preexec_fn=lambda: resource.setrlimit(resource.RLIMIT_STACK, (8 * MIB, 8 * MIB)),
@@ -209,7 +258,7 @@ def attack(given, make):
         after = resource.getrusage(resource.RUSAGE_CHILDREN)
     spent = after.ru_utime + after.ru_stime - before.ru_utime - before.ru_stime
     ended = "given up" if status is None else f"signal {-status}" if status < 0 else f"status {status}"
-    print(f"| {make.__name__} | {len(text) / MIB:.2f} | {ended} | {spent:.1f} | {found[0] / 1024:.0f} |", flush=True)
+    print(f"| {make.__name__} | {sum(map(len, texts)) / MIB:.2f} | {ended} | {spent:.1f} | {found[0] / 1024:.0f} |", flush=True)
 
 
 def main():
