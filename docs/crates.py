@@ -15,12 +15,12 @@ TOP = DOCS.parent
 # Each group of crates: its name, what it is for, its crates. A crate that is in none stands under "others".
 GROUPS = [
     ("symbols and bytes", "the table of words, numbers of identifiers; source, sink and shelf; bytes cut into commands", "soar_sym soar_edge"),
-    ("productions and elements", "a production as plain data, its check and match order; working memory", "soar_rule rule_check condition_copies body_marks soar_wm"),
+    ("productions and elements", "a production as plain data, its check and match order; triples and identifiers as keys; working memory", "soar_rule rule_check condition_copies body_marks packed_triples packed_ids soar_wm"),
     ("definitions", "what all code is proved against: `specs/` and plain types, hardly any code", "defs_text defs_match defs_read defs_soar defs_run"),
     ("laws of definitions", "what the definitions of reading, matching and settling come to", "rule_laws reading_laws net_laws conflict_order settling_laws removal_laws level_laws trace_laws"),
     ("reading", "bytes to tokens, trees and productions; words of the command line", "soar_lex tree_parts soar_tree read_parts soar_read random_words file_names command_words"),
     ("printing", "symbols, productions, explanations and lines of the trace as text", "soar_show chain_texts trace_lines trace_details"),
-    ("matching", "the conflict set: by trying every rule (match_direct), and by a network (rete_net)", "match_row match_direct rete_alpha node_memory join_parts negation_parts node_table node_agenda rete_beta rete_net match_changes open_instances"),
+    ("matching", "the conflict set: by trying every rule (match_direct), and by a network (rete_net)", "match_row match_direct rete_alpha row_tags node_memory join_parts negation_parts node_table node_agenda rete_beta rete_net match_changes open_instances"),
     ("stores", "rows of preferences, inputs, rules and firings, each found by what is asked for", "soar_prefs input_memory rule_shelf soar_record"),
     ("levels and settling", "which identifiers are reached, what is held and kept, goals, and working memory made of it", "level_graph symbol_sets soar_levels level_change soar_settle live_firings kept_triples settle_changes touched_tags soar_goals dependency_tables goal_trimming"),
     ("choosing", "what preferences leave, draws, and the outcome at a goal", "soar_choose soar_decide decision_laws"),
