@@ -81,19 +81,17 @@ const RESULT: Wish = Wish {
     referent: Some(Sym::Int(2)),
 };
 
-fn rule(alloc: Global) -> Rule {
-    Rule {
-        number: 1,
-        production: Production {
-            name: NAME,
-            doc: None,
-            kind: Kind::User,
-            support: Support::Unset,
-            vars: List::new(alloc),
-            conds: List::new(alloc),
-            actions: List::new(alloc),
-        },
-    }
+fn rule(alloc: Global) -> Result<Rule, NoMemory> {
+    let production = Production {
+        name: NAME,
+        doc: None,
+        kind: Kind::User,
+        support: Support::Unset,
+        vars: List::new(alloc),
+        conds: List::new(alloc),
+        actions: List::new(alloc),
+    };
+    Rule::new(alloc, 1, production)
 }
 
 fn firing(alloc: Global, name: Sym, made: &[Wish]) -> Result<Firing, NoMemory>
@@ -103,7 +101,7 @@ fn firing(alloc: Global, name: Sym, made: &[Wish]) -> Result<Firing, NoMemory>
     Ok(Firing {
         number: 3,
         name,
-        rule: rule(alloc),
+        rule: rule(alloc)?,
         depth: 2,
         instance: Instance {
             rule: 1,

@@ -6,11 +6,11 @@ use defs_soar::Firing;
 use soar_sym::{List, NoMemory};
 use std::alloc::Global;
 
-/// A copy that shares no memory with it.
+/// A copy that shares only the production with it.
 pub(crate) fn copy_firing(alloc: Global, firing: &Firing) -> Result<Firing, NoMemory>
     ensures { IfOk result (λ copy. copy ≡ firing.now) }
 {
-    let rule = firing.rule.copy(alloc)?;
+    let rule = firing.rule.share()?;
     let instance = copy_instance(alloc, &firing.instance)?;
     let goals = List::from_slice(alloc, firing.goals.as_slice())?;
     let used = List::from_slice(alloc, firing.used.as_slice())?;

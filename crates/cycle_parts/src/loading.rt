@@ -17,11 +17,12 @@ use crate::engine::Engine;
 use defs_match::Rule;
 use outstanding::Outstanding;
 use soar_rule::Production;
+use std::alloc::Global;
 use wave_parts::{Stop, count_more};
 
 impl<M: Outstanding> Engine<M> {
     /// Loads a production under the next rule number, in the place of that of its name, whose explanation goes too.
-    pub fn load(&mut self, production: Production) -> Result<(), Stop>
+    pub fn load(&mut self, alloc: Global, production: Production) -> Result<(), Stop>
         requires sound { IsSound self.old.parts }
         requires lawful { IsOfLawful self.old.parts }
         requires bond { Bond (M.rules self.old.matcher) (M.elements self.old.matcher) (M.failed self.old.matcher) (M.knows self.old.matcher) self.old.parts }
@@ -36,8 +37,9 @@ impl<M: Outstanding> Engine<M> {
         ensures bond { OnOk result (Bond (M.rules self.new.matcher) (M.elements self.new.matcher) (M.failed self.new.matcher) (M.knows self.new.matcher) self.new.parts) }
     {
         let number = count_more(self.parts.last_rule, 1)?;
-        drop_named(&mut self.parts, &mut self.matcher, production.name);
-        let rule = Rule { number, production };
+        let name = production.name;
+        let rule = Rule::new(alloc, number, production)?;
+        drop_named(&mut self.parts, &mut self.matcher, name);
         self.matcher.rule_comes(&rule)?;
         self.parts.rules.push(rule)?;
         self.parts.last_rule = number;

@@ -11,7 +11,7 @@ use Rattle.soar_settle.specs.declared.stop.Stop.{Stop}
 use Rattle.soar_settle.specs.declared.stop.Stop.TheVariants as stop
 use Rattle.wave_parts.specs.Stands.{Stands}
 use Rattle.wave_parts.specs.declared.parts.Parts.{Parts as PartsKept}
-use Rattle.decision_parts.specs.Stepping.{GoesStep, StopsStep, WentStep}
+use Rattle.cycle_parts.specs.Stepping.{GoesStep, StopsStep, WentStep}
 use Rattle.cycle_phases.specs.Courses.{Goes, Passed, Went, front_said, limit_in}
 
 -- ---- limits

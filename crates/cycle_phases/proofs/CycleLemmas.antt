@@ -17,7 +17,7 @@ use Rattle.step_report.specs.Saying.{SaysEvents}
 use Rattle.wave_parts.specs.Stands.{Stands}
 use Rattle.wave_parts.specs.declared.parts.Parts.{Parts as PartsKept}
 use Rattle.wave_parts.specs.declared.settings.Settings.{Settings}
-use Rattle.decision_parts.specs.Stepping.{GoesStep}
+use Rattle.cycle_parts.specs.Stepping.{GoesStep}
 use Rattle.cycle_parts.specs.Waving.{is_proposing}
 use Rattle.cycle_phases.specs.Courses.{Goes, Went, phase_course, phased}
 use Rattle.cycle_phases.specs.Cycling.{GoesOn, with_application, with_decision, with_input, with_proposals}

@@ -10,6 +10,7 @@ use crate::outcome::Recorded;
 use crate::uses::all_uses;
 use defs_match::{Instance, Rule};
 use defs_soar::{Firing, Goal, Wish};
+use shared_values::Shared;
 use soar_levels::{match_depth, operator_kind};
 use soar_sym::{List, NoMemory, Sym};
 use std::alloc::{AllocError, Global};
@@ -31,7 +32,7 @@ pub fn recorded(
     let depth = match_depth(before.goals.as_slice(), before.memory, tags);
     let firing = firing_of(before, depth, rule, instance, number, goals, made)?;
     Ok(Recorded {
-        firing,
+        firing: Shared::new(before.alloc, firing)?,
         goal: goal_at_depth(before.goals.as_slice(), depth),
         operator_kind: operator_kind(rule, instance, before.goals, before.memory),
     })
@@ -52,7 +53,7 @@ fn firing_of(
     Ok(Firing {
         number,
         name: rule.production.name,
-        rule: rule.copy(before.alloc)?,
+        rule: rule.share()?,
         depth: depth as u32,
         instance: copy_of(before.alloc, instance)?,
         goals,

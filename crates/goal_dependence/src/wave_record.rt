@@ -48,7 +48,7 @@ impl<'a> WithWave<'a> {
             return None;
         }
         match self.wave.get(self.at) {
-            Some(recorded) if recorded.firing.number == number => Some(&recorded.firing),
+            Some(recorded) if recorded.firing.number == number => Some(&*recorded.firing),
             _ => None,
         }
     }
@@ -70,7 +70,7 @@ fn in_wave(wave: &[Recorded], number: u64) -> Option<&Firing>
 {
     'wave: for recorded in wave {
         if recorded.firing.number == number {
-            return Some(&recorded.firing);
+            return Some(&*recorded.firing);
         }
     }
     None

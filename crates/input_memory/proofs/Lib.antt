@@ -1,6 +1,7 @@
 pub mod FirstLemmas
 pub mod IndexLemmas
 pub mod KeyLemmas
+pub mod MarkLemmas
 pub mod OrderLemmas
 pub mod PartLemmas
 pub mod PlaceLemmas

@@ -1,4 +1,5 @@
 pub mod Key
+pub mod Marks
 pub mod Numbered
 pub mod Order
 pub mod Place

@@ -13,19 +13,22 @@ use std::marker::Model;
 #[derive(Drop)]
 pub struct Inputs {
     store: Store,
+    /// Whether an input with the mark was ever added.
+    marked: bool,
 }
 
 impl Model for Inputs {
     ghost use Rattle.std.specs.Prelude.{List as ListOf};
     ghost use Rattle.std.specs.Map.{values_of};
     ghost use Rattle.soar_sym.specs.declared.symbol.Triple.{Triple as TripleOf};
+    ghost use Rattle.input_memory.specs.Marks.{AreMarksTold};
     ghost use Rattle.input_memory.specs.Store.{IsStore};
 
     ghost Value = { ListOf TripleOf };
 
     ghost view = { λ p. values_of p.store.triples.entries };
 
-    ghost invariant = { λ p. IsStore p.store.triples.entries p.store.numbers p.store.next };
+    ghost invariant = { λ p. IsStore p.store.triples.entries p.store.numbers p.store.next × AreMarksTold p.marked (values_of p.store.triples.entries) };
 }
 
 impl Inputs {
@@ -35,6 +38,7 @@ impl Inputs {
     {
         Inputs {
             store: Store::new(alloc),
+            marked: false,
         }
     }
 
@@ -44,7 +48,11 @@ impl Inputs {
         ensures ok { OnOk result (self.new ≡ self.old ++ triple ∷ []) }
         ensures err { OnErr result (self.new ≡ self.old) }
     {
-        self.store.add(triple)
+        self.store.add(triple)?;
+        if triple.accept {
+            self.marked = true;
+        }
+        Ok(())
     }
 
     /// Takes a triple away, wherever it stands. Others keep their order.
@@ -65,6 +73,9 @@ impl Inputs {
     pub fn has(&self, triple: Triple) -> bool
         ensures { result ≡ has_triple_among self.now triple }
     {
+        if triple.accept && !self.marked {
+            return false;
+        }
         self.store.has_key(Key::Whole(triple))
     }
 

@@ -9,4 +9,4 @@ mod random;
 pub use changes::make_changes;
 pub use inputs::changed_inputs;
 pub use queued::Queued;
-pub use random::drop_word;
+pub use random::{RandomWords, drop_word};

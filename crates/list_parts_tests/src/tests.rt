@@ -121,7 +121,7 @@ fn say_matches(table: &SymTable, out: &mut Text, mid_line: &mut bool) -> Result<
     let alloc = out.allocator();
     let instances = instances(alloc)?;
     for (number, name) in [(7, NIL), (8, Sym::Int(-5))] {
-        let rule = rule(alloc, number, name);
+        let rule = rule(alloc, number, name)?;
         list_matches_of(table, &rule, instances.as_slice(), out, mid_line)?;
     }
     Ok(())

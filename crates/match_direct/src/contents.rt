@@ -33,7 +33,7 @@ pub fn remove_element(elements: &mut Vec<Element>, tag: u32)
 pub fn insert_copy(alloc: Global, rules: &mut Vec<Rule>, rule: &Rule) -> Result<(), NoMemory>
     ensures { OnOk result (map rule_seen rules.new.items ≡ with_rule (map rule_seen rules.old.items) (rule_seen rule.now)) }
 {
-    let copy = rule.copy(alloc)?;
+    let copy = rule.share()?;
     let place = place_for_number(rules.as_slice(), rule.number);
     rules.insert(place, copy)?;
     Ok(())

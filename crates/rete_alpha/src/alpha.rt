@@ -16,6 +16,7 @@ use crate::pattern::{ConstPattern, all_masks, masks};
 use crate::requests::{ask_again, ask_first, release_at};
 use crate::shapes::PatternNumbers;
 use crate::slots::{Slot, forget_all, note_all};
+use crate::tags::Tags;
 use slab::Slab;
 use soar_sym::{List, NoMemory};
 use soar_wm::Element;
@@ -25,7 +26,7 @@ use std::marker::Model;
 /// The memories of patterns: for each the tags of the elements that it takes.
 ///
 /// An element finds its patterns by the hashes of at most sixteen masks, and of those alone in whose shape a pattern
-/// was ever asked for, however many patterns there are.
+/// was ever asked for, however many patterns there are. In each that takes it, a change costs the logarithm of its members.
 /// Where a call was refused memory, it tells no contents any more, and each later call that can says that
 /// there is no memory.
 #[derive(Drop)]
@@ -33,7 +34,7 @@ pub struct Alpha {
     numbers: PatternNumbers,
     slots: Slab<Slot>,
     elements: Elements,
-    none: List<u32>,
+    none: Tags,
     failed: bool,
     alloc: Global,
 }
@@ -159,7 +160,7 @@ impl Alpha {
             numbers: PatternNumbers::new(alloc),
             slots: Slab::new(alloc),
             elements: Elements::new(alloc),
-            none: List::new(alloc),
+            none: Tags::new(alloc),
             failed: false,
             alloc,
         })
@@ -239,7 +240,7 @@ impl Alpha {
     }
 
     /// The members of a pattern: the tags of the elements that it takes, in order. None where memory was refused before.
-    pub fn members(&self, n: usize) -> &List<u32>
+    pub fn members(&self, n: usize) -> &Tags
         requires live { self.now.failed ≡ false → IsLive self.now n }
         ensures { self.now.failed ≡ false → (asked : Asked) → asked_at self.now n ≡ Some asked → result.now ≡ tags_taken asked.pattern self.now.elements }
     {

@@ -1,17 +1,15 @@
 // The elements of working memory, by tag.
 ghost use Rattle.std.specs.Prelude.{◌≡◌, false, [], OnOk, OnErr, IfOk};
 ghost use Rattle.std.specs.List.{list_any};
-ghost use Rattle.std.specs.List.Sorted.{IsPermutation, IsSorted};
-ghost use Rattle.std.specs.Map.{values_of};
 ghost use Rattle.std.specs.Option.{option_copied};
-ghost use Rattle.std.specs.Ordering.{nat_cmp};
 ghost use Rattle.defs_match.specs.Contents.{with_element};
 ghost use Rattle.soar_wm.specs.WorkingMemory.{IsRising, element_of, has_tag, without_tag};
-ghost use Rattle.rete_alpha.specs.Entries.{OwnTags, in_order};
+ghost use Rattle.rete_alpha.specs.Numbers.{with_numbers};
 ghost use Rattle.rete_alpha.specs.Taking.{keys_taken, tags_taken};
 
 use crate::pattern::{ConstPattern, takes};
-use soar_sym::{List, NoMemory};
+use crate::tags::Tags;
+use soar_sym::NoMemory;
 use soar_wm::{Element, PackedElement};
 use std::alloc::Global;
 use std::collections::HashMap;
@@ -82,11 +80,12 @@ impl Elements {
     }
 
     /// The tags of the elements that a pattern takes, in order. It looks at each element.
-    pub fn tags_taken(&self, alloc: Global, p: &ConstPattern) -> Result<List<u32>, NoMemory>
+    pub fn tags_taken(&self, alloc: Global, p: &ConstPattern) -> Result<Tags, NoMemory>
         ensures tags { IfOk result (λ tags. tags ≡ tags_taken p.now self.now) }
         ensures rising { OnOk result (IsRising self.now) }
     {
-        tags_of(alloc, &self.by_tag, p)
+        let _count = self.by_tag.len();
+        keys_taken(alloc, &self.by_tag, p)
     }
 }
 
@@ -100,43 +99,19 @@ fn unpacked(packed: Option<&PackedElement>) -> Option<Element>
     }
 }
 
-/// The tags of the elements of a map that a pattern takes, in order.
-fn tags_of(
-    alloc: Global,
-    by_tag: &HashMap<u32, PackedElement>,
-    p: &ConstPattern,
-) -> Result<List<u32>, NoMemory>
-    requires { OwnTags (in_order by_tag.now.entries) }
-    ensures { IfOk result (λ tags. tags ≡ tags_taken p.now (values_of (in_order by_tag.now.entries))) }
-{
-    let _count = by_tag.len();
-    let tags = keys_taken(alloc, by_tag, p)?;
-    Ok(sorted(tags))
-}
-
-/// The tags under which a map has the elements that a pattern takes, in the map's order.
+/// The tags under which a map has the elements that a pattern takes, each put at its place.
 fn keys_taken(
     alloc: Global,
     by_tag: &HashMap<u32, PackedElement>,
     p: &ConstPattern,
-) -> Result<List<u32>, NoMemory>
-    ensures { IfOk result (λ tags. tags ≡ keys_taken p.now by_tag.now.entries) }
+) -> Result<Tags, NoMemory>
+    ensures { IfOk result (λ tags. tags ≡ with_numbers (keys_taken p.now by_tag.now.entries) []) }
 {
-    let mut tags = List::new(alloc);
+    let mut tags = Tags::new(alloc);
     'elements: for (tag, element) in by_tag.iter() {
         if takes(p, &element.element()) {
-            tags.push(*tag)?;
+            tags.insert(*tag)?;
         }
     }
     Ok(tags)
-}
-
-/// The tags, the lowest first.
-fn sorted(tags: List<u32>) -> List<u32>
-    ensures same { IsPermutation tags result }
-    ensures sorted { IsSorted nat_cmp result }
-{
-    let mut tags = tags.into_vec();
-    tags.sort_unstable();
-    List::from_vec(tags)
 }

@@ -8,6 +8,8 @@ mod pattern;
 mod requests;
 mod shapes;
 mod slots;
+mod tags;
 
 pub use alpha::Alpha;
 pub use pattern::ConstPattern;
+pub use tags::Tags;

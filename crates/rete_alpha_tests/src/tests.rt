@@ -99,7 +99,7 @@ fn comes_and_goes(alloc: Global) -> Result<bool, NoMemory> {
     let mut alpha = Alpha::new(alloc)?;
     alpha.add(top(6, u32::from(b'a')))?;
     let n = alpha.pattern(&pattern(*b".*a*-"))?;
-    let there = alpha.members(n).as_slice() == [6].as_slice();
+    let there = alpha.members(n).iter().eq(&[6]);
     alpha.release(n);
     alpha.remove(6);
     let numbers = alpha.accepts(alloc, &top(7, u32::from(b'a')))?;

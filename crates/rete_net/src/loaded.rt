@@ -57,7 +57,7 @@ fn chain_of(alloc: Global, joins: &mut Joins, rule: &Rule) -> Result<Chain, NoMe
     ensures grows { IfOk result (λ chain. Grows (node_at joins.old) (node_at joins.new) chain.nodes) }
     ensures elements { OnOk result (joins.new.elements ≡ joins.old.elements) }
 {
-    let rule = rule.copy(alloc)?;
+    let rule = rule.share()?;
     let form = canonical(alloc, &rule.production)?;
     let mut nodes = List::new(alloc);
     let last = ask_all(joins, 0, form.conds.as_slice(), &mut nodes)?;

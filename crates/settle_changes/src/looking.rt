@@ -13,7 +13,7 @@ use std::alloc::Global;
 pub fn looked_at(alloc: Global, triples: &[Triple], moved: &[Sym]) -> Result<List<Sym>, NoMemory>
     ensures { IfOk result (λ ids. ids ≡ ids_of triples.now ++ moved.now) }
 {
-    let mut ids = List::new(alloc);
+    let mut ids = List::from_vec(Vec::with_capacity(alloc, triples.len())?);
     add_ids(triples, &mut ids)?;
     ids.extend_from_slice(moved)?;
     Ok(ids)

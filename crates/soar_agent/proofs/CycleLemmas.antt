@@ -7,7 +7,7 @@ use Rattle.soar_settle.specs.declared.stop.Stop.{Stop}
 use Rattle.soar_settle.specs.declared.stop.Stop.TheVariants as stop
 use Rattle.wave_parts.specs.declared.parts.Parts.{Parts as PartsKept}
 use Rattle.soar_cycle.specs.Agents.{AgentSeen}
-use Rattle.cycle_phases.specs.Courses.{Goes, Passed, Went, front_said}
+use Rattle.soar_cycle.specs.Courses.{Goes, Passed, Went, front_said}
 use Rattle.session_parts.specs.Stopping.{SaysStop}
 use Rattle.soar_agent.specs.Commands.{Cycled}
 

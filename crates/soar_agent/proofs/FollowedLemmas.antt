@@ -10,7 +10,7 @@ use Rattle.defs_run.specs.Carrying.{followed, told_of}
 use Rattle.soar_settle.specs.declared.stop.Stop.{Stop}
 use Rattle.soar_settle.specs.declared.stop.Stop.TheVariants as stop
 use Rattle.wave_parts.proofs.StandsLemmas.{state_is}
-use Rattle.cycle_phases.specs.Courses.{Goes, Went, front_said, limit_in}
+use Rattle.soar_cycle.specs.Courses.{Goes, Went, front_said, limit_in}
 use Rattle.command_labels.specs.Found.{label_seen}
 use Rattle.command_labels.specs.declared.label.Label.{Label}
 use Rattle.soar_agent.specs.States.{IsReady, session_of}

@@ -20,7 +20,7 @@ use Rattle.soar_settle.specs.declared.stop.Stop.{Stop}
 use Rattle.soar_settle.specs.declared.stop.Stop.TheVariants as stop
 use Rattle.wave_parts.specs.Seen.{agent_of}
 use Rattle.wave_parts.proofs.StandsLemmas.{state_is}
-use Rattle.cycle_parts.specs.Calls.{GivesFresh, fresh_step, next_number}
+use Rattle.soar_cycle.specs.Calls.{GivesFresh, fresh_step, next_number}
 use Rattle.soar_cycle.specs.Agents.{AgentSeen}
 use Rattle.command_labels.specs.Found.{label_seen}
 use Rattle.command_labels.specs.Lettered.{is_lettered}

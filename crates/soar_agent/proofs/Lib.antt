@@ -15,3 +15,4 @@ pub mod SettingLemmas
 pub mod SlotLemmas
 pub mod SoundLemmas
 pub mod SpellingLemmas
+pub use Rattle.soar_cycle.proofs.CourseLemmas

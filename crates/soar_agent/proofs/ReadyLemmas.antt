@@ -23,7 +23,7 @@ use Rattle.wave_parts.specs.Lawful.{IsOfLawful}
 use Rattle.wave_parts.specs.Seen.{Stepped}
 use Rattle.wave_parts.specs.Stands.{Stands}
 use Rattle.wave_parts.specs.declared.parts.Parts.{Parts as PartsKept}
-use Rattle.cycle_parts.specs.Calls.{IsTripleGiven, IsTripleKnown}
+use Rattle.soar_cycle.specs.Calls.{IsTripleGiven, IsTripleKnown}
 use Rattle.soar_cycle.specs.Agents.{AgentSeen, IsSoundAgent}
 use Rattle.command_labels.specs.Found.{label_seen}
 use Rattle.command_labels.specs.declared.label.Label.{Label}

@@ -22,8 +22,8 @@ use Rattle.wave_parts.specs.Seen.{Stepped, agent_of}
 use Rattle.wave_parts.specs.Stands.{Stands}
 use Rattle.wave_parts.specs.declared.parts.Parts.{Parts as PartsKept}
 use Rattle.wave_parts.proofs.StandsLemmas.{state_is}
-use Rattle.cycle_parts.specs.Calls.{drawn}
-use Rattle.decision_parts.specs.Stepping.{GoesStep, QuietStep, WentStep, step_written}
+use Rattle.soar_cycle.specs.Calls.{drawn}
+use Rattle.soar_cycle.specs.Stepping.{GoesStep, QuietStep, WentStep, step_written}
 use Rattle.soar_cycle.specs.Agents.{AgentSeen}
 use Rattle.session_parts.specs.Saying.{Says}
 use Rattle.soar_agent.specs.States.{IsReady, session_of}

@@ -10,7 +10,7 @@ use Rattle.wave_parts.specs.Seen.{Stepped, agent_of}
 use Rattle.wave_parts.specs.Settings.{settings_seen}
 use Rattle.wave_parts.specs.declared.settings.Settings.{Settings}
 use Rattle.wave_parts.proofs.StandsLemmas.{remembers_same, state_is}
-use Rattle.cycle_parts.specs.Calls.{restart_step}
+use Rattle.soar_cycle.specs.Calls.{restart_step}
 use Rattle.soar_cycle.specs.Agents.{AgentSeen}
 use Rattle.command_labels.specs.declared.label.Label.{Label as LabelKept}
 use Rattle.soar_agent.specs.Restarting.{restarts}

@@ -20,7 +20,7 @@ use Rattle.wave_parts.specs.Remembers.{Remembers}
 use Rattle.wave_parts.specs.Seen.{IsSound}
 use Rattle.wave_parts.specs.declared.parts.Parts.{Parts as PartsKept}
 use Rattle.wave_parts.proofs.StandsLemmas.{remembers_same}
-use Rattle.cycle_parts.specs.Calls.{IsTripleKnown, MayBeLoaded}
+use Rattle.soar_cycle.specs.Calls.{IsTripleKnown, MayBeLoaded}
 use Rattle.soar_cycle.specs.Agents.{AgentSeen, with_table as agent_with_table}
 use Rattle.soar_cycle.proofs.TableLemmas.{sound_with_table}
 use Rattle.soar_agent.specs.Carries.{with_table}

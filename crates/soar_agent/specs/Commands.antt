@@ -15,7 +15,7 @@ use Rattle.soar_settle.specs.declared.stop.Stop.TheVariants as stop
 use Rattle.wave_parts.specs.Remembers.{Remembers}
 use Rattle.wave_parts.specs.Seen.{agent_of}
 use Rattle.soar_cycle.specs.Agents.{AgentSeen}
-use Rattle.cycle_phases.specs.Courses.{Went, front_said, limit_in}
+use Rattle.soar_cycle.specs.Courses.{Went, front_said, limit_in}
 use Rattle.soar_agent.specs.States.{IsReady, session_of}
 use Rattle.soar_agent.specs.Steps.{Obeys}
 use Rattle.soar_agent.specs.Telling.{front_told, limit_told}

@@ -13,3 +13,6 @@ pub mod States
 pub mod Steps
 pub mod Telling
 pub mod Writing
+pub use Rattle.soar_cycle.specs.Agents
+pub use Rattle.soar_cycle.specs.Courses
+pub use Rattle.soar_cycle.specs.declared.standing.Standing

@@ -8,7 +8,7 @@ ghost use Rattle.defs_run.specs.Orders.{add_wme};
 ghost use Rattle.soar_agent.specs.Running.{run_learning};
 ghost use Rattle.command_orders.specs.Asked.{operand_seen};
 ghost use Rattle.command_orders.specs.Known.{IsAdditionKnown, IsOperandKnown};
-ghost use Rattle.cycle_parts.specs.Calls.{IsTripleKnown};
+ghost use Rattle.soar_cycle.specs.Calls.{IsTripleKnown};
 ghost use Rattle.soar_agent.specs.Adding.{adds_at_top, adds_by, adds_to, adds_triple, makes_labelled};
 ghost use Rattle.soar_agent.specs.Carries.{Carries, Replies};
 ghost use Rattle.soar_agent.specs.Numbered.{IsOperandNumbered, IsSlotNumbered, IsTripleNumbered};

@@ -1,7 +1,7 @@
 // The inputs of the agent.
 ghost use Rattle.std.specs.Prelude.{IfOk};
 ghost use Rattle.defs_run.specs.Inputs.{with_inputs};
-ghost use Rattle.cycle_parts.specs.Calls.{IsTripleKnown, with_input};
+ghost use Rattle.soar_cycle.specs.Calls.{IsTripleKnown, with_input};
 ghost use Rattle.soar_agent.specs.Carries.{Replies};
 ghost use Rattle.soar_agent.specs.Numbered.{IsTripleNumbered};
 ghost use Rattle.soar_agent.specs.States.{IsReady};

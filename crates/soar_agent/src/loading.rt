@@ -5,7 +5,7 @@ ghost use Rattle.soar_rule.specs.Productions.{production_seen};
 ghost use Rattle.soar_rule.specs.Symbols.{AreKnown, symbols_of};
 ghost use Rattle.defs_run.specs.Carrying.{loaded};
 ghost use Rattle.defs_soar.specs.Pending.{is_justification};
-ghost use Rattle.cycle_parts.specs.Calls.{MayBeLoaded};
+ghost use Rattle.soar_cycle.specs.Calls.{MayBeLoaded};
 ghost use Rattle.soar_agent.specs.Carries.{RepliesNothing};
 ghost use Rattle.soar_agent.specs.States.{IsReady};
 

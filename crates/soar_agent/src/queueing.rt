@@ -8,7 +8,7 @@ ghost use Rattle.defs_soar.specs.History.{RecordedFiring};
 ghost use Rattle.wave_parts.specs.Remembers.{Remembers};
 ghost use Rattle.command_orders.specs.Asked.{operand_seen};
 ghost use Rattle.command_orders.specs.Known.{IsAdditionKnown};
-ghost use Rattle.cycle_parts.specs.Calls.{IsTripleKnown};
+ghost use Rattle.soar_cycle.specs.Calls.{IsTripleKnown};
 ghost use Rattle.soar_agent.specs.Carries.{Carries, RepliesNothing};
 ghost use Rattle.soar_agent.specs.Labels.{Spells};
 ghost use Rattle.soar_agent.specs.Numbered.{IsAdditionNumbered, IsTripleNumbered};

@@ -5,7 +5,7 @@ ghost use Rattle.defs_run.specs.Carrying.{carried_out};
 ghost use Rattle.defs_run.specs.Inputs.{removed};
 ghost use Rattle.defs_run.specs.Orders.{remove_wme};
 ghost use Rattle.soar_agent.specs.Running.{run_learning};
-ghost use Rattle.cycle_parts.specs.Calls.{IsTripleKnown};
+ghost use Rattle.soar_cycle.specs.Calls.{IsTripleKnown};
 ghost use Rattle.soar_agent.specs.Carries.{Carries};
 ghost use Rattle.soar_agent.specs.Numbered.{IsTripleNumbered};
 ghost use Rattle.soar_agent.specs.States.{IsReady};

@@ -2,3 +2,4 @@ pub mod ChunkLemmas
 pub mod CountLemmas
 pub mod TableLemmas
 pub mod ToldLemmas
+pub use Rattle.cycle_phases.proofs.CourseLemmas

@@ -6,7 +6,7 @@ use Rattle.defs_soar.specs.Resettling.{AgentStep}
 use Rattle.soar_settle.specs.declared.stop.Stop.{Stop}
 use Rattle.soar_settle.specs.declared.stop.Stop.TheVariants as stop
 use Rattle.wave_parts.specs.declared.parts.Parts.{Parts as PartsKept}
-use Rattle.decision_parts.specs.Stepping.{GoesStep, StopsStep, WentStep}
+use Rattle.cycle_parts.specs.Stepping.{GoesStep, StopsStep, WentStep}
 use Rattle.cycle_parts.specs.Waving.{WavesFrom, Worked}
 use Rattle.cycle_parts.specs.declared.waving.Waved.{Waved}
 use Rattle.cycle_parts.specs.declared.waving.Waved.TheVariants as waved

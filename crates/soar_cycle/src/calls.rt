@@ -6,7 +6,7 @@ ghost use Rattle.wave_parts.specs.Stands.{Stands};
 ghost use Rattle.soar_sym.specs.Letters.{last_of};
 ghost use Rattle.soar_sym.specs.Words.{IsKnown};
 ghost use Rattle.cycle_parts.specs.Calls.{GivesFresh, IsTripleGiven, input_step, queue_step, random_step, restart_step};
-ghost use Rattle.decision_parts.specs.Stepping.{GoesStep, QuietStep};
+ghost use Rattle.cycle_parts.specs.Stepping.{GoesStep, QuietStep};
 
 use crate::agent::Agent;
 use crate::standing::{Standing, standing_after};

@@ -10,7 +10,7 @@ ghost use Rattle.defs_match.specs.Conflict.{conflict};
 ghost use Rattle.defs_match.specs.Rules.{rule_seen};
 ghost use Rattle.defs_soar.specs.Pending.{is_justification};
 ghost use Rattle.cycle_parts.specs.Calls.{MayBeLoaded, excised_agent, load_step};
-ghost use Rattle.decision_parts.specs.Stepping.{QuietStep};
+ghost use Rattle.cycle_parts.specs.Stepping.{QuietStep};
 
 use crate::agent::Agent;
 use crate::standing::{Standing, standing_after};
@@ -39,7 +39,7 @@ impl<M: Outstanding> Agent<M> {
         if let Some(stop) = self.standing.stop() {
             return Err(stop);
         }
-        let answer = self.engine.load(production);
+        let answer = self.engine.load(self.alloc, production);
         self.standing = standing_after(self.standing, &answer);
         answer
     }

@@ -7,7 +7,7 @@ ghost use Rattle.wave_parts.specs.Stands.{Stands};
 ghost use Rattle.defs_soar.specs.Cycle.{cycle};
 ghost use Rattle.defs_soar.specs.Decision.{decided_by};
 ghost use Rattle.defs_soar.specs.Learning.{with_learning};
-ghost use Rattle.decision_parts.specs.Stepping.{GoesStep};
+ghost use Rattle.cycle_parts.specs.Stepping.{GoesStep};
 ghost use Rattle.cycle_parts.specs.Waving.{WavesFrom, is_proposing};
 ghost use Rattle.cycle_phases.specs.Courses.{Goes, IsEndOf, phase_course, phased};
 

@@ -35,7 +35,7 @@ pub fn fire(
     ensures words { Grown table.old table.new }
     ensures letters { LettersKeep letters.old letters.new }
 {
-    let production = &rule.production;
+    let production = &*rule.production;
     let mut bindings = bindings_of(
         alloc,
         production.conds.as_slice(),

@@ -37,7 +37,7 @@ fn event_of(number: u64, row: Preference, came: bool) -> Event
 pub fn triples(alloc: Global, events: &[Event]) -> Result<List<Triple>, NoMemory>
     ensures { IfOk result (λ triples. triples ≡ map (λ event. plain (row_of event)) events.now) }
 {
-    let mut triples = List::new(alloc);
+    let mut triples = List::from_vec(Vec::with_capacity(alloc, events.len())?);
     'events: for event in events {
         triples.push(Triple {
             id: event.id,

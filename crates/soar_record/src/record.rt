@@ -7,6 +7,7 @@ ghost use Rattle.soar_record.specs.Recorded.{of_numbers, recorded};
 
 use defs_soar::{Firing, Keeps};
 use indexmap::IndexMap;
+use shared_values::Shared;
 use soar_sym::NoMemory;
 use std::alloc::Global;
 use std::collections::BTreeSet;
@@ -18,7 +19,7 @@ const LEAST_BOUND: usize = 1_000;
 /// Firings by number, in the order in which they were added.
 #[derive(Drop)]
 pub struct Record {
-    firings: IndexMap<u64, Firing>,
+    firings: IndexMap<u64, Shared<Firing>>,
     /// With more firings than this it is time to look for those that nothing needs.
     bound: usize,
 }
@@ -51,7 +52,7 @@ impl Record {
     }
 
     /// Adds a firing, the last.
-    pub fn add(&mut self, firing: Firing) -> Result<(), NoMemory>
+    pub fn add(&mut self, firing: Shared<Firing>) -> Result<(), NoMemory>
         requires { firing_of (recorded self.old) firing.number ≡ [] }
         ensures ok { OnOk result (self.new ≡ self.old ++ firing ∷ []) }
         ensures recorded { OnOk result (recorded self.new ≡ recorded self.old ++ firing_seen firing ∷ []) }
@@ -72,7 +73,7 @@ impl Record {
         ensures { recorded self.new ≡ of_numbers numbers.now.keys (recorded self.old) }
     {
         self.firings.retain(
-            |number: &u64, firing: &mut Firing| -> bool
+            |number: &u64, firing: &mut Shared<Firing>| -> bool
                 ensures { (result ≡ list_any (λ n. n == number.now) numbers.entry.now.keys) × (firing.new ≡ firing.old) }
             { is_among(numbers, *number) },
         );
@@ -97,6 +98,9 @@ impl Keeps for Record {
     ghost kept = { λ r. recorded r };
 
     fn firing(&self, number: u64) -> Option<&Firing> {
-        self.firings.get(&number)
+        match self.firings.get(&number) {
+            Some(firing) => Some(&**firing),
+            None => None,
+        }
     }
 }

@@ -16,9 +16,9 @@ use Rattle.soar_settle.specs.declared.stop.Stop.TheVariants as stop
 use Rattle.wave_parts.specs.Remembers.{Remembers}
 use Rattle.wave_parts.specs.Seen.{agent_of}
 use Rattle.wave_parts.proofs.StandsLemmas.{of_each_state, stands_at}
-use Rattle.soar_cycle.specs.Agents.{AgentSeen}
-use Rattle.cycle_phases.specs.Courses.{Went, front_said, limit_in}
-use Rattle.cycle_phases.proofs.CourseLemmas.{front_append, front_stops, limit_append, limit_behind, none_went, went_then}
+use Rattle.soar_agent.specs.Agents.{AgentSeen}
+use Rattle.soar_agent.specs.Courses.{Went, front_said, limit_in}
+use Rattle.soar_agent.proofs.CourseLemmas.{front_append, front_stops, limit_append, limit_behind, none_went, went_then}
 use Rattle.soar_agent.specs.Commands.{Cycled}
 use Rattle.soar_agent.specs.Writing.{limit_line}
 use Rattle.soar_run.specs.Cycles.{PassesLimit, WentBehind, WentSaying, WritesCycle, course_text, cycle_of, cycles_behind}

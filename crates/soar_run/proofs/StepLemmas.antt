@@ -18,7 +18,7 @@ use Rattle.soar_settle.specs.declared.stop.Stop.{Stop}
 use Rattle.soar_settle.specs.declared.stop.Stop.TheVariants as stop
 use Rattle.wave_parts.specs.Remembers.{Remembers}
 use Rattle.wave_parts.specs.Seen.{agent_of}
-use Rattle.cycle_phases.specs.Courses.{front_said, limit_in}
+use Rattle.soar_agent.specs.Courses.{front_said, limit_in}
 use Rattle.soar_agent.specs.Commands.{AsksToRun, Commands}
 use Rattle.soar_agent.specs.States.{session_of}
 use Rattle.soar_agent.specs.Steps.{Obeys, Replied}

@@ -11,8 +11,8 @@ use Rattle.defs_soar.specs.declared.limit.Which.{Which}
 use Rattle.defs_soar.specs.Phases.{Course}
 use Rattle.defs_run.specs.Sessions.{goes_on}
 use Rattle.command_runs.specs.Carrying.{sequel_of}
-use Rattle.soar_cycle.specs.Agents.{AgentSeen}
-use Rattle.cycle_phases.specs.Courses.{Went, front_said, limit_in}
+use Rattle.soar_agent.specs.Agents.{AgentSeen}
+use Rattle.soar_agent.specs.Courses.{Went, front_said, limit_in}
 use Rattle.soar_agent.specs.Writing.{limit_line}
 use Rattle.soar_agent.specs.declared.state.Session.{Session as SessionKept}
 use Rattle.soar_run.specs.Ready.{IsReadySession}

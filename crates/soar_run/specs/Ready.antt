@@ -1,6 +1,6 @@
 -- A session between two commands, that stands for a state.
 use Rattle.std.specs.Prelude.{◌≡◌}
-use Rattle.soar_cycle.specs.declared.standing.Standing.TheVariants as standing
+use Rattle.soar_agent.specs.Standing.TheVariants as standing
 use Rattle.soar_agent.specs.States.{IsReady}
 use Rattle.soar_agent.specs.declared.state.Session.{Session as SessionKept}
 

@@ -1,5 +1,5 @@
 -- Two lists in order make one, and it is that of all triples.
-use Rattle.std.proofs.Common.{◌≡◌, ◌∙◌, refl, sym, ap, ap₂, Bool, true, false, cond, ◌||◌, ◌<◌, inl, inr, arith, List, [], ◌∷◌, ◌++◌, length, Ordering, Less, Equal, Greater, is_lt}
+use Rattle.std.proofs.Common.{◌≡◌, ◌∙◌, refl, sym, ap, ap₂, Bool, true, false, cond, ◌||◌, inl, inr, List, [], ◌∷◌, ◌++◌, Ordering, Less, Equal, Greater, is_lt}
 use Rattle.std.proofs.lemmas.List.Folds.{list_any-append}
 use Rattle.std.specs.Ordering.{match_ordering, ordering_reverse}
 use Rattle.soar_sym.specs.Order.{triple_cmp}
@@ -10,11 +10,11 @@ use Rattle.defs_soar.specs.Values.{has_triple_among, triple_eq}
 use Rattle.settling_laws.proofs.ChangeLemmas.{table_tells_apart}
 use Rattle.settling_laws.proofs.OrderLemmas.{order_is_of_members}
 use Rattle.soar_settle.specs.Known.{AreTriplesKnown}
-use Rattle.soar_settle.specs.Merging.{IsFirst, IsSorting, Rises, left, merged, moved}
+use Rattle.soar_settle.specs.Merging.{IsFirst, IsSorting, Rises, is_rising, left, merged, moved}
 use Rattle.soar_settle.specs.Tagging.{IsTripleKnown}
 use Rattle.soar_settle.proofs.KnownLemmas.{known_each, known_in}
 use Rattle.soar_settle.proofs.MemberLemmas.{has_member, member_has}
-use Rattle.soar_settle.proofs.TripleOrderLemmas.{first_before, triples_total}
+use Rattle.soar_settle.proofs.TripleOrderLemmas.{first_before, rises_already, triples_total}
 
 -- ---- in order
 
@@ -173,9 +173,7 @@ module _ (words : Texts) where
         ∙ order_is_of_members words sorted triples
         (table_tells_apart words sorted table (λ t i. known_in words sorted t (known_sorted triples sorted is known) i)) is.same
 
--- ---- at most one
+-- ---- triples that are in order already
 
-pub one_sorted : (words : Texts) (triples : List Triple) → length triples < 2 → IsSorting words triples triples
-one_sorted words [] few = record { rises = tt; same = λ t. refl }
-one_sorted words (t ∷ []) few = record { rises = (tt, tt); same = λ u. refl }
-one_sorted words (t ∷ u ∷ triples) few = absurd (omega (arith, few))
+pub rising_sorted : (words : Texts) (triples : List Triple) → is_rising words triples ≡ true → IsSorting words triples triples
+rising_sorted words triples rising = record { rises = rises_already words triples rising; same = λ t. refl }

@@ -1,7 +1,8 @@
 -- Triples in their order rise, so none of them stands twice.
-use Rattle.std.proofs.Common.{◌≡◌, ◌∙◌, ap, sym, refl, subst, Bool, true, false, cond, ◌&&◌, List, [], ◌∷◌, Ordering, Less, Equal, Greater, is_lt}
+use Rattle.std.proofs.Common.{◌≡◌, ◌∙◌, ap, sym, refl, subst, Bool, true, false, cond, ◌&&◌, ℕ, ◌+◌, ◌<◌, arith, List, [], ◌∷◌, length, get_or, drop, Ordering, Less, Equal, Greater, is_lt}
 use Rattle.std.specs.Cmp.{IsTotalOrder, bool_cmp_total}
 use Rattle.std.specs.Ordering.{bool_cmp}
+use Rattle.std.proofs.lemmas.List.{at_drop_more}
 use Rattle.std.proofs.lemmas.Cmp.{on_total, then_total, tied_itself}
 use Rattle.soar_sym.specs.Equality.{mark_eq, symbol_eq}
 use Rattle.soar_sym.specs.Order.{mark_cmp, triple_cmp}
@@ -11,7 +12,7 @@ use Rattle.soar_sym.specs.declared.symbol.Triple.{Triple}
 use Rattle.defs_soar.specs.Sorted.{in_order, with_triple_at}
 use Rattle.defs_soar.specs.Values.{triple_eq}
 use Rattle.soar_settle.specs.Known.{AreTriplesKnown}
-use Rattle.soar_settle.specs.Merging.{IsFirst, Rises}
+use Rattle.soar_settle.specs.Merging.{IsFirst, Rises, is_rising, rises_after}
 use Rattle.soar_settle.specs.Tagging.{IsTripleKnown}
 use Rattle.settling_laws.proofs.SymbolOrderLemmas.{symbol_same, symbols_total}
 
@@ -104,6 +105,32 @@ module _ (words : Texts) where
   pub rises_in_order : (triples : List Triple) → Rises words (in_order words triples)
   rises_in_order [] = tt
   rises_in_order (t ∷ triples) = rises_with t (in_order words triples) (rises_in_order triples)
+
+  -- ---- neighbours in order
+
+  rises_on : (t : Triple) (triples : List Triple) → rises_after words t triples ≡ true → Rises words (t ∷ triples)
+  rises_on t [] h = (tt, tt)
+  rises_on t (u ∷ triples) h =
+      let parts = both (is_lt (triple_cmp words t u)) (rises_after words u triples) h in
+      let less = is_less (triple_cmp words t u) parts.0 in
+      let later = rises_on u triples parts.1 in
+      ((less, first_before t u triples less later.0), later)
+
+  pub rises_already : (triples : List Triple) → is_rising words triples ≡ true → Rises words triples
+  rises_already [] h = tt
+  rises_already (t ∷ triples) h = rises_on t triples h
+
+  pub two_where_not_rising : (triples : List Triple) → is_rising words triples ≡ false → 1 < length triples
+  two_where_not_rising [] h = cc
+  two_where_not_rising (t ∷ []) h = cc
+  two_where_not_rising (t ∷ u ∷ triples) h = omega arith
+
+  -- a loop's step
+  pub rises_more : (t : Triple) (triples : List Triple) (at : ℕ) → at < length triples → is_lt (triple_cmp words t (get_or triples at no_triple)) ≡ true
+      → rises_after words (get_or triples at no_triple) (drop (at + 1) triples) ≡ rises_after words t (drop at triples)
+  rises_more t triples at less before =
+      let u : Triple = get_or triples at no_triple in
+      sym (at_drop_more (rises_after words t) triples at no_triple less ∙ ap (λ b. b && rises_after words u (drop (at + 1) triples)) before)
 
   -- ---- known symbols
 

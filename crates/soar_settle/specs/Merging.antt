@@ -1,6 +1,6 @@
 -- Two lists of triples in their order made one. No public clause cites this module.
-use Rattle.std.specs.Prelude.{◌≡◌, List, [], ◌∷◌, ◌++◌}
-use Rattle.std.specs.Ordering.{match_ordering}
+use Rattle.std.specs.Prelude.{◌≡◌, Bool, true, ◌&&◌, List, [], ◌∷◌, ◌++◌}
+use Rattle.std.specs.Ordering.{is_lt, match_ordering}
 use Rattle.std.specs.declared.cmp.Ordering.TheVariants.{Less}
 use Rattle.soar_sym.specs.Order.{triple_cmp}
 use Rattle.soar_sym.specs.Words.{Texts}
@@ -31,6 +31,16 @@ IsFirst words t (u ∷ triples) = (triple_cmp words t u ≡ Less) × IsFirst wor
 abbrev pub Rises : Texts → List Triple → Type 0
 Rises words [] = Unit {0}
 Rises words (t ∷ triples) = IsFirst words t triples × Rises words triples
+
+-- whether the triple comes before the first of these, and each before the next
+abbrev pub rises_after : Texts → Triple → List Triple → Bool
+rises_after words t [] = true
+rises_after words t (u ∷ triples) = is_lt (triple_cmp words t u) && rises_after words u triples
+
+-- whether each comes before the next
+abbrev pub is_rising : Texts → List Triple → Bool
+is_rising words [] = true
+is_rising words (t ∷ triples) = rises_after words t triples
 
 -- the same triples, each before all after it
 pub record IsSorting (words : Texts) (triples sorted : List Triple) : Type 0 where

@@ -35,11 +35,12 @@ pub fn made_of(alloc: Global, entries: List<Entry>) -> Result<WaveMade, NoMemory
     ensures recorded { IfOk result (λ e. map recorded_seen e.recorded ≡ map fresh_recorded (all_fresh (map entry_seen entries))) }
     ensures told { IfOk result (λ e. flat_map told_events e.told ≡ flat_map entry_events (map entry_seen entries)) }
 {
+    let count = entries.len();
     let mut made = WaveMade {
-        rows: List::new(alloc),
-        live: List::new(alloc),
-        recorded: List::new(alloc),
-        told: List::new(alloc),
+        rows: List::from_vec(Vec::with_capacity(alloc, count)?),
+        live: List::from_vec(Vec::with_capacity(alloc, count)?),
+        recorded: List::from_vec(Vec::with_capacity(alloc, count)?),
+        told: List::from_vec(Vec::with_capacity(alloc, count)?),
     };
     'entries: for entry in entries.into_vec() {
         add_entry(alloc, &mut made, entry)?;

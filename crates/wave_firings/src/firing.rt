@@ -20,7 +20,7 @@ use defs_match::Instance;
 use firing_records::Before;
 use rule_shelf::Rules;
 use soar_settle::Stop;
-use soar_sym::{Letters, List, SymTable};
+use soar_sym::{Letters, List, NoMemory, SymTable};
 use std::alloc::Global;
 use wave_entries::Entry;
 
@@ -61,7 +61,7 @@ pub fn fire_all(
     ensures told_known { IfOk result (λ fired. AreEventsKnown table.new (events_in (map entry_seen fired.entries))) }
     ensures goals { IfOk result (λ fired. AreGoalsOf before.now.goals.now (recorded_in (map entry_seen fired.entries))) }
 {
-    let mut fired = nothing_fired(alloc);
+    let mut fired = nothing_fired(alloc, instances.len())?;
     let scene = Scene {
         alloc,
         before,
@@ -78,12 +78,12 @@ pub fn fire_all(
     Ok(fired)
 }
 
-/// Nothing yet. It takes no memory.
-fn nothing_fired(alloc: Global) -> Fired
-    ensures { result ≡ nothing_fired }
+/// Nothing yet, and room for so many firings.
+fn nothing_fired(alloc: Global, count: usize) -> Result<Fired, NoMemory>
+    ensures { IfOk result (λ fired. fired ≡ nothing_fired) }
 {
-    Fired {
-        entries: List::new(alloc),
+    Ok(Fired {
+        entries: List::from_vec(Vec::with_capacity(alloc, count)?),
         halted: false,
-    }
+    })
 }

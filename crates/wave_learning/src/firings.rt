@@ -105,7 +105,7 @@ fn firing_at(entry: &Entry, number: u64) -> Option<&Firing>
     match entry {
         Entry::Fired(fresh) => {
             if fresh.recorded.firing.number == number {
-                Some(&fresh.recorded.firing)
+                Some(&*fresh.recorded.firing)
             } else {
                 None
             }

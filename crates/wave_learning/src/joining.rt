@@ -84,7 +84,7 @@ fn joined_rule(
         binds,
         why,
     } = rule;
-    let rule = Rule { number, production };
+    let rule = Rule::new(scene.before.alloc, number, production)?;
     let recorded = learned_firing(
         table,
         scene.before,

@@ -18,3 +18,4 @@ pub mod Stands
 pub mod Teaching
 pub mod WaveParts
 pub mod Working
+pub use Rattle.wave_learning.specs.Hands

@@ -1,7 +1,7 @@
 use crate::settings::Settings;
 use dependency_tables::Dependencies;
 use input_memory::Inputs;
-use input_queue::Queued;
+use input_queue::{Queued, RandomWords};
 use kept_triples::Kept;
 use live_firings::LiveFirings;
 use rule_shelf::Rules;
@@ -44,7 +44,7 @@ pub struct Parts {
     /// The changes of the inputs that wait for the next input phase, the first of them first.
     pub queue: List<Queued>,
     /// The random words that wait for draws, the next of them first.
-    pub random: List<u64>,
+    pub random: RandomWords,
     pub live: LiveFirings,
     pub cycles: u64,
     pub waves: u64,

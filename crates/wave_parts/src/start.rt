@@ -16,6 +16,7 @@ use crate::settings::Settings;
 use defs_soar::Mode;
 use dependency_tables::Dependencies;
 use input_memory::Inputs;
+use input_queue::RandomWords;
 use kept_triples::Kept;
 use learning_laws::agents_stay_lawful;
 use live_firings::LiveFirings;
@@ -109,7 +110,7 @@ impl Parts {
             changed: List::new(alloc),
             kept,
             queue: List::new(alloc),
-            random: List::new(alloc),
+            random: RandomWords::new(alloc),
             live: LiveFirings::new(alloc),
             cycles: 0,
             waves: 0,

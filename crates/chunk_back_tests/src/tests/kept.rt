@@ -7,6 +7,7 @@ ghost use Rattle.soar_record.specs.Recorded.{recorded};
 use defs_match::{Instance, Rule};
 use defs_soar::{Firing, How, Keeps, Used};
 use record_keeping::keep_only;
+use shared_values::Shared;
 use soar_record::Record;
 use soar_rule::{Kind, Production, Support};
 use soar_sym::{List, NoMemory, Sym};
@@ -28,19 +29,17 @@ pub const fn used(tag: u32, how: How) -> Used {
     }
 }
 
-fn rule(alloc: Global) -> Rule {
-    Rule {
-        number: 1,
-        production: Production {
-            name: Sym::Word(24),
-            doc: None,
-            kind: Kind::User,
-            support: Support::Unset,
-            vars: List::new(alloc),
-            conds: List::new(alloc),
-            actions: List::new(alloc),
-        },
-    }
+fn rule(alloc: Global) -> Result<Rule, NoMemory> {
+    let production = Production {
+        name: Sym::Word(24),
+        doc: None,
+        kind: Kind::User,
+        support: Support::Unset,
+        vars: List::new(alloc),
+        conds: List::new(alloc),
+        actions: List::new(alloc),
+    };
+    Rule::new(alloc, 1, production)
 }
 
 fn firing(alloc: Global, number: u64, used: &[Used]) -> Result<Firing, NoMemory>
@@ -50,7 +49,7 @@ fn firing(alloc: Global, number: u64, used: &[Used]) -> Result<Firing, NoMemory>
     Ok(Firing {
         number,
         name: Sym::Word(24),
-        rule: rule(alloc),
+        rule: rule(alloc)?,
         depth: 2,
         instance: Instance {
             rule: 1,
@@ -99,7 +98,7 @@ pub fn add(alloc: Global, kept: &mut Record, number: u64, used: &[Used]) -> Resu
         return Ok(());
     }
     let firing = firing(alloc, number, used)?;
-    kept.add(firing)?;
+    kept.add(Shared::new(alloc, firing)?)?;
     Ok(())
 }
 

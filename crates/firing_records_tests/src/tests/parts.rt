@@ -141,18 +141,16 @@ pub fn rule(alloc: Global) -> Result<Rule, NoMemory>
     ensures { IfOk result (λ rule. bound_variables (rule_seen rule).production.conditions ≡ []) }
 {
     let actions = actions(alloc)?;
-    Ok(Rule {
-        number: 1,
-        production: Production {
-            name: Sym::Word(25),
-            doc: None,
-            kind: Kind::User,
-            support: Support::Unset,
-            vars: List::new(alloc),
-            conds: List::new(alloc),
-            actions,
-        },
-    })
+    let production = Production {
+        name: Sym::Word(25),
+        doc: None,
+        kind: Kind::User,
+        support: Support::Unset,
+        vars: List::new(alloc),
+        conds: List::new(alloc),
+        actions,
+    };
+    Rule::new(alloc, 1, production)
 }
 
 pub fn instance(alloc: Global, tags: &[u32], binds: &[Sym]) -> Result<Instance, NoMemory>

@@ -1,22 +1,25 @@
-use input_queue::drop_word;
-use soar_sym::{List, NoMemory};
+use input_queue::{RandomWords, drop_word};
+use soar_sym::NoMemory;
 use std::alloc::Global;
 use std::test::Fail;
 
-fn are(words: &List<u64>, expected: &[u64]) -> bool {
+fn are(words: &RandomWords, expected: &[u64]) -> bool {
     words.as_slice() == expected
 }
 
-/// Whether words go from the front, where a draw took one, for as long as there are words.
+/// Whether words go from the front, where a draw took one, for as long as there are words, and others may follow.
 fn words_go(alloc: Global) -> Result<bool, NoMemory> {
-    let mut words = List::from_slice(alloc, &[7, 8])?;
+    let mut words = RandomWords::new(alloc);
+    words.extend_from_slice(&[7, 8])?;
     drop_word(&mut words, false);
     let all = are(&words, &[7, 8]);
     drop_word(&mut words, true);
     let rest = are(&words, &[8]);
     drop_word(&mut words, true);
     drop_word(&mut words, true);
-    Ok(all && rest && words.is_empty())
+    let none = are(&words, &[]);
+    words.extend_from_slice(&[9])?;
+    Ok(all && rest && none && are(&words, &[9]))
 }
 
 #[test]

@@ -105,29 +105,27 @@ pub fn rules(alloc: Global) -> Result<Rules, NoMemory>
     ensures { IfOk result (λ rules. AreRulesKnown architecture (map rule_seen rules)) }
 {
     let mut rules = Rules::new(alloc);
-    rules.push(rule(alloc, 3, STATE))?;
-    rules.push(rule(alloc, 8, Sym::Int(-5)))?;
+    rules.push(rule(alloc, 3, STATE)?)?;
+    rules.push(rule(alloc, 8, Sym::Int(-5))?)?;
     Ok(rules)
 }
 
 /// A production without conditions and actions.
-pub fn rule(alloc: Global, number: u64, name: Sym) -> Rule
+pub fn rule(alloc: Global, number: u64, name: Sym) -> Result<Rule, NoMemory>
     requires { IsKnown architecture name }
-    ensures known { AreKnown architecture (symbols_of (rule_seen result).production) }
-    ensures number { result.number ≡ number }
+    ensures known { IfOk result (λ rule. AreKnown architecture (symbols_of (rule_seen rule).production)) }
+    ensures number { IfOk result (λ rule. rule.number ≡ number) }
 {
-    Rule {
-        number,
-        production: Production {
-            name,
-            doc: None,
-            kind: Kind::User,
-            support: Support::Unset,
-            vars: List::new(alloc),
-            conds: List::new(alloc),
-            actions: List::new(alloc),
-        },
-    }
+    let production = Production {
+        name,
+        doc: None,
+        kind: Kind::User,
+        support: Support::Unset,
+        vars: List::new(alloc),
+        conds: List::new(alloc),
+        actions: List::new(alloc),
+    };
+    Rule::new(alloc, number, production)
 }
 
 /// Two instances of the production 8, and one of another between them.

@@ -24,7 +24,7 @@ pub fn rule_of(alloc: Global, number: u64, conds: List<Cond>) -> Result<Rule, No
         conds,
         actions: List::new(alloc),
     };
-    Ok(Rule { number, production })
+    Rule::new(alloc, number, production)
 }
 
 /// The instances of rule 1, which has these conditions.

@@ -45,7 +45,7 @@ fn rule_of(alloc: Global, number: u64, text: &str) -> Result<Ready, Fail> {
     let production = check(alloc, &production)?;
     checked_is_in_order();
     Ok(Ready {
-        rule: Rule { number, production },
+        rule: Rule::new(alloc, number, production)?,
     })
 }
 

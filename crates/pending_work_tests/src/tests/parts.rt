@@ -74,7 +74,7 @@ pub fn listed(alloc: Global, rules: &Rules) -> Result<List<Rule>, NoMemory>
 {
     let mut listed = List::new(alloc);
     'rules: for rule in rules.iter() {
-        listed.push(rule.copy(alloc)?)?;
+        listed.push(rule.share()?)?;
     }
     Ok(listed)
 }
@@ -91,7 +91,7 @@ fn rule(alloc: Global, number: u64, attr: Sym, support: Support) -> Result<Rule,
         conds: takes(alloc, attr)?,
         actions: List::new(alloc),
     };
-    Ok(Rule { number, production })
+    Rule::new(alloc, number, production)
 }
 
 /// Variable 0, the attribute, and variable 1.

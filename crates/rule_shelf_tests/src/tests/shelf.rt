@@ -63,7 +63,7 @@ fn join(
 ) -> Result<(), NoMemory> {
     if let Some(production) = spelled(alloc, table, text)? {
         if rules.are_below(number) {
-            rules.push(Rule { number, production })?;
+            rules.push(Rule::new(alloc, number, production)?)?;
         }
     }
     Ok(())

@@ -78,9 +78,8 @@ fn fired_once(
     requires known { AreKnown table.old (symbols_of (production_seen production)) }
     requires binds { bound_variables (production_seen production).conditions ≡ [] }
 {
-    let rule = Rule {
-        number: 1,
-        production,
+    let Ok(rule) = Rule::new(alloc, 1, production) else {
+        return Err(FireFault::NoMemory);
     };
     let instance = Instance {
         rule: 1,

@@ -62,9 +62,8 @@ fn fire_production(
     requires known { AreKnown table.old (symbols_of (production_seen production)) }
     requires binds { length (bound_variables (production_seen production).conditions) ≡ 2 }
 {
-    let rule = Rule {
-        number: 1,
-        production,
+    let Ok(rule) = Rule::new(alloc, 1, production) else {
+        return Err(FireFault::NoMemory);
     };
     let goals = one_goal(alloc)?;
     let instance = instance(alloc)?;

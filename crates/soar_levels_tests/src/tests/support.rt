@@ -104,18 +104,16 @@ fn rule_of(alloc: Global, support: Support, id: Atom, attr: Sym) -> Result<Rule,
     let conds = conditions(alloc)?;
     let actions = action(alloc, id, attr)?;
     let vars = List::from_slice(alloc, &[Sym::Word(24); 5])?;
-    Ok(Rule {
-        number: 1,
-        production: Production {
-            name: Sym::Word(24),
-            doc: None,
-            kind: Kind::User,
-            support,
-            vars,
-            conds,
-            actions,
-        },
-    })
+    let production = Production {
+        name: Sym::Word(24),
+        doc: None,
+        kind: Kind::User,
+        support,
+        vars,
+        conds,
+        actions,
+    };
+    Rule::new(alloc, 1, production)
 }
 
 /// The elements that were matched, what the rule's operator stands for, and the goals.

@@ -69,18 +69,16 @@ pub fn rule(alloc: Global) -> Result<Rule, NoMemory>
     ensures binds { IfOk result (λ rule. bound_variables (rule_seen rule).production.conditions ≡ []) }
     ensures known { IfOk result (λ rule. AreKnown architecture (symbols_of (rule_seen rule).production)) }
 {
-    Ok(Rule {
-        number: 1,
-        production: Production {
-            name: NAME,
-            doc: None,
-            kind: Kind::User,
-            support: Support::Operator,
-            vars: List::new(alloc),
-            conds: List::new(alloc),
-            actions: actions(alloc)?,
-        },
-    })
+    let production = Production {
+        name: NAME,
+        doc: None,
+        kind: Kind::User,
+        support: Support::Operator,
+        vars: List::new(alloc),
+        conds: List::new(alloc),
+        actions: actions(alloc)?,
+    };
+    Rule::new(alloc, 1, production)
 }
 
 fn actions(alloc: Global) -> Result<List<Action>, NoMemory>

@@ -7,7 +7,7 @@ use Rattle.defs_soar.specs.Support.{operator_kind as kind_of}
 use Rattle.firing_records.specs.Recorded.{RecordedAs, recorded_as, recorded_seen, standing}
 use Rattle.learned_firings.proofs.FiringLemmas.{as_recorded, kind_kept, kind_left, learned_is}
 use Rattle.learned_firings.proofs.firing.learned_firing.Goals as goal
-use Rattle.learned_firings.proofs.firing.learned_firing.Goals.{then-learned-explained, else-learned-explained}
+use Rattle.learned_firings.proofs.firing.learned_firing.Goals.{then-deref-explained, else-deref-explained}
 
 pub returns : goal.returns
 returns c =
@@ -21,9 +21,9 @@ returns c =
     let goals : List Sym = c.in_ok-goals.goals in
     let r : RecordedAs = recorded_seen c.in_ok-learned.learned in
     let is_kind = c.in_ok-kind.ensures ∙ ap (λ (binds : List Sym). kind_of s.goals elements (paired variables binds) rule.production) c.as_slice.ensures in
-    let told : c.if-learned-explained.learned ≡ (nat_lt r.firing.depth c.args.explained && kind) = elim c.if-learned-explained.branch [
-      | then-learned-explained w ↦ kind_kept r.firing.depth c.args.explained c.if-learned-explained.learned kind w.if-learned-explained.true w.learned-is
-      | else-learned-explained w ↦ kind_left r.firing.depth c.args.explained c.if-learned-explained.learned kind w.if-learned-explained.false w.learned-is
+    let told : c.if-deref-explained.learned ≡ (nat_lt r.firing.depth c.args.explained && kind) = elim c.if-deref-explained.branch [
+      | then-deref-explained w ↦ kind_kept r.firing.depth c.args.explained c.if-deref-explained.learned kind (rw c.deref.ensures at w.if-deref-explained.true) w.learned-is
+      | else-deref-explained w ↦ kind_left r.firing.depth c.args.explained c.if-deref-explained.learned kind (rw c.deref.ensures at w.if-deref-explained.false) (rw c.deref.ensures at w.learned-is)
     ] in
     ap (λ (b : Bool). record r { operator_kind = b }) told
     ∙ ap (λ (x : RecordedAs). as_recorded words s c.args.explained c.args.number rule elements c.args.binds made c.requires.there x kind) c.in_ok-learned.ensures

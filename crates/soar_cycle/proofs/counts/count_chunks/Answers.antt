@@ -15,7 +15,7 @@ rules-preserved c =
     record {
       most = c.rules.invariant.most;
       counted = elim c.else-is_chunk.branch [
-        | else-is_chunk-via-then-is_chunk+else-count-most w ↦ absurd (chunks_few rule rest all c.rules.count c.len-most.result now (sym c.is_chunk.ensures ∙ w.if-is_chunk.true) c.rules.invariant.most (omega (arith, w.if-count-most.false)))
-        | else-is_chunk-via-else-is_chunk w ↦ chunks_on rule rest all c.rules.count now (sym c.is_chunk.ensures ∙ w.if-is_chunk.false)
+        | else-is_chunk-via-then-is_chunk+else-count-most w ↦ absurd (chunks_few rule rest all c.rules.count c.len-most.result now (sym (rw c.deref.ensures at c.is_chunk.ensures) ∙ w.if-is_chunk.true) c.rules.invariant.most (omega (arith, w.if-count-most.false)))
+        | else-is_chunk-via-else-is_chunk w ↦ chunks_on rule rest all c.rules.count now (sym (rw c.deref.ensures at c.is_chunk.ensures) ∙ w.if-is_chunk.false)
       ];
     }

@@ -10,12 +10,12 @@ use Rattle.soar_fire.proofs.firing.fire.Goals as goal
 
 pub made_of-requires-clause-bound : goal.made_of-requires-clause-bound
 made_of-requires-clause-bound c =
-    let h = rw (c.as_slice.ensures, c.as_slice-2.ensures) at c.in_ok-bindings.ensures in
+    let h = rw (c.as_slice.ensures, c.as_slice-2.ensures, c.deref-production.ensures) at c.in_ok-bindings.ensures in
     subst (λ bindings. Knows c.args.table.now (bound_symbols bindings)) (sym h) (knows_paired _ _ _ c.requires.known.instance_known)
 
 pub made_of-requires-clause-constants : goal.made_of-requires-clause-constants
 made_of-requires-clause-constants c =
-    subst (λ actions. Knows c.args.table.now (constants_of_actions (map action_seen actions))) (sym c.as_slice-actions.ensures)
+    subst (λ actions. Knows c.args.table.now (constants_of_actions (map action_seen actions))) (sym (rw c.deref-production.ensures at c.as_slice-actions.ensures))
     (rule_constants c.args.table.now (production_seen c.args.rule.now.production) c.requires.known.rule_known)
 
 pub returns-clause-answer : goal.returns-clause-answer
@@ -25,7 +25,7 @@ returns-clause-answer c =
     fires c.args.table.now c.args.letters.now c.args.goals.now rule c.args.instance.now after c.made_of.result
     (subst (λ o. Finds o after c.made_of.result)
     (same_start c.args.table.now c.args.letters.now c.args.goals.now c.as_slice-4.result.now rule c.args.instance.now c.as_slice-3.result.now (map action_seen c.as_slice-actions.result.now) c.in_ok-bindings.bindings.items
-    c.as_slice-3.ensures c.as_slice-4.ensures (ap (map action_seen) c.as_slice-actions.ensures) (rw (c.as_slice.ensures, c.as_slice-2.ensures) at c.in_ok-bindings.ensures))
+    (rw c.deref-production.ensures at c.as_slice-3.ensures) c.as_slice-4.ensures (ap (map action_seen) (rw c.deref-production.ensures at c.as_slice-actions.ensures)) (rw (c.as_slice.ensures, c.as_slice-2.ensures, c.deref-production.ensures) at c.in_ok-bindings.ensures))
     c.made_of.ensures.answer)
 
 pub returns-clause-words : goal.returns-clause-words

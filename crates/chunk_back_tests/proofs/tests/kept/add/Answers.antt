@@ -17,4 +17,4 @@ returns c =
     let own : list_all (λ n. nat_lt n c.in_ok-firing.firing.number) (flat_map maker_named c.in_ok-firing.firing.used) ≡ true =
     ap (λ (used : List Used). list_all (λ n. nat_lt n c.in_ok-firing.firing.number) (flat_map maker_named used)) c.in_ok-firing.ensures.used
     ∙ ap (λ number. list_all (λ n. nat_lt n number) (flat_map maker_named c.args.used.now)) c.in_ok-firing.ensures.number ∙ less in
-    subst MakersAreEarlier (sym c.in_ok-add.ensures.recorded) (earlier_more (recorded c.args.kept.now) (firing_seen c.in_ok-firing.firing) c.requires own)
+    subst MakersAreEarlier (sym (rw c.in_ok-new.ensures at c.in_ok-add.ensures.recorded)) (earlier_more (recorded c.args.kept.now) (firing_seen c.in_ok-firing.firing) c.requires own)

@@ -8,7 +8,7 @@ use Rattle.rule_shelf.proofs.rules.Rules.push.Goals as goal
 
 pub note-requires-clause-names : goal.note-requires-clause-names
 note-requires-clause-names c =
-    stands_nowhere (rules_in c.self.inside.by_number.entries) c.self.inside.index c.args.rule.production.name c.args.rule.number c.self.invariant.indexed
+    stands_nowhere (rules_in c.self.inside.by_number.entries) c.self.inside.index c.deref.result.now.name c.args.rule.number c.self.invariant.indexed
     (subst (λ rules. AreBelow c.args.rule.number (map rule_seen rules)) (sym c.self.view_is) c.requires)
 
 pub note-requires-clause-prints : goal.note-requires-clause-prints
@@ -20,8 +20,8 @@ pub invariant_of-self-in-Ok : goal.invariant_of-self-in-Ok
 invariant_of-self-in-Ok c =
     let small : c.args.rule.number < 2 ^ 64 = omega arith in
     shelf_pushed _ _ _ _ c.args.rule c.self.invariant (subst (λ rules. AreBelow c.args.rule.number (map rule_seen rules)) (sym c.self.view_is) c.requires) c.in-Ok.ensures.entries small
-    (subst (λ n. Notes c.args.rule.production.name c.args.rule.number n (is_justified (rule_seen c.args.rule)) c.self.inside.index c.note.new.self) c.fingerprint-mark.ensures
-    (subst (λ b. Notes c.args.rule.production.name c.args.rule.number c.fingerprint-mark.result b c.self.inside.index c.note.new.self) c.is_justified.ensures c.in_ok-note.ensures.ok))
+    (subst (λ n. Notes c.args.rule.production.name c.args.rule.number n (is_justified (rule_seen c.args.rule)) c.self.inside.index c.note.new.self) (rw c.deref-2.ensures at c.fingerprint-mark.ensures)
+    (subst (λ b. Notes c.args.rule.production.name c.args.rule.number c.fingerprint-mark.result b c.self.inside.index c.note.new.self) c.is_justified.ensures (rw c.deref.ensures at c.in_ok-note.ensures.ok)))
 
 pub returns-in-Ok-clause-ok : goal.returns-in-Ok-clause-ok
 returns-in-Ok-clause-ok c =
@@ -31,4 +31,4 @@ returns-in-Ok-clause-ok c =
 pub invariant_of-self-in-Err : goal.invariant_of-self-in-Err
 invariant_of-self-in-Err c =
     shelf_back _ _ _ _ _ c.args.rule c.fingerprint-mark.result c.is_justified.result c.self.invariant (subst (λ rules. AreBelow c.args.rule.number (map rule_seen rules)) (sym c.self.view_is) c.requires) c.in-Err.ensures.err
-    c.in_ok-note.ensures.ok c.forget.ensures
+    (rw c.deref.ensures at c.in_ok-note.ensures.ok) (rw c.deref.ensures at c.forget.ensures)

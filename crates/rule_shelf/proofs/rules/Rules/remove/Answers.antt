@@ -8,7 +8,7 @@ use Rattle.rule_shelf.proofs.rules.Rules.remove.Goals as goal
 pub invariant_of-self : goal.invariant_of-self
 invariant_of-self c =
     shelf_gone _ _ _ _ c.args.number c.in-Some.rule c.self.invariant c.in-Some.ensures.value c.in-Some.ensures.entries
-    (subst (λ n. Forgets c.in-Some.rule.production.name c.args.number n c.self.inside.index c.forget.new.self) c.fingerprint-mark.ensures c.forget.ensures)
+    (subst (λ n. Forgets c.in-Some.rule.production.name c.args.number n c.self.inside.index c.forget.new.self) (rw c.deref.ensures at c.fingerprint-mark.ensures) (rw c.deref-in-Some.ensures at c.forget.ensures))
 
 pub returns-in-Some-clause-removed : goal.returns-in-Some-clause-removed
 returns-in-Some-clause-removed c =

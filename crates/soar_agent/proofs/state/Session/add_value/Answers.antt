@@ -14,7 +14,7 @@ use Rattle.soar_agent.specs.Carries.{Carries}
 use Rattle.soar_agent.specs.Numbered.{IsOperandNumbered, IsTripleNumbered}
 use Rattle.soar_agent.specs.States.{session_of}
 use Rattle.soar_agent.specs.Steps.{Obeys}
-use Rattle.cycle_parts.specs.Calls.{IsTripleKnown}
+use Rattle.soar_cycle.specs.Calls.{IsTripleKnown}
 use Rattle.soar_agent.proofs.AddingLemmas.{missing_put, next_is_new}
 use Rattle.soar_agent.proofs.ReadyLemmas.{label_numbered}
 use Rattle.soar_agent.proofs.state.Session.add_value.Goals as goal

@@ -4,7 +4,7 @@ use Rattle.wave_parts.specs.Seen.{agent_of}
 use Rattle.wave_parts.proofs.StandsLemmas.{stands_at}
 use Rattle.defs_soar.specs.Cycle.{held_with}
 use Rattle.letter_laws.proofs.GrowthLaws.{settling_gives_none}
-use Rattle.cycle_parts.specs.Calls.{input_step, with_input}
+use Rattle.soar_cycle.specs.Calls.{input_step, with_input}
 use Rattle.soar_agent.proofs.ReplyLemmas.{settles, settles_none, with_kept}
 use Rattle.soar_agent.proofs.ReadyLemmas.{ready_stepped, triple_given}
 use Rattle.soar_agent.proofs.state.Session.change_inputs.Goals as goal

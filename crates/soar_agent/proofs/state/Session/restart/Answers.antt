@@ -1,7 +1,7 @@
 use Rattle.defs_soar.specs.Agents.{Agent}
 use Rattle.wave_parts.specs.Seen.{agent_of}
 use Rattle.wave_parts.proofs.StandsLemmas.{stands_at}
-use Rattle.cycle_parts.specs.Calls.{restart_step}
+use Rattle.soar_cycle.specs.Calls.{restart_step}
 use Rattle.soar_agent.specs.Restarting.{restarts}
 use Rattle.soar_agent.specs.States.{session_of}
 use Rattle.soar_agent.proofs.ReplyLemmas.{quiet_none, with_kept}

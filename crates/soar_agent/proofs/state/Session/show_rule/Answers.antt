@@ -1,6 +1,7 @@
 use Rattle.std.proofs.Common.{◌≡◌, ◌∙◌, List, Option, Some, None, Ok, false, map, sym, ap, subst}
 use Rattle.soar_sym.specs.Words.{Texts}
 use Rattle.soar_rule.specs.Productions.{production_seen}
+use Rattle.soar_rule.specs.declared.production.Production.{Production}
 use Rattle.soar_rule.specs.Symbols.{AreKnown, symbols_of}
 use Rattle.defs_match.specs.Rules.{RuleOf, rule_seen}
 use Rattle.defs_match.specs.declared.rule.Rule.{Rule}
@@ -22,8 +23,9 @@ say_production-requires g c =
     let rules : List RuleOf = map rule_seen c.args.self.now.agent.parts.rules in
     let found : rule_named rules c.args.name ≡ Some (rule_seen c.in-Some.rule.now) =
     sym (c.in-Some.ensures ∙ ap (λ (rs : List Rule). rule_named (map rule_seen rs) c.args.name) c.rules.ensures) in
-    subst (λ (words : Texts). AreKnown words (symbols_of (production_seen c.in-Some.rule.now.production))) (sym c.symbols.ensures)
-    (named_known c.args.self.now.agent.parts.table rules c.args.name (rule_seen c.in-Some.rule.now) c.requires.ready.1.rules_known found)
+    subst (λ (p : Production). AreKnown c.symbols.result.now (symbols_of (production_seen p))) (sym c.deref.ensures)
+    (subst (λ (words : Texts). AreKnown words (symbols_of (production_seen c.in-Some.rule.now.production))) (sym c.symbols.ensures)
+    (named_known c.args.self.now.agent.parts.table rules c.args.name (rule_seen c.in-Some.rule.now) c.requires.ready.1.rules_known found))
 
 pub returns-in_ok-say_production-in-Some-clause-reply : goal.returns-in_ok-say_production-in-Some-clause-reply
 returns-in_ok-say_production-in-Some-clause-reply g c = λ history remembers.
@@ -37,7 +39,7 @@ returns-in_ok-say_production-in-Some-clause-reply g c = λ history remembers.
     found
     (says_lines c.args.self.now c.set_mid_line.new.self (production_text c.symbols.result.now rule.production) (production_lines s.agent rule) c.mid_line-mid_line.result c.say_production.new.mid_line history
     c.args.out.now c.say_production.new.out remembers c.requires.ready c.set_mid_line.ensures (ap (λ (words : Texts). production_text words rule.production) c.symbols.ensures) c.mid_line-mid_line.ensures
-    c.in_ok-say_production-in-Some.ensures)
+    (rw c.deref.ensures at c.in_ok-say_production-in-Some.ensures))
 
 pub returns-in-None-clause-reply : goal.returns-in-None-clause-reply
 returns-in-None-clause-reply g c = λ history remembers.

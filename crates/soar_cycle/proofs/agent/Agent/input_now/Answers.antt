@@ -1,6 +1,6 @@
 use Rattle.std.proofs.Common.{subst, sym}
 use Rattle.wave_parts.specs.Stands.{Stands}
-use Rattle.decision_parts.specs.Stepping.{GoesStep}
+use Rattle.cycle_parts.specs.Stepping.{GoesStep}
 use Rattle.cycle_parts.specs.Calls.{input_step}
 use Rattle.soar_cycle.specs.Agents.{AgentSeen}
 use Rattle.soar_cycle.proofs.ToldLemmas.{step_told}

@@ -4,18 +4,19 @@ use Rattle.soar_sym.specs.declared.symbol.Triple.{Triple}
 use Rattle.soar_settle.specs.Known.{AreTriplesKnown}
 use Rattle.soar_settle.specs.Merging.{IsSorting, merged}
 use Rattle.soar_settle.proofs.KnownLemmas.{known_from, known_to}
-use Rattle.soar_settle.proofs.MergeLemmas.{known_sorted, one_sorted, sorting_merged}
+use Rattle.soar_settle.proofs.MergeLemmas.{known_sorted, rising_sorted, sorting_merged}
+use Rattle.soar_settle.proofs.TripleOrderLemmas.{two_where_not_rising}
 use Rattle.soar_settle.proofs.tagging.ordering.+sorted.Goals as goal
 
-pub returns-then-triples-lt2 : goal.returns-then-triples-lt2
-returns-then-triples-lt2 t c =
-    subst (IsSorting c.args.table.now c.args.triples.now) (sym c.in_ok-one.ensures) (one_sorted c.args.table.now c.args.triples.now c.if-triples-lt2.true)
+pub returns-then-is_rising : goal.returns-then-is_rising
+returns-then-is_rising t c =
+    subst (IsSorting c.args.table.now c.args.triples.now) (sym c.in_ok-same.ensures) (rising_sorted c.args.table.now c.args.triples.now (sym c.is_rising.ensures ∙ c.if-is_rising.true))
 
 pub sorted-requires : goal.sorted-requires
 sorted-requires t c =
     let words = c.args.table.now in let n = length c.args.triples.now / 2 in
     let P : List Triple → Type 0 = AreTriplesKnown words in (
-      omega (arith, c.decreases, c.if-triples-lt2.false, c.split_at.ensures.front_len),
+      omega (arith, c.decreases, two_where_not_rising words c.args.triples.now (sym c.is_rising.ensures ∙ c.if-is_rising.false), c.split_at.ensures.front_len),
       subst P (sym c.split_at.ensures.front) (known_to words n c.args.triples.now c.requires),
     )
 
@@ -23,7 +24,7 @@ pub sorted-requires-2 : goal.sorted-requires-2
 sorted-requires-2 t c =
     let words = c.args.table.now in let n = length c.args.triples.now / 2 in
     let P : List Triple → Type 0 = AreTriplesKnown words in (
-      omega (arith, c.decreases, c.if-triples-lt2.false, c.split_at.ensures.back_len),
+      omega (arith, c.decreases, two_where_not_rising words c.args.triples.now (sym c.is_rising.ensures ∙ c.if-is_rising.false), c.split_at.ensures.back_len),
       subst P (sym c.split_at.ensures.back) (known_from words n c.args.triples.now c.requires),
     )
 

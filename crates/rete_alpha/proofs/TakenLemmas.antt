@@ -1,24 +1,20 @@
--- The tags that a pattern takes, sorted, are those of the elements in order.
-use Rattle.std.proofs.Common.{◌≡◌, ℕ, ◌<◌, ◌≤◌, Bool, true, false, cond, ◌||◌, List, [], ◌∷◌, map, filter, nat_eq, nat_lt, is_some, IsPermutation, IsSorted, refl, sym, ap, ap₂, subst, ◌∙◌, arith, eqb-true, eq-eqb}
+-- The tags that a pattern takes, each put at its place, are those of the elements in order.
+use Rattle.std.proofs.Common.{◌≡◌, ℕ, ◌<◌, ◌≤◌, Bool, true, false, cond, ◌||◌, ◌==◌, List, [], ◌∷◌, map, filter, nat_eq, nat_lt, is_some, refl, sym, ap, ap₂, ◌∙◌, arith, eqb-true, eq-eqb}
 use Rattle.std.specs.Cmp.{nat_eq_equiv}
-use Rattle.std.specs.List.{AllByRecursion, IsDistinct, list_any}
-use Rattle.std.specs.List.Sorted.{IsStrictlySortedBy}
+use Rattle.std.specs.List.{IsDistinct, list_any}
 use Rattle.std.specs.Map.{keys_of, values_of}
-use Rattle.std.specs.Ordering.{nat_cmp}
-use Rattle.std.specs.declared.cmp.Ordering.TheVariants.{Less}
 use Rattle.std.proofs.lemmas.Bool.{ltb-true, ltb-false, ne_eqb}
-use Rattle.std.proofs.lemmas.List.Sorted.{IsNonDecreasingBy-from_sort, list_any-IsPermutation}
 use Rattle.std.proofs.lemmas.Map.Entries.{lookup-filter-values, option_filter}
-use Rattle.std.proofs.lemmas.Map.Keys.{sorted_head, sorted_tail, sorted_from_strictly_increasing, IsDistinct-IsPermutation, IsStrictlyIncreasing-from_distinct}
-use Rattle.std.proofs.lemmas.Map.Made.{IsDistinct-keys_filter, is_some-lookup}
+use Rattle.std.proofs.lemmas.Map.Made.{is_some-lookup}
 use Rattle.soar_wm.specs.declared.element.Element.{Element}
 use Rattle.rete_alpha.specs.declared.pattern.ConstPattern.{ConstPattern}
 use Rattle.rete_alpha.specs.Entries.{OwnTags, in_order}
-use Rattle.rete_alpha.specs.Numbers.{IsBelowAll, IsIncreasing}
+use Rattle.rete_alpha.specs.Numbers.{IsBelowAll, IsIncreasing, with_number, with_numbers}
 use Rattle.rete_alpha.specs.Taking.{keys_taken, tags_taken, takes}
-use Rattle.rete_alpha.proofs.ElementLemmas.{Tagged, compared}
+use Rattle.rete_alpha.proofs.ElementLemmas.{Tagged}
 use Rattle.rete_alpha.proofs.MemberLemmas.{rising_tags}
 use Rattle.rete_alpha.proofs.OrderLemmas.{all_risen, distinct, same_found}
+use Rattle.rete_alpha.proofs.SlotLemmas.{rising_with}
 
 -- ---- two rising lists with the same numbers are one
 
@@ -67,19 +63,43 @@ one_order (k ∷ ks) (n ∷ ns) up down same =
     let rest : ks ≡ ns = one_order ks ns up.1 down.1 (λ q. tails q k n ks ns is up.0 down.0 (same q)) in
     λ i. is i ∷ rest i
 
--- ---- what a sort leaves rises
+-- ---- numbers put at their places one by one
 
-below_each : (n : ℕ) (ns : List ℕ) → AllByRecursion (λ k. nat_cmp n k ≡ Less) ns → IsBelowAll n ns
-below_each n [] h = tt
-below_each n (m ∷ ns) h = (compared n m h.0, below_each n ns h.1)
+rising_all : (xs ns : List ℕ) → IsIncreasing ns → IsIncreasing (with_numbers xs ns)
+rising_all [] ns up = up
+rising_all (x ∷ xs) ns up = rising_all xs (with_number x ns) (rising_with x ns up)
 
-rises : (ns : List ℕ) → IsStrictlySortedBy nat_cmp ns → IsIncreasing ns
-rises [] h = tt
-rises (n ∷ ns) h = (below_each n ns (sorted_head nat_cmp n ns h), rises ns (sorted_tail nat_cmp n ns h))
+twice : (a b : Bool) → (a || b) ≡ (a || (a || b))
+twice true b = refl
+twice false b = refl
 
-sorted_rises : (ks s : List ℕ) → IsDistinct nat_eq ks → IsPermutation ks s → IsSorted nat_cmp s → IsIncreasing s
-sorted_rises ks s differ moved up =
-    rises s (sorted_from_strictly_increasing s (IsStrictlyIncreasing-from_distinct s (IsNonDecreasingBy-from_sort (λ x. x) s up) (IsDistinct-IsPermutation nat_eq nat_eq_equiv.symm ks s moved differ)))
+turned : (a b c : Bool) → (a || (b || c)) ≡ (b || (a || c))
+turned true true c = refl
+turned true false c = refl
+turned false b c = refl
+
+among_one : (q x : ℕ) (ns : List ℕ) → list_any (nat_eq q) (with_number x ns) ≡ (nat_eq q x || list_any (nat_eq q) ns)
+among_one q x [] = refl
+among_one q x (n ∷ ns) = by (x == n) refl (nat_lt x n) (among_one q x ns)
+  where
+    by : (b : Bool) → (x == n) ≡ b → (d : Bool) → list_any (nat_eq q) (with_number x ns) ≡ (nat_eq q x || list_any (nat_eq q) ns)
+        → list_any (nat_eq q) (cond b (n ∷ ns) (cond d (x ∷ n ∷ ns) (n ∷ with_number x ns))) ≡ (nat_eq q x || (nat_eq q n || list_any (nat_eq q) ns))
+    by true same d deep = twice (nat_eq q n) (list_any (nat_eq q) ns) ∙ ap (λ k. nat_eq q k || (nat_eq q n || list_any (nat_eq q) ns)) (sym (eqb-true x n same))
+    by false same true deep = refl
+    by false same false deep = ap (λ b. nat_eq q n || b) deep ∙ turned (nat_eq q n) (nat_eq q x) (list_any (nat_eq q) ns)
+
+among_all : (q : ℕ) (xs ns : List ℕ) → list_any (nat_eq q) (with_numbers xs ns) ≡ (list_any (nat_eq q) ns || list_any (nat_eq q) xs)
+among_all q [] ns = none (list_any (nat_eq q) ns)
+  where
+    none : (b : Bool) → b ≡ (b || false)
+    none true = refl
+    none false = refl
+among_all q (x ∷ xs) ns = among_all q xs (with_number x ns) ∙ ap (λ b. b || list_any (nat_eq q) xs) (among_one q x ns) ∙ grouped (nat_eq q x) (list_any (nat_eq q) ns) (list_any (nat_eq q) xs)
+  where
+    grouped : (a b c : Bool) → ((a || b) || c) ≡ (b || (a || c))
+    grouped true true c = refl
+    grouped true false c = refl
+    grouped false b c = refl
 
 -- ---- the tags that are taken
 
@@ -100,11 +120,7 @@ same_taken q es differ n =
     (lookup-filter-values nat_eq_equiv q n es differ ∙ ap (option_filter q) (sym (same_found es n)) ∙ sym (lookup-filter-values nat_eq_equiv q n (in_order es) (distinct es)))
     ∙ is_some-lookup (nat_eq n) (filter (λ e. q e.1) (in_order es))
 
-pub taken_sorted : (es : Tagged) (p : ConstPattern) (ks s : List ℕ) → OwnTags (in_order es) → IsDistinct nat_eq (keys_of es) → ks ≡ keys_taken p es → IsPermutation ks s → IsSorted nat_cmp s
-    → s ≡ tags_taken p (values_of (in_order es))
-taken_sorted es p ks s own differ are moved up =
-    let apart : IsDistinct nat_eq ks = subst (IsDistinct nat_eq) (sym are) (IsDistinct-keys_filter nat_eq (λ e. takes p e.1) es differ) in
-    one_order s (tags_taken p (values_of (in_order es))) (sorted_rises ks s apart moved up) (rising_tags (takes p) (values_of (in_order es)) (all_risen es own))
-    (λ n.
-    sym (list_any-IsPermutation (nat_eq n) ks s moved) ∙ ap (list_any (nat_eq n)) are ∙ same_taken (takes p) es differ n
-    ∙ ap (list_any (nat_eq n)) (tags_are (takes p) (in_order es) own))
+pub taken_in_order : (es : Tagged) (p : ConstPattern) → OwnTags (in_order es) → IsDistinct nat_eq (keys_of es) → with_numbers (keys_taken p es) [] ≡ tags_taken p (values_of (in_order es))
+taken_in_order es p own differ =
+    one_order (with_numbers (keys_taken p es) []) (tags_taken p (values_of (in_order es))) (rising_all (keys_taken p es) [] tt) (rising_tags (takes p) (values_of (in_order es)) (all_risen es own))
+    (λ n. among_all n (keys_taken p es) [] ∙ same_taken (takes p) es differ n ∙ ap (list_any (nat_eq n)) (tags_are (takes p) (in_order es) own))

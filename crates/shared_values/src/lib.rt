@@ -1,0 +1,6 @@
+//! Values with several owners, none of which changes them.
+#![tactic(auto)]
+
+mod shared;
+
+pub use shared::Shared;
