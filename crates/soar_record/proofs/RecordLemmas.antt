@@ -1,5 +1,5 @@
 -- A record as its firings: what stands under a number, and one firing more.
-use Rattle.std.proofs.Common.{◌≡◌, refl, sym, ◌∙◌, ap, subst, ℕ, nat_eq, Bool, true, false, ◌==◌, cond, arith, List, [], ◌∷◌, ◌++◌, Option, Some, None}
+use Rattle.std.proofs.Common.{◌≡◌, refl, sym, ◌∙◌, ap, subst, ℕ, nat_eq, Bool, true, false, ◌==◌, ◌≤◌, ◌<◌, nat_lt, cond, arith, List, [], ◌∷◌, ◌++◌, Option, Some, None}
 use Rattle.std.proofs.Math.Dec.{eqb→eq}
 use Rattle.std.specs.Bool.{passes}
 use Rattle.std.specs.List.{slice_get}
@@ -10,6 +10,10 @@ use Rattle.defs_soar.specs.Explanation.{firing_of}
 use Rattle.defs_soar.specs.History.{FiringOf, firing_seen}
 use Rattle.defs_soar.specs.Standing.{AreFrom}
 use Rattle.soar_record.specs.Recorded.{recorded, firings_in, HaveOwnNumbers, IsNumbered}
+
+-- more than a bound that is itself no less than another
+pub above : (least bound n : ℕ) → least ≤ bound → nat_lt bound n ≡ true → least < n
+above least bound n low h = grind arith
 
 -- what is looked up under a number is the first firing of that number
 pub found : (n : ℕ) (entries : List (ℕ × Firing)) → HaveOwnNumbers entries → option_map firing_seen (lookup (nat_eq n) entries) ≡ slice_get (firing_of (recorded (firings_in entries)) n) 0

@@ -1,5 +1,5 @@
 -- Firings that are kept under their numbers.
-use Rattle.std.specs.Prelude.{◌≡◌, ℕ, Bool, ◌==◌, List, [], ◌∷◌, map, filter}
+use Rattle.std.specs.Prelude.{◌≡◌, ◌≤◌, ℕ, Bool, ◌==◌, List, [], ◌∷◌, map, filter}
 use Rattle.std.specs.List.{list_any}
 use Rattle.defs_soar.specs.declared.firing.Firing.{Firing}
 use Rattle.defs_soar.specs.Explanation.{explaining}
@@ -34,3 +34,8 @@ HaveOwnNumbers (e ∷ entries) = (e.0 ≡ e.1.number) × HaveOwnNumbers entries
 pub record IsNumbered (entries : List (ℕ × Firing)) : Type 0 where
   pub own_numbers : HaveOwnNumbers entries
   pub once : AreFrom (recorded (firings_in entries)) (recorded (firings_in entries))
+
+-- and the bound is never below the least
+pub record IsBounded (entries : List (ℕ × Firing)) (bound : ℕ) : Type 0 where
+  pub numbered : IsNumbered entries
+  pub least : 1000 ≤ bound

@@ -1,5 +1,5 @@
 ghost use Rattle.std.specs.List.{list_any};
-ghost use Rattle.std.specs.Prelude.{◌≡◌, ◌==◌, ◌∷◌, ◌++◌, [], IfOk, OnOk, OnErr};
+ghost use Rattle.std.specs.Prelude.{◌≡◌, ◌<◌, ◌==◌, ◌∷◌, ◌++◌, [], true, length, IfOk, OnOk, OnErr};
 ghost use Rattle.defs_soar.specs.Explanation.{firing_of};
 ghost use Rattle.defs_soar.specs.History.{firing_seen};
 ghost use Rattle.defs_soar.specs.Standing.{AreFrom};
@@ -29,7 +29,7 @@ impl Model for Record {
     ghost use Rattle.std.specs.Prelude.{List as ListOf};
     ghost use Rattle.defs_soar.specs.contracts.firing.Firing as firing;
     ghost use Rattle.defs_soar.specs.declared.firing.Firing.{Firing as FiringKept};
-    ghost use Rattle.soar_record.specs.Recorded.{firings_in, IsNumbered};
+    ghost use Rattle.soar_record.specs.Recorded.{firings_in, IsBounded};
 
     ghost Value = { ListOf FiringKept };
 
@@ -37,7 +37,7 @@ impl Model for Record {
 
     ghost view = { λ r. firings_in r.firings.entries };
 
-    ghost invariant = { λ r. IsNumbered r.firings.entries };
+    ghost invariant = { λ r. IsBounded r.firings.entries r.bound };
 }
 
 impl Record {
@@ -64,7 +64,9 @@ impl Record {
 
     /// Whether so many firings were added since the last look that it is worth to look for those that nothing needs: the
     /// record has twice as many as stayed then, and over a thousand.
-    pub fn is_due(&self) -> bool {
+    pub fn is_due(&self) -> bool
+        ensures { result ≡ true → 1000 < length self.now }
+    {
         self.firings.len() > self.bound
     }
 
