@@ -92,18 +92,27 @@ fn four(alloc: Global) -> Result<Prefs, NoMemory> {
     Ok(prefs)
 }
 
+fn is_in_order(alloc: Global) -> Result<bool, NoMemory> {
+    let prefs = four(alloc)?;
+    let own = has_firings(&prefs, alloc, S1, &[5, 4])?;
+    Ok(own && has_firings(&prefs, alloc, S2, &[7])?)
+}
+
 #[test]
 fn a_slot_has_its_rows_in_order_of_adding(rt: HostRuntime) -> Result<(), Fail> {
-    let prefs = four(rt.alloc())?;
-    let own = has_firings(&prefs, rt.alloc(), S1, &[5, 4])?;
-    assert!(rt; own && has_firings(&prefs, rt.alloc(), S2, &[7])?);
+    assert!(rt; is_in_order(rt.alloc())?);
     Ok(())
+}
+
+fn are_listed(alloc: Global) -> Result<bool, NoMemory> {
+    let prefs = four(alloc)?;
+    let all = prefs.all(alloc)?.len();
+    Ok(sum_of_firings(&prefs) == 22 && all == prefs.len())
 }
 
 #[test]
 fn all_rows_are_listed(rt: HostRuntime) -> Result<(), Fail> {
-    let prefs = four(rt.alloc())?;
-    assert!(rt; sum_of_firings(&prefs) == 22 && prefs.all(rt.alloc())?.len() == prefs.len());
+    assert!(rt; are_listed(rt.alloc())?);
     Ok(())
 }
 
@@ -115,10 +124,14 @@ fn is_full(prefs: &mut Prefs) -> bool {
         && prefs.add(row(2, wish(S2, SHAPE, 2), true)) == Err(PrefFault::Full)
 }
 
+fn is_four_full(alloc: Global) -> Result<bool, NoMemory> {
+    let mut prefs = four(alloc)?;
+    Ok(is_full(&mut prefs) && prefs.len() == 5)
+}
+
 #[test]
 fn there_are_at_most_as_many_rows_as_the_limit(rt: HostRuntime) -> Result<(), Fail> {
-    let mut prefs = four(rt.alloc())?;
-    assert!(rt; is_full(&mut prefs) && prefs.len() == 5);
+    assert!(rt; is_four_full(rt.alloc())?);
     Ok(())
 }
 
@@ -132,26 +145,33 @@ fn adds_better(prefs: &mut Prefs) -> bool {
         && adds(prefs, row(5, wish(S1, COLOR, 1), true))
 }
 
+fn keeps_once(alloc: Global) -> Result<bool, NoMemory> {
+    let mut prefs = Prefs::new(alloc, 9)?;
+    Ok(adds_better(&mut prefs) && has_firings(&prefs, alloc, S1, &[1, 1, 2, 4, 5])?)
+}
+
 #[test]
 fn only_an_operator_supported_row_is_kept_once(rt: HostRuntime) -> Result<(), Fail> {
-    let mut prefs = Prefs::new(rt.alloc(), 9)?;
-    assert!(rt; adds_better(&mut prefs) && has_firings(&prefs, rt.alloc(), S1, &[1, 1, 2, 4, 5])?);
+    assert!(rt; keeps_once(rt.alloc())?);
     Ok(())
+}
+
+fn retracts_two(alloc: Global) -> Result<bool, NoMemory> {
+    let mut prefs = Prefs::new(alloc, 9)?;
+    let added = adds_better(&mut prefs) && adds(&mut prefs, row(2, better(3, 1), false));
+    prefs.retract(1);
+    prefs.retract(2);
+    Ok(added && has_firings(&prefs, alloc, S1, &[2, 4, 5])?)
 }
 
 #[test]
 fn a_retracted_firing_leaves_its_operator_supported_rows(rt: HostRuntime) -> Result<(), Fail> {
-    let mut prefs = Prefs::new(rt.alloc(), 9)?;
-    let added = adds_better(&mut prefs) && adds(&mut prefs, row(2, better(3, 1), false));
-    prefs.retract(1);
-    prefs.retract(2);
-    assert!(rt; added && has_firings(&prefs, rt.alloc(), S1, &[2, 4, 5])?);
+    assert!(rt; retracts_two(rt.alloc())?);
     Ok(())
 }
 
-#[test]
-fn a_reject_takes_rows_of_all_kinds_of_its_triple(rt: HostRuntime) -> Result<(), Fail> {
-    let mut prefs = Prefs::new(rt.alloc(), 9)?;
+fn rejects(alloc: Global) -> Result<bool, NoMemory> {
+    let mut prefs = Prefs::new(alloc, 9)?;
     let added = adds_better(&mut prefs) && adds(&mut prefs, row(6, better(2, 1), true));
     prefs.reject_now(Triple {
         id: S1,
@@ -159,13 +179,17 @@ fn a_reject_takes_rows_of_all_kinds_of_its_triple(rt: HostRuntime) -> Result<(),
         value: Sym::Int(1),
         accept: true,
     });
-    assert!(rt; added && has_firings(&prefs, rt.alloc(), S1, &[6])?);
-    Ok(())
+    Ok(added && has_firings(&prefs, alloc, S1, &[6])?)
 }
 
 #[test]
-fn a_dropped_identifier_takes_its_rows_along(rt: HostRuntime) -> Result<(), Fail> {
-    let mut prefs = four(rt.alloc())?;
+fn a_reject_takes_rows_of_all_kinds_of_its_triple(rt: HostRuntime) -> Result<(), Fail> {
+    assert!(rt; rejects(rt.alloc())?);
+    Ok(())
+}
+
+fn drops_rows(alloc: Global) -> Result<bool, NoMemory> {
+    let mut prefs = four(alloc)?;
     // That an identifier is the value of a row does not make the row its own.
     let pointing = Wish {
         value: S1,
@@ -173,7 +197,12 @@ fn a_dropped_identifier_takes_its_rows_along(rt: HostRuntime) -> Result<(), Fail
     };
     let added = adds(&mut prefs, row(8, pointing, false));
     prefs.drop_id(S1);
-    assert!(rt; added && prefs.len() == 2 && has_firings(&prefs, rt.alloc(), S2, &[7, 8])?);
+    Ok(added && prefs.len() == 2 && has_firings(&prefs, alloc, S2, &[7, 8])?)
+}
+
+#[test]
+fn a_dropped_identifier_takes_its_rows_along(rt: HostRuntime) -> Result<(), Fail> {
+    assert!(rt; drops_rows(rt.alloc())?);
     Ok(())
 }
 
@@ -192,11 +221,15 @@ fn comes_and_goes(prefs: &mut Prefs, count: u64) -> bool {
     true
 }
 
+fn leaves_each_second(alloc: Global) -> Result<bool, NoMemory> {
+    let mut prefs = Prefs::new(alloc, 99)?;
+    let done = comes_and_goes(&mut prefs, 40) && sum_of_firings(&prefs) == 400;
+    Ok(done && prefs.slot(alloc, S1, COLOR)?.len() == 20)
+}
+
 #[test]
 fn many_rows_come_and_go(rt: HostRuntime) -> Result<(), Fail> {
-    let mut prefs = Prefs::new(rt.alloc(), 99)?;
-    let done = comes_and_goes(&mut prefs, 40) && sum_of_firings(&prefs) == 400;
-    assert!(rt; done && prefs.slot(rt.alloc(), S1, COLOR)?.len() == 20);
+    assert!(rt; leaves_each_second(rt.alloc())?);
     Ok(())
 }
 
@@ -219,11 +252,20 @@ const CHANGES: &[&str] = &[
     "=>",
 ];
 
+/// The first row that is not so, if any.
+fn first_wrong(alloc: Global) -> Result<&'static str, NoMemory> {
+    let mut prefs = Prefs::new(alloc, 9)?;
+    for row in CHANGES {
+        if !tells(&mut prefs, alloc, row)? {
+            return Ok(row);
+        }
+    }
+    Ok("")
+}
+
 #[test]
 fn changes_are_told_since_they_were_last_taken(rt: HostRuntime) -> Result<(), Fail> {
-    let mut prefs = Prefs::new(rt.alloc(), 9)?;
-    for row in CHANGES {
-        assert!(rt; tells(&mut prefs, rt.alloc(), row)?, "{row}");
-    }
+    let wrong = first_wrong(rt.alloc())?;
+    assert!(rt; wrong.is_empty(), "{wrong}");
     Ok(())
 }
