@@ -15,7 +15,7 @@ TOP = DOCS.parent
 # Each group of crates: its name, what it is for, its crates. A crate that is in none stands under "others".
 GROUPS = [
     ("symbols and bytes", "the table of words, numbers of identifiers; source, sink and shelf; bytes cut into commands", "soar_sym soar_edge"),
-    ("productions and elements", "a production as plain data, its check and match order; triples and identifiers as keys; working memory", "soar_rule rule_check condition_copies body_marks packed_triples packed_ids shared_values soar_wm"),
+    ("productions and elements", "a production as plain data, its check and match order; triples and identifiers as keys; working memory", "soar_rule rule_check condition_copies body_marks packed_triples packed_ids shared_values boxed_values soar_wm"),
     ("definitions", "what all code is proved against: `specs/` and plain types, hardly any code", "defs_text defs_match defs_read defs_soar defs_run"),
     ("laws of definitions", "what the definitions of reading, matching and settling come to", "rule_laws reading_laws net_laws conflict_order settling_laws removal_laws level_laws trace_laws"),
     ("reading", "bytes to tokens, trees and productions; words of the command line", "soar_lex tree_parts soar_tree read_parts soar_read random_words file_names command_words"),

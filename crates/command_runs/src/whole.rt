@@ -16,9 +16,11 @@ use crate::progress::Progress;
 use soar_edge::{Shelf, Sink, Source, Status};
 use soar_sym::Text;
 use std::alloc::Global;
+use std::mem::forget;
 
 /// Carries out a script of so many items, or else the files of a command line and then standard input, from the first
-/// session on, and ends with how that went.
+/// session on, and ends with how that went. The carrier's memory stays until the process ends: a run is the last that a
+/// program does, and the system takes a large session back faster than it goes part by part.
 pub fn run_whole<C: Carrier + Drop, I: Source, F: Shelf, O: Sink>(
     alloc: Global,
     generate: Option<u32>,
@@ -68,7 +70,9 @@ pub fn run_whole<C: Carrier + Drop, I: Source, F: Shelf, O: Sink>(
         fetched: 0,
     };
     let flow = run_gathered(alloc, generate, names, &mut progress, input, files, out);
-    status_of(flow, progress.refused)
+    let status = status_of(flow, progress.refused);
+    forget(progress);
+    status
 }
 
 /// How a run ended whose commands were all carried out, or that ended before, or broke off.

@@ -5,10 +5,10 @@ use Rattle.defs_match.specs.declared.rule.Rule.{Rule}
 use Rattle.defs_soar.specs.Agents.{Agent}
 use Rattle.defs_soar.specs.History.{RecordedFiring}
 use Rattle.wave_learning.specs.declared.program.LearnedRule.{LearnedRule}
-use Rattle.wave_parts.specs.Seen.{agent_of}
-use Rattle.wave_parts.specs.Stands.{Stands}
-use Rattle.wave_parts.specs.declared.parts.Parts.{Parts as PartsKept}
-use Rattle.wave_parts.proofs.StandsLemmas.{of_each_state, remembers_same, stands_for}
+use Rattle.decision_parts.specs.Seen.{agent_of}
+use Rattle.decision_parts.specs.Stands.{Stands}
+use Rattle.decision_parts.specs.Parts.{Parts as PartsKept}
+use Rattle.decision_parts.proofs.StandsLemmas.{of_each_state, remembers_same, stands_for}
 use Rattle.cycle_parts.specs.Calls.{excised_agent}
 use Rattle.cycle_parts.specs.Dropping.{AreDropped}
 

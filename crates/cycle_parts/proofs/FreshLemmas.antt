@@ -9,12 +9,12 @@ use Rattle.defs_soar.specs.History.{RecordedFiring}
 use Rattle.defs_soar.specs.Limits.{first_passed, identifiers_to}
 use Rattle.soar_fire.specs.Growth.{LettersKeep}
 use Rattle.soar_fire.proofs.GrowthLemmas.{letters_next}
-use Rattle.wave_parts.specs.Remembers.{Remembers}
-use Rattle.wave_parts.specs.Seen.{IsSound, Stepped, agent_of}
-use Rattle.wave_parts.specs.Stands.{Stands}
-use Rattle.wave_parts.specs.declared.parts.Parts.{Parts as PartsKept}
-use Rattle.wave_parts.proofs.GrownLemmas.{numbered_later}
-use Rattle.wave_parts.proofs.StandsLemmas.{of_each_state, stands_for}
+use Rattle.decision_parts.specs.Remembers.{Remembers}
+use Rattle.decision_parts.specs.Seen.{IsSound, Stepped, agent_of}
+use Rattle.decision_parts.specs.Stands.{Stands}
+use Rattle.decision_parts.specs.Parts.{Parts as PartsKept}
+use Rattle.decision_parts.proofs.GrownLemmas.{numbered_later}
+use Rattle.decision_parts.proofs.StandsLemmas.{of_each_state, stands_for}
 use Rattle.cycle_parts.specs.Calls.{fresh_step, next_number}
 use Rattle.cycle_parts.proofs.SteppingLemmas.{stepped_at}
 

@@ -6,11 +6,11 @@ use Rattle.defs_soar.specs.History.{RecordedFiring}
 use Rattle.defs_soar.specs.Resettling.{AgentStep, resettled}
 use Rattle.soar_settle.specs.declared.stop.Stop.{Stop}
 use Rattle.step_report.specs.declared.settled.Settled.{Settled}
-use Rattle.wave_parts.specs.Resettles.{resettled_now}
-use Rattle.wave_parts.specs.Seen.{agent_of}
-use Rattle.wave_parts.specs.Stands.{Stands}
-use Rattle.wave_parts.specs.declared.parts.Parts.{Parts as PartsKept}
-use Rattle.wave_parts.proofs.StandsLemmas.{of_each_state, remembers_same, stands_at}
+use Rattle.decision_parts.specs.Resettles.{resettled_now}
+use Rattle.decision_parts.specs.Seen.{agent_of}
+use Rattle.decision_parts.specs.Stands.{Stands}
+use Rattle.decision_parts.specs.Parts.{Parts as PartsKept}
+use Rattle.decision_parts.proofs.StandsLemmas.{of_each_state, remembers_same, stands_at}
 use Rattle.cycle_parts.specs.Calls.{input_step, with_input}
 use Rattle.cycle_parts.specs.Settling.{Settles}
 use Rattle.cycle_parts.proofs.SoundLemmas.{with_inputs}

@@ -20,13 +20,13 @@ use Rattle.learning_laws.proofs.DecideLaws.{decision_keeps}
 use Rattle.learning_laws.proofs.FirstLaws.{starting_anew_keeps}
 use Rattle.learning_laws.proofs.FoundedLaws.{input_keeps, inputs_keep, output_keeps, queues_keep, rules_keep}
 use Rattle.session_laws.proofs.StepLaws.{checked_may_be_loaded, halts_keep, identifiers_keep, settings_keep}
-use Rattle.wave_parts.specs.Lawful.{IsOfLawful}
-use Rattle.wave_parts.specs.Seen.{Stepped}
-use Rattle.wave_parts.specs.Settings.{settings_seen}
-use Rattle.wave_parts.specs.Stands.{Stands}
-use Rattle.wave_parts.specs.declared.parts.Parts.{Parts as PartsKept}
-use Rattle.wave_parts.specs.declared.settings.Settings.{Settings}
-use Rattle.wave_parts.proofs.StandsLemmas.{remembers_same}
+use Rattle.decision_parts.specs.Lawful.{IsOfLawful}
+use Rattle.decision_parts.specs.Seen.{Stepped}
+use Rattle.decision_parts.specs.Settings.{settings_seen}
+use Rattle.decision_parts.specs.Stands.{Stands}
+use Rattle.decision_parts.specs.Parts.{Parts as PartsKept}
+use Rattle.decision_parts.specs.SettingsType.{Settings}
+use Rattle.decision_parts.proofs.StandsLemmas.{remembers_same}
 use Rattle.cycle_parts.specs.Calls.{IsTripleGiven, MayBeLoaded, excised_agent, fresh_step, input_step, load_step, queue_step, random_step, restart_step, with_input}
 
 -- ---- a step that keeps lawful states

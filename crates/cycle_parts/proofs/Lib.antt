@@ -17,3 +17,9 @@ pub mod TakingLemmas
 pub mod TellingLemmas
 pub mod ToldLemmas
 pub mod WavingLemmas
+pub use Rattle.decision_parts.proofs.FiringKnown
+pub use Rattle.decision_parts.proofs.GrownLemmas
+pub use Rattle.decision_parts.proofs.LimitLemmas
+pub use Rattle.decision_parts.proofs.PartsNamedLemmas
+pub use Rattle.decision_parts.proofs.PartsSoundLemmas
+pub use Rattle.decision_parts.proofs.StandsLemmas

@@ -15,12 +15,12 @@ use Rattle.defs_run.specs.Carrying.{is_named}
 use Rattle.rule_shelf.specs.Shelf.{AreBelow}
 use Rattle.wave_learning.specs.Hands.{learned_rule_seen}
 use Rattle.wave_learning.specs.declared.program.LearnedRule.{LearnedRule}
-use Rattle.wave_parts.specs.Counting.{Counts}
-use Rattle.wave_parts.specs.Seen.{AreUpTo, IsSound, Stepped, agent_of}
-use Rattle.wave_parts.specs.Stands.{Stands}
-use Rattle.wave_parts.specs.declared.parts.Parts.{Parts as PartsKept}
-use Rattle.wave_parts.proofs.LimitLemmas.{passed_later, passes_not}
-use Rattle.wave_parts.proofs.StandsLemmas.{of_each_state, remembers_same, stands_for}
+use Rattle.decision_parts.specs.Counting.{Counts}
+use Rattle.decision_parts.specs.Seen.{AreUpTo, IsSound, Stepped, agent_of}
+use Rattle.decision_parts.specs.Stands.{Stands}
+use Rattle.decision_parts.specs.Parts.{Parts as PartsKept}
+use Rattle.decision_parts.proofs.LimitLemmas.{passed_later, passes_not}
+use Rattle.decision_parts.proofs.StandsLemmas.{of_each_state, remembers_same, stands_for}
 use Rattle.cycle_parts.specs.Calls.{load_step}
 use Rattle.cycle_parts.specs.Dropping.{AreDropped, unnamed, unnamed_chains}
 use Rattle.cycle_parts.proofs.NumberLemmas.{none_numbered, with_last_rule}

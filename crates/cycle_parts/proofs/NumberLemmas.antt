@@ -5,7 +5,7 @@ use Rattle.defs_match.specs.Contents.{is_numbered, with_rule, without_rule}
 use Rattle.defs_match.specs.Rules.{RuleOf}
 use Rattle.matching_laws.proofs.TagLemmas.{below_apart}
 use Rattle.pending_work.specs.Firables.{IsBelowRules}
-use Rattle.wave_parts.specs.Seen.{AreUpTo}
+use Rattle.decision_parts.specs.Seen.{AreUpTo}
 
 pub or_true : (b : Bool) → (b || true) ≡ true
 or_true true = refl

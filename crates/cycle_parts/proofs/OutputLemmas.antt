@@ -15,11 +15,11 @@ use Rattle.defs_soar.specs.Trace.{pieces_of}
 use Rattle.soar_settle.specs.Known.{AreTriplesKnown}
 use Rattle.trace_lines.specs.Saying.{IsTripleKnown}
 use Rattle.step_report.specs.Saying.{SaysEvents, SaysInTurn}
-use Rattle.wave_parts.specs.Seen.{Stepped, agent_of}
-use Rattle.wave_parts.specs.Stands.{Stands}
-use Rattle.wave_parts.specs.Remembers.{Remembers}
-use Rattle.wave_parts.specs.declared.parts.Parts.{Parts as PartsKept}
-use Rattle.wave_parts.proofs.StandsLemmas.{of_each_state, remembers_same, stands_at}
+use Rattle.decision_parts.specs.Seen.{Stepped, agent_of}
+use Rattle.decision_parts.specs.Stands.{Stands}
+use Rattle.decision_parts.specs.Remembers.{Remembers}
+use Rattle.decision_parts.specs.Parts.{Parts as PartsKept}
+use Rattle.decision_parts.proofs.StandsLemmas.{of_each_state, remembers_same, stands_at}
 use Rattle.decision_parts.specs.Stepping.{WentStep}
 use Rattle.cycle_parts.proofs.SteppingLemmas.{stepped_at, went_by}
 

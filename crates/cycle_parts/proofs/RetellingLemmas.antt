@@ -8,9 +8,9 @@ use Rattle.defs_soar.specs.Laws.{IsIn}
 use Rattle.matching_laws.proofs.TagLemmas.{below_apart, itself}
 use Rattle.pending_work.specs.Firables.{AreNumbered, IsBelowRules}
 use Rattle.program_laws.specs.Taught.{AreNext}
-use Rattle.wave_parts.specs.Seen.{AreUpTo, IsSound}
-use Rattle.wave_parts.specs.Teaching.{AreRetaught, is_numbered_among, numbers_among, without_numbers}
-use Rattle.wave_parts.specs.declared.parts.Parts.{Parts as PartsKept}
+use Rattle.decision_parts.specs.Seen.{AreUpTo, IsSound}
+use Rattle.decision_parts.specs.Teaching.{AreRetaught, is_numbered_among, numbers_among, without_numbers}
+use Rattle.decision_parts.specs.Parts.{Parts as PartsKept}
 use Rattle.cycle_parts.specs.Retelling.{AreEachNew, AreHeld, AreNewAbove, with_above, with_each_above, with_each_rule, without_each_rule}
 use Rattle.cycle_parts.proofs.NumberLemmas.{none_numbered, or_true, with_last_rule, without_none}
 use Rattle.cycle_parts.proofs.RuleLemmas.{up_to_filter, up_to_last}

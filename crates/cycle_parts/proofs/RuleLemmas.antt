@@ -5,7 +5,7 @@ use Rattle.soar_rule.specs.Symbols.{AreKnown, symbols_of}
 use Rattle.defs_match.specs.Rules.{RuleOf}
 use Rattle.soar_settle.specs.Known.{AreRulesKnown}
 use Rattle.pending_work.specs.Firables.{IsBelowRules, AreNumbered}
-use Rattle.wave_parts.specs.Seen.{AreUpTo}
+use Rattle.decision_parts.specs.Seen.{AreUpTo}
 
 -- ---- a rule less
 

@@ -24,11 +24,11 @@ use Rattle.pending_work.specs.Firables.{AreNumbered}
 use Rattle.program_laws.specs.Knowing.{AreChainsKnown}
 use Rattle.wave_learning.specs.Hands.{learned_rule_seen}
 use Rattle.wave_learning.specs.declared.program.LearnedRule.{LearnedRule}
-use Rattle.wave_parts.specs.KeptUp.{IsKeptUp}
-use Rattle.wave_parts.specs.Programs.{AreExplained}
-use Rattle.wave_parts.specs.Seen.{AreUpTo, IsSound}
-use Rattle.wave_parts.specs.declared.parts.Parts.{Parts as PartsKept}
-use Rattle.wave_parts.proofs.KeptUpLemmas.{kept_covered}
+use Rattle.decision_parts.specs.KeptUp.{IsKeptUp}
+use Rattle.decision_parts.specs.Programs.{AreExplained}
+use Rattle.decision_parts.specs.Seen.{AreUpTo, IsSound}
+use Rattle.decision_parts.specs.Parts.{Parts as PartsKept}
+use Rattle.decision_parts.proofs.KeptUpLemmas.{kept_covered}
 use Rattle.cycle_parts.specs.Calls.{IsTripleGiven, IsTripleKnown, with_input}
 use Rattle.cycle_parts.specs.Dropping.{AreDropped, is_of_name, unnamed, unnamed_chains}
 use Rattle.cycle_parts.proofs.RuleLemmas.{numbered_filter, numbered_last, rules_filter, rules_last, up_to_filter, up_to_last}

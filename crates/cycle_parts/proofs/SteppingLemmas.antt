@@ -14,10 +14,10 @@ use Rattle.step_report.specs.Saying.{SaysEvents}
 use Rattle.step_report.specs.declared.settled.Settled.{Settled}
 use Rattle.decision_parts.specs.Stepping.{GoesStep, WentStep}
 use Rattle.decision_parts.specs.declared.decision.Decision.{Decision}
-use Rattle.wave_parts.specs.Resettles.{Resettles, resettled_now}
-use Rattle.wave_parts.specs.Seen.{Stepped}
-use Rattle.wave_parts.specs.Stands.{Stands}
-use Rattle.wave_parts.specs.declared.parts.Parts.{Parts as PartsKept}
+use Rattle.decision_parts.specs.Resettles.{Resettles, resettled_now}
+use Rattle.decision_parts.specs.Seen.{Stepped}
+use Rattle.decision_parts.specs.Stands.{Stands}
+use Rattle.decision_parts.specs.Parts.{Parts as PartsKept}
 use Rattle.cycle_parts.specs.Settling.{Settles}
 
 -- ---- nothing halts

@@ -11,13 +11,13 @@ use Rattle.outstanding.specs.declared.answer.Open.{Open}
 use Rattle.pending_work.specs.Open.{IsOpen}
 use Rattle.pending_work.specs.declared.work.Work.{Work}
 use Rattle.soar_settle.specs.declared.stop.Stop.{Stop}
-use Rattle.wave_parts.specs.Carrying.{CarriesOut}
-use Rattle.wave_parts.specs.Lawful.{IsOfLawful}
-use Rattle.wave_parts.specs.Seen.{IsSound}
-use Rattle.wave_parts.specs.Stands.{Stands}
-use Rattle.wave_parts.specs.declared.carrying.Done.{Done}
-use Rattle.wave_parts.specs.declared.parts.Parts.{Parts as PartsKept}
-use Rattle.wave_parts.proofs.StandsLemmas.{remembers_same}
+use Rattle.decision_parts.specs.Carrying.{CarriesOut}
+use Rattle.decision_parts.specs.Lawful.{IsOfLawful}
+use Rattle.decision_parts.specs.Seen.{IsSound}
+use Rattle.decision_parts.specs.Stands.{Stands}
+use Rattle.decision_parts.specs.Done.{Done}
+use Rattle.decision_parts.specs.Parts.{Parts as PartsKept}
+use Rattle.decision_parts.proofs.StandsLemmas.{remembers_same}
 use Rattle.cycle_parts.specs.Waving.{with_told}
 
 -- where the live firings are the same, only what was told is another

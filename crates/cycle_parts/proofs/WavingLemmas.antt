@@ -7,14 +7,14 @@ use Rattle.soar_settle.specs.declared.stop.Stop.{Stop}
 use Rattle.soar_settle.specs.declared.stop.Stop.TheVariants as stop
 use Rattle.step_report.specs.Reports.{report_events}
 use Rattle.step_report.specs.Saying.{SaysEvents}
-use Rattle.wave_parts.specs.Carrying.{Carries, CarriesOut}
+use Rattle.decision_parts.specs.Carrying.{Carries, CarriesOut}
 use Rattle.pending_work.specs.Firables.{IsPending}
-use Rattle.wave_parts.specs.Seen.{agent_of, pending_of}
-use Rattle.wave_parts.specs.Stands.{Stands}
-use Rattle.wave_parts.specs.declared.carrying.Done.{Done}
-use Rattle.wave_parts.specs.declared.parts.Parts.{Parts as PartsKept}
+use Rattle.decision_parts.specs.Seen.{agent_of, pending_of}
+use Rattle.decision_parts.specs.Stands.{Stands}
+use Rattle.decision_parts.specs.Done.{Done}
+use Rattle.decision_parts.specs.Parts.{Parts as PartsKept}
 use Rattle.pending_work.specs.declared.work.Work.{Work}
-use Rattle.wave_parts.proofs.StandsLemmas.{of_each_state, stands_at}
+use Rattle.decision_parts.proofs.StandsLemmas.{of_each_state, stands_at}
 use Rattle.cycle_parts.specs.Waving.{Rested, TellsWork, WavesFrom, Worked, wave_at, waved_by, with_told}
 use Rattle.cycle_parts.proofs.SteppingLemmas.{went_by}
 

@@ -19,8 +19,8 @@ use Rattle.defs_run.specs.Carrying.{with_production, without_name}
 use Rattle.learning_laws.specs.LawfulAgents.{AreGiven, IsLiteral, symbols_of_triple}
 use Rattle.soar_settle.specs.declared.stop.Stop.{Stop}
 use Rattle.soar_settle.specs.declared.stop.Stop.TheVariants as stop
-use Rattle.wave_parts.specs.Seen.{Stepped}
-use Rattle.wave_parts.specs.declared.parts.Parts.{Parts as PartsKept}
+use Rattle.decision_parts.specs.Seen.{Stepped}
+use Rattle.decision_parts.specs.Parts.{Parts as PartsKept}
 
 abbrev pub IsTripleKnown : Texts → Triple → Type 0
 IsTripleKnown words t = IsKnown words t.id × IsKnown words t.attr × IsKnown words t.value

@@ -6,7 +6,7 @@ use Rattle.defs_match.specs.Rules.{RuleOf, rule_seen}
 use Rattle.defs_run.specs.Carrying.{is_named}
 use Rattle.defs_soar.specs.Agents.{Learnt}
 use Rattle.wave_learning.specs.Hands.{learned_rule_seen}
-use Rattle.wave_parts.specs.declared.parts.Parts.{Parts as PartsKept}
+use Rattle.decision_parts.specs.Parts.{Parts as PartsKept}
 
 -- the rule of the number has the name
 abbrev pub is_of_name : Sym → List RuleOf → ℕ → Bool

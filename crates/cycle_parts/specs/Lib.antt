@@ -5,3 +5,11 @@ pub mod Retelling
 pub mod Settling
 pub mod Waving
 pub use Rattle.decision_parts.specs.Stepping
+pub use Rattle.wave_learning.specs.Hands
+pub use Rattle.decision_parts.specs.Lawful
+pub use Rattle.decision_parts.specs.Remembers
+pub use Rattle.decision_parts.specs.Seen
+pub use Rattle.decision_parts.specs.Settings
+pub use Rattle.decision_parts.specs.Stands
+pub use Rattle.decision_parts.specs.Parts
+pub use Rattle.decision_parts.specs.SettingsType

@@ -7,8 +7,8 @@ use Rattle.soar_settle.specs.declared.stop.Stop.{Stop}
 use Rattle.soar_settle.specs.declared.stop.Stop.TheVariants as stop
 use Rattle.step_report.specs.Reports.{settled_events}
 use Rattle.step_report.specs.declared.settled.Settled.{Settled}
-use Rattle.wave_parts.specs.Seen.{Stepped}
-use Rattle.wave_parts.specs.declared.parts.Parts.{Parts as PartsKept}
+use Rattle.decision_parts.specs.Seen.{Stepped}
+use Rattle.decision_parts.specs.Parts.{Parts as PartsKept}
 
 -- the parts stand for the state after the step, which told these events and then what settling did
 pub record HasSettled (first : List Event) (s : AgentStep) (new : PartsKept) (settled : Settled) : Type 0 where

@@ -10,7 +10,7 @@ use Rattle.soar_settle.specs.declared.stop.Stop.{Stop}
 use Rattle.soar_settle.specs.declared.stop.Stop.TheVariants as stop
 use Rattle.trace_lines.specs.declared.halting.Phase.{Phase}
 use Rattle.trace_lines.specs.declared.halting.Phase.TheVariants.{Application, Proposal}
-use Rattle.wave_parts.specs.declared.parts.Parts.{Parts as PartsKept}
+use Rattle.decision_parts.specs.Parts.{Parts as PartsKept}
 use Rattle.decision_parts.specs.Stepping.{StopsStep, WentStep}
 use Rattle.cycle_parts.specs.declared.waving.Waved.{Waved}
 use Rattle.cycle_parts.specs.declared.waving.Waved.TheVariants as waved

@@ -4,17 +4,16 @@ ghost use Rattle.defs_soar.specs.Agents.{Agent as AgentOf};
 ghost use Rattle.defs_soar.specs.Decision.{decided_by};
 ghost use Rattle.cycle_parts.specs.Bonds.{Bond};
 ghost use Rattle.decision_parts.specs.Stepping.{GoesStep};
-ghost use Rattle.wave_parts.specs.Lawful.{IsOfLawful};
-ghost use Rattle.wave_parts.specs.Seen.{IsSound};
-ghost use Rattle.wave_parts.specs.Stands.{Stands};
+ghost use Rattle.decision_parts.specs.Lawful.{IsOfLawful};
+ghost use Rattle.decision_parts.specs.Seen.{IsSound};
+ghost use Rattle.decision_parts.specs.Stands.{Stands};
 
 use crate::engine::Engine;
 use crate::telling::tell;
-use decision_parts::decide;
+use decision_parts::{Stop, decide};
 use outstanding::Outstanding;
 use soar_sym::Text;
 use std::alloc::Global;
-use wave_parts::Stop;
 
 impl<M: Outstanding> Engine<M> {
     /// Decides, from the top goal down: a selected operator that is left stays, else one that is left is selected; an

@@ -3,9 +3,9 @@ ghost use Rattle.std.specs.Prelude.{◌≡◌};
 ghost use Rattle.defs_soar.specs.Agents.{Agent as AgentOf};
 ghost use Rattle.cycle_parts.specs.Bonds.{Bond};
 ghost use Rattle.cycle_parts.specs.Calls.{excised_agent};
-ghost use Rattle.wave_parts.specs.Lawful.{IsOfLawful};
-ghost use Rattle.wave_parts.specs.Seen.{IsSound};
-ghost use Rattle.wave_parts.specs.Stands.{Stands};
+ghost use Rattle.decision_parts.specs.Lawful.{IsOfLawful};
+ghost use Rattle.decision_parts.specs.Seen.{IsSound};
+ghost use Rattle.decision_parts.specs.Stands.{Stands};
 
 use crate::dropping::drop_named;
 use crate::engine::Engine;

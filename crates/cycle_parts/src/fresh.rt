@@ -5,15 +5,15 @@ ghost use Rattle.soar_sym.specs.Words.{IsKnown};
 ghost use Rattle.defs_soar.specs.Agents.{Agent as AgentOf};
 ghost use Rattle.cycle_parts.specs.Bonds.{Bond};
 ghost use Rattle.cycle_parts.specs.Calls.{GivesFresh};
-ghost use Rattle.wave_parts.specs.Lawful.{IsOfLawful};
-ghost use Rattle.wave_parts.specs.Seen.{IsSound};
-ghost use Rattle.wave_parts.specs.Stands.{Stands};
+ghost use Rattle.decision_parts.specs.Lawful.{IsOfLawful};
+ghost use Rattle.decision_parts.specs.Seen.{IsSound};
+ghost use Rattle.decision_parts.specs.Stands.{Stands};
 
 use crate::engine::Engine;
+use decision_parts::Stop;
 use defs_soar::Which;
 use outstanding::Outstanding;
 use soar_sym::Sym;
-use wave_parts::Stop;
 
 impl<M: Outstanding> Engine<M> {
     /// Gives a new identifier of a letter, `A` to `Z`.

@@ -9,19 +9,19 @@ ghost use Rattle.step_report.specs.Reports.{settled_events};
 ghost use Rattle.cycle_parts.specs.Bonds.{Bond};
 ghost use Rattle.cycle_parts.specs.Settling.{Settles};
 ghost use Rattle.decision_parts.specs.Stepping.{GoesStep};
-ghost use Rattle.wave_parts.specs.Lawful.{IsOfLawful};
-ghost use Rattle.wave_parts.specs.Seen.{IsSound};
-ghost use Rattle.wave_parts.specs.Stands.{Stands};
+ghost use Rattle.decision_parts.specs.Lawful.{IsOfLawful};
+ghost use Rattle.decision_parts.specs.Seen.{IsSound};
+ghost use Rattle.decision_parts.specs.Stands.{Stands};
 
 use crate::engine::Engine;
 use crate::triples::note_queued;
+use decision_parts::{Stop, count_more};
 use input_queue::make_changes;
 use outstanding::Outstanding;
 use soar_sym::{List, NoMemory, SymTable, Text};
 use std::alloc::Global;
 use step_report::{Settled, begin_part, say_settled, says_in_turn};
 use trace_details::CyclePart;
-use wave_parts::{Stop, count_more};
 
 impl<M: Outstanding> Engine<M> {
     /// Runs the input phase: one cycle more, and the queued changes of the inputs in order (Soar manual, chapter 2,

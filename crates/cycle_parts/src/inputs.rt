@@ -4,17 +4,17 @@ ghost use Rattle.defs_soar.specs.Agents.{Agent as AgentOf};
 ghost use Rattle.cycle_parts.specs.Bonds.{Bond};
 ghost use Rattle.cycle_parts.specs.Calls.{IsTripleGiven, input_step};
 ghost use Rattle.decision_parts.specs.Stepping.{GoesStep};
-ghost use Rattle.wave_parts.specs.Lawful.{IsOfLawful};
-ghost use Rattle.wave_parts.specs.Seen.{IsSound};
-ghost use Rattle.wave_parts.specs.Stands.{Stands};
+ghost use Rattle.decision_parts.specs.Lawful.{IsOfLawful};
+ghost use Rattle.decision_parts.specs.Seen.{IsSound};
+ghost use Rattle.decision_parts.specs.Stands.{Stands};
 
 use crate::engine::Engine;
 use crate::triples::change_input;
+use decision_parts::Stop;
 use outstanding::Outstanding;
 use soar_sym::{Text, Triple};
 use std::alloc::Global;
 use step_report::say_settled;
-use wave_parts::Stop;
 
 impl<M: Outstanding> Engine<M> {
     /// Adds a triple to the inputs, or takes it out, and settles.

@@ -21,5 +21,7 @@ mod telling;
 mod triples;
 mod waving;
 
+pub use decision_parts::{Parts, Settings, Stop};
 pub use engine::Engine;
+pub use wave_learning::LearnedRule;
 pub use waving::Waved;

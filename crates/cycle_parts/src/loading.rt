@@ -8,17 +8,17 @@ ghost use Rattle.defs_soar.specs.Pending.{is_justification};
 ghost use Rattle.cycle_parts.specs.Bonds.{Bond};
 ghost use Rattle.cycle_parts.specs.Calls.{MayBeLoaded, load_step};
 ghost use Rattle.decision_parts.specs.Stepping.{QuietStep};
-ghost use Rattle.wave_parts.specs.Lawful.{IsOfLawful};
-ghost use Rattle.wave_parts.specs.Seen.{IsSound};
-ghost use Rattle.wave_parts.specs.Stands.{Stands};
+ghost use Rattle.decision_parts.specs.Lawful.{IsOfLawful};
+ghost use Rattle.decision_parts.specs.Seen.{IsSound};
+ghost use Rattle.decision_parts.specs.Stands.{Stands};
 
 use crate::dropping::drop_named;
 use crate::engine::Engine;
+use decision_parts::{Stop, count_more};
 use defs_match::Rule;
 use outstanding::Outstanding;
 use soar_rule::Production;
 use std::alloc::Global;
-use wave_parts::{Stop, count_more};
 
 impl<M: Outstanding> Engine<M> {
     /// Loads a production under the next rule number, in the place of that of its name, whose explanation goes too.

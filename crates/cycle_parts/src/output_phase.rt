@@ -7,18 +7,18 @@ ghost use Rattle.soar_settle.specs.Known.{AreTriplesKnown};
 ghost use Rattle.step_report.specs.Saying.{SaysEvents};
 ghost use Rattle.cycle_parts.specs.Bonds.{Bond};
 ghost use Rattle.decision_parts.specs.Stepping.{GoesStep};
-ghost use Rattle.wave_parts.specs.Lawful.{IsOfLawful};
-ghost use Rattle.wave_parts.specs.Seen.{IsSound};
-ghost use Rattle.wave_parts.specs.Stands.{Stands};
+ghost use Rattle.decision_parts.specs.Lawful.{IsOfLawful};
+ghost use Rattle.decision_parts.specs.Seen.{IsSound};
+ghost use Rattle.decision_parts.specs.Stands.{Stands};
 
 use crate::engine::Engine;
+use decision_parts::Stop;
 use output_link::{OutputChanges, output_changes, output_of};
 use outstanding::Outstanding;
 use soar_sym::{NoMemory, SymTable, Text};
 use std::alloc::Global;
 use step_report::{begin_part, say_halt_at, say_outputs_at, says_in_turn};
 use trace_details::CyclePart;
-use wave_parts::Stop;
 
 impl<M: Outstanding> Engine<M> {
     /// Runs the output phase: what the output link shows no longer, then what is new there, and a halt (Soar manual,

@@ -4,15 +4,15 @@ ghost use Rattle.defs_soar.specs.Agents.{Agent as AgentOf};
 ghost use Rattle.cycle_parts.specs.Bonds.{Bond};
 ghost use Rattle.cycle_parts.specs.Calls.{IsTripleGiven, queue_step, random_step};
 ghost use Rattle.decision_parts.specs.Stepping.{QuietStep};
-ghost use Rattle.wave_parts.specs.Lawful.{IsOfLawful};
-ghost use Rattle.wave_parts.specs.Seen.{IsSound};
-ghost use Rattle.wave_parts.specs.Stands.{Stands};
+ghost use Rattle.decision_parts.specs.Lawful.{IsOfLawful};
+ghost use Rattle.decision_parts.specs.Seen.{IsSound};
+ghost use Rattle.decision_parts.specs.Stands.{Stands};
 
 use crate::engine::Engine;
+use decision_parts::Stop;
 use input_queue::Queued;
 use outstanding::Outstanding;
 use soar_sym::Triple;
-use wave_parts::Stop;
 
 impl<M: Outstanding> Engine<M> {
     /// Queues a change of the inputs for the next input phase.

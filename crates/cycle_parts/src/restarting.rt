@@ -4,16 +4,16 @@ ghost use Rattle.defs_soar.specs.Agents.{Agent as AgentOf};
 ghost use Rattle.cycle_parts.specs.Bonds.{Bond};
 ghost use Rattle.cycle_parts.specs.Calls.{restart_step};
 ghost use Rattle.decision_parts.specs.Stepping.{QuietStep};
-ghost use Rattle.wave_parts.specs.Lawful.{IsOfLawful};
-ghost use Rattle.wave_parts.specs.Seen.{IsSound};
-ghost use Rattle.wave_parts.specs.Stands.{Stands};
+ghost use Rattle.decision_parts.specs.Lawful.{IsOfLawful};
+ghost use Rattle.decision_parts.specs.Seen.{IsSound};
+ghost use Rattle.decision_parts.specs.Stands.{Stands};
 
 use crate::engine::Engine;
 use crate::retelling::forget;
 use crate::telling::tell_anew;
+use decision_parts::Stop;
 use outstanding::Outstanding;
 use std::alloc::Global;
-use wave_parts::Stop;
 
 impl<M: Outstanding> Engine<M> {
     /// Starts anew: all is as at the start but words, settings and all rules but justifications (Soar manual, chapter 9,

@@ -1,12 +1,12 @@
 // Settings.
 ghost use Rattle.std.specs.Prelude.{◌≡◌};
 ghost use Rattle.cycle_parts.specs.Bonds.{Bond};
-ghost use Rattle.wave_parts.specs.Lawful.{IsOfLawful};
-ghost use Rattle.wave_parts.specs.Seen.{IsSound};
+ghost use Rattle.decision_parts.specs.Lawful.{IsOfLawful};
+ghost use Rattle.decision_parts.specs.Seen.{IsSound};
 
 use crate::engine::Engine;
+use decision_parts::Settings;
 use outstanding::Outstanding;
-use wave_parts::Settings;
 
 impl<M: Outstanding> Engine<M> {
     /// Sets what a user may choose.

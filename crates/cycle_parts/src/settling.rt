@@ -5,16 +5,16 @@ ghost use Rattle.trace_laws.specs.Events.{AreEventsKnown};
 ghost use Rattle.step_report.specs.Reports.{settled_events};
 ghost use Rattle.cycle_parts.specs.Bonds.{Bond};
 ghost use Rattle.cycle_parts.specs.Settling.{Settles};
-ghost use Rattle.wave_parts.specs.Resettles.{resettled_now};
-ghost use Rattle.wave_parts.specs.Seen.{IsSound};
-ghost use Rattle.wave_parts.specs.Stands.{Stands};
+ghost use Rattle.decision_parts.specs.Resettles.{resettled_now};
+ghost use Rattle.decision_parts.specs.Seen.{IsSound};
+ghost use Rattle.decision_parts.specs.Stands.{Stands};
 
 use crate::engine::Engine;
 use crate::telling::tell;
+use decision_parts::Stop;
 use outstanding::Outstanding;
 use std::alloc::Global;
 use step_report::Settled;
-use wave_parts::Stop;
 
 impl<M: Outstanding> Engine<M> {
     /// Settles what is held, makes working memory of it, and tells the matcher what went and what came.

@@ -6,10 +6,10 @@ ghost use Rattle.matching_laws.specs.Telling.{AreInsertable, AreRemovable, with_
 ghost use Rattle.soar_settle.specs.Tagging.{without_each};
 
 use crate::taking::take_in;
+use decision_parts::Changes;
 use outstanding::Outstanding;
 use soar_sym::NoMemory;
 use soar_wm::Element;
-use wave_parts::Changes;
 
 /// Tells a matcher what a step changed: it lets go of what went, then takes in what came.
 pub fn tell<M: Outstanding>(matcher: &mut M, changes: &Changes) -> Result<(), NoMemory>

@@ -10,21 +10,21 @@ ghost use Rattle.cycle_parts.specs.Bonds.{Bond};
 ghost use Rattle.cycle_parts.specs.Waving.{TellsWork, WavesFrom, is_proposing, waved_by, with_told};
 ghost use Rattle.live_firings.specs.Living.{live_seen};
 ghost use Rattle.pending_work.specs.Working.{is_nothing};
-ghost use Rattle.wave_parts.specs.Carrying.{CarriesOut, IsPendingIn};
+ghost use Rattle.decision_parts.specs.Carrying.{CarriesOut, IsPendingIn};
 ghost use Rattle.pending_work.specs.Firables.{AreBound, IsPending};
-ghost use Rattle.wave_parts.specs.Lawful.{IsOfLawful};
-ghost use Rattle.wave_parts.specs.Seen.{AreLiveKnown, IsSound, pending_of};
-ghost use Rattle.wave_parts.specs.Stands.{Stands};
+ghost use Rattle.decision_parts.specs.Lawful.{IsOfLawful};
+ghost use Rattle.decision_parts.specs.Seen.{AreLiveKnown, IsSound, pending_of};
+ghost use Rattle.decision_parts.specs.Stands.{Stands};
 
 use crate::engine::Engine;
 use crate::retelling::{forget, take_up};
 use crate::telling::tell;
+use decision_parts::{Done, Stop, Work};
 use outstanding::Outstanding;
 use soar_sym::{NoMemory, Text};
 use std::alloc::Global;
 use step_report::say_report;
 use trace_lines::Phase;
-use wave_parts::{Done, Stop, Work};
 
 /// How a wave went: nothing was pending, or there was work, and a firing halted or none.
 #[derive(Clone, Copy, PartialEq, Eq)]

@@ -9,8 +9,8 @@ use Rattle.defs_soar.specs.Resettling.{AgentStep}
 use Rattle.defs_soar.specs.Trace.{Written, rendered, pieces_of, followed_by}
 use Rattle.soar_settle.specs.declared.stop.Stop.{Stop}
 use Rattle.soar_settle.specs.declared.stop.Stop.TheVariants as stop
-use Rattle.wave_parts.specs.Stands.{Stands}
-use Rattle.wave_parts.specs.declared.parts.Parts.{Parts as PartsKept}
+use Rattle.cycle_parts.specs.Stands.{Stands}
+use Rattle.cycle_parts.specs.Parts.{Parts as PartsKept}
 use Rattle.cycle_parts.specs.Stepping.{GoesStep, StopsStep, WentStep}
 use Rattle.cycle_phases.specs.Courses.{Goes, Passed, Went, front_said, limit_in}
 

@@ -14,9 +14,9 @@ use Rattle.soar_settle.specs.declared.stop.Stop.TheVariants as stop
 use Rattle.trace_lines.specs.Saying.{part_of}
 use Rattle.trace_lines.specs.declared.halting.Phase.{Phase}
 use Rattle.step_report.specs.Saying.{SaysEvents}
-use Rattle.wave_parts.specs.Stands.{Stands}
-use Rattle.wave_parts.specs.declared.parts.Parts.{Parts as PartsKept}
-use Rattle.wave_parts.specs.declared.settings.Settings.{Settings}
+use Rattle.cycle_parts.specs.Stands.{Stands}
+use Rattle.cycle_parts.specs.Parts.{Parts as PartsKept}
+use Rattle.cycle_parts.specs.SettingsType.{Settings}
 use Rattle.cycle_parts.specs.Stepping.{GoesStep}
 use Rattle.cycle_parts.specs.Waving.{is_proposing}
 use Rattle.cycle_phases.specs.Courses.{Goes, Went, phase_course, phased}

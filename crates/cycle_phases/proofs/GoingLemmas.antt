@@ -7,9 +7,9 @@ use Rattle.defs_soar.specs.Pending.{is_none, pending}
 use Rattle.defs_soar.specs.Phases.{Course, Phased, still, then_step, one_wave, phased_by, phase}
 use Rattle.soar_settle.specs.declared.stop.Stop.{Stop}
 use Rattle.soar_settle.specs.declared.stop.Stop.TheVariants as stop
-use Rattle.wave_parts.specs.Stands.{Stands}
-use Rattle.wave_parts.specs.declared.parts.Parts.{Parts as PartsKept}
-use Rattle.wave_parts.specs.declared.settings.Settings.{Settings}
+use Rattle.cycle_parts.specs.Stands.{Stands}
+use Rattle.cycle_parts.specs.Parts.{Parts as PartsKept}
+use Rattle.cycle_parts.specs.SettingsType.{Settings}
 use Rattle.cycle_parts.specs.Waving.{Rested, TellsWork, WavesFrom, Worked, with_told}
 use Rattle.cycle_parts.specs.declared.waving.Waved.{Waved}
 use Rattle.cycle_parts.proofs.ToldLemmas.{told_stands}

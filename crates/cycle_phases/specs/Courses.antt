@@ -11,8 +11,8 @@ use Rattle.soar_settle.specs.declared.stop.Stop.{Stop}
 use Rattle.soar_settle.specs.declared.stop.Stop.TheVariants as stop
 use Rattle.trace_lines.specs.Saying.{part_of}
 use Rattle.trace_lines.specs.declared.halting.Phase.{Phase}
-use Rattle.wave_parts.specs.Stands.{Stands}
-use Rattle.wave_parts.specs.declared.parts.Parts.{Parts as PartsKept}
+use Rattle.cycle_parts.specs.Stands.{Stands}
+use Rattle.cycle_parts.specs.Parts.{Parts as PartsKept}
 use Rattle.cycle_parts.specs.Waving.{is_proposing}
 use Rattle.cycle_phases.specs.declared.phase.Ended.{Ended}
 use Rattle.cycle_phases.specs.declared.phase.Ended.TheVariants as ended

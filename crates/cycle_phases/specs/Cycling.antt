@@ -6,7 +6,7 @@ use Rattle.defs_soar.specs.Events.{proposal_phase}
 use Rattle.defs_soar.specs.Learning.{with_learning}
 use Rattle.defs_soar.specs.Phases.{Course, then_step}
 use Rattle.soar_settle.specs.declared.stop.Stop.{Stop}
-use Rattle.wave_parts.specs.declared.parts.Parts.{Parts as PartsKept}
+use Rattle.cycle_parts.specs.Parts.{Parts as PartsKept}
 use Rattle.cycle_phases.specs.Courses.{Goes, Went}
 
 abbrev pub with_input : Course → Course

@@ -7,7 +7,7 @@ use Rattle.defs_soar.specs.Learning.{with_learning}
 use Rattle.defs_soar.specs.Phases.{Course, Phased, still, one_wave}
 use Rattle.soar_settle.specs.declared.stop.Stop.{Stop}
 use Rattle.soar_settle.specs.declared.stop.Stop.TheVariants as stop
-use Rattle.wave_parts.specs.declared.parts.Parts.{Parts as PartsKept}
+use Rattle.cycle_parts.specs.Parts.{Parts as PartsKept}
 use Rattle.cycle_phases.specs.Courses.{Passed, Went}
 
 -- so many waves are left behind a course, after which they come to what all waves from the initial state do

@@ -7,17 +7,16 @@ ghost use Rattle.defs_soar.specs.Learning.{with_learning};
 ghost use Rattle.cycle_parts.specs.Bonds.{Bond};
 ghost use Rattle.cycle_phases.specs.Courses.{Goes};
 ghost use Rattle.cycle_phases.specs.Cycling.{GoesOn, with_application, with_decision, with_input, with_proposals};
-ghost use Rattle.wave_parts.specs.Lawful.{IsOfLawful};
-ghost use Rattle.wave_parts.specs.Seen.{IsSound};
-ghost use Rattle.wave_parts.specs.Stands.{Stands};
+ghost use Rattle.cycle_parts.specs.Lawful.{IsOfLawful};
+ghost use Rattle.cycle_parts.specs.Seen.{IsSound};
+ghost use Rattle.cycle_parts.specs.Stands.{Stands};
 
 use crate::phase::run_phase;
-use cycle_parts::Engine;
+use cycle_parts::{Engine, Stop};
 use outstanding::Outstanding;
 use soar_sym::Text;
 use std::alloc::Global;
 use trace_lines::Phase;
-use wave_parts::Stop;
 
 /// Runs a cycle, and tells whether the agent is halted in the end. After a halt the phases before output are left out.
 pub fn run_cycle<M: Outstanding>(

@@ -8,18 +8,17 @@ ghost use Rattle.step_report.specs.Saying.{SaysEvents};
 ghost use Rattle.cycle_parts.specs.Bonds.{Bond};
 ghost use Rattle.cycle_phases.specs.Courses.{Goes, IsEndOf, ended_as, phase_course, phased};
 ghost use Rattle.cycle_phases.specs.Going.{GoesPhase, cut_events};
-ghost use Rattle.wave_parts.specs.Lawful.{IsOfLawful};
-ghost use Rattle.wave_parts.specs.Seen.{IsSound};
-ghost use Rattle.wave_parts.specs.Stands.{Stands};
+ghost use Rattle.cycle_parts.specs.Lawful.{IsOfLawful};
+ghost use Rattle.cycle_parts.specs.Seen.{IsSound};
+ghost use Rattle.cycle_parts.specs.Stands.{Stands};
 
-use cycle_parts::{Engine, Waved};
+use cycle_parts::{Engine, Parts, Stop, Waved};
 use outstanding::Outstanding;
 use soar_sym::{NoMemory, Text};
 use std::alloc::Global;
 use step_report::{begin_part, say_cut_at};
 use trace_details::CyclePart;
 use trace_lines::Phase;
-use wave_parts::{Parts, Stop};
 
 /// How a phase ended: nothing was pending, or it was cut with work still pending, or the agent is halted.
 #[derive(Clone, Copy, PartialEq, Eq)]

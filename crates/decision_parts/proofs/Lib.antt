@@ -14,3 +14,10 @@ pub mod SettledLemmas
 pub mod StepLemmas
 pub mod SubstateLemmas
 pub mod WalkedLemmas
+pub use Rattle.wave_firings.proofs.FiringKnown
+pub use Rattle.wave_parts.proofs.GrownLemmas
+pub use Rattle.wave_parts.proofs.KeptUpLemmas
+pub use Rattle.wave_parts.proofs.LimitLemmas
+pub use Rattle.wave_parts.proofs.NamedLemmas as PartsNamedLemmas
+pub use Rattle.wave_parts.proofs.SoundLemmas as PartsSoundLemmas
+pub use Rattle.wave_parts.proofs.StandsLemmas

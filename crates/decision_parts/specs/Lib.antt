@@ -3,3 +3,18 @@ pub mod Pushing
 pub mod Saying
 pub mod Settling
 pub mod Stepping
+pub use Rattle.wave_parts.specs.Carrying
+pub use Rattle.wave_parts.specs.Counting
+pub use Rattle.wave_parts.specs.Hands
+pub use Rattle.wave_parts.specs.KeptUp
+pub use Rattle.wave_parts.specs.Lawful
+pub use Rattle.wave_parts.specs.Programs
+pub use Rattle.wave_parts.specs.Remembers
+pub use Rattle.wave_parts.specs.Resettles
+pub use Rattle.wave_parts.specs.Seen
+pub use Rattle.wave_parts.specs.Settings
+pub use Rattle.wave_parts.specs.Stands
+pub use Rattle.wave_parts.specs.Teaching
+pub use Rattle.wave_parts.specs.declared.carrying.Done
+pub use Rattle.wave_parts.specs.declared.parts.Parts
+pub use Rattle.wave_parts.specs.declared.settings.Settings as SettingsType

@@ -1,6 +1,5 @@
 pub mod AmongLemmas
 pub mod ConstantLemmas
-pub mod DepthLemmas
 pub mod MakerLemmas
 pub mod MakersUpTo
 pub mod OwnLemmas

@@ -110,10 +110,7 @@ impl Kept {
         ensures touched { OnOk result ((t : TripleOf) → has_plain touched.new t ≡ (has_plain touched.old t || has_plain changed.now t)) }
         ensures same { OnOk result ((t : TripleOf) → has_plain changed.now t ≡ false → has_triple_among self.new.triples t ≡ has_triple_among self.old.triples t) }
     {
-        let mut difference = Difference {
-            gone: List::new(alloc),
-            come: List::new(alloc),
-        };
+        let mut difference = Difference::with_room(alloc, changed.len())?;
         look_at_all(
             &self.own,
             goals,

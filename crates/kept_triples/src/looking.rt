@@ -1,5 +1,5 @@
 // Looking again at what holds triples up (Soar manual, chapter 2, support).
-ghost use Rattle.std.specs.Prelude.{◌≡◌, ◌||◌, ◌&&◌, not, cond, OnOk};
+ghost use Rattle.std.specs.Prelude.{◌≡◌, ◌||◌, ◌&&◌, [], not, cond, IfOk, OnOk};
 ghost use Rattle.soar_sym.specs.declared.symbol.Triple.{Triple as TripleOf};
 ghost use Rattle.defs_soar.specs.Values.{has_triple_among, triple_eq};
 ghost use Rattle.settling_laws.specs.Changes.{has_value, rows_hold};
@@ -12,12 +12,26 @@ use defs_soar::{Goal, is_operator_slot};
 use input_memory::Inputs;
 use soar_prefs::Prefs;
 use soar_sym::{List, NoMemory, Triple};
+use std::alloc::Global;
 
 /// The triples that went, and those that came.
 #[derive(Drop)]
 pub struct Difference {
     pub gone: List<Triple>,
     pub come: List<Triple>,
+}
+
+impl Difference {
+    /// Nothing, with room for so many of each.
+    pub fn with_room(alloc: Global, most: usize) -> Result<Difference, NoMemory>
+        ensures gone { IfOk result (λ difference. difference.gone ≡ []) }
+        ensures come { IfOk result (λ difference. difference.come ≡ []) }
+    {
+        Ok(Difference {
+            gone: List::from_vec(Vec::with_capacity(alloc, most)?),
+            come: List::from_vec(Vec::with_capacity(alloc, most)?),
+        })
+    }
 }
 
 /// Looks again at what holds each of the triples up, marked and unmarked, and notes what went and what came.

@@ -103,10 +103,20 @@ lines_of_agent a words rule instances has =
     let elements : List Element = a.holding.elements in
     let lines : Texts → List Instance → List (List ℕ) = λ w l. or_text no_matches (map (match_line w rule) l) in
     let are : matches_of rule.number instances ≡ instances_of elements rule =
-    ap (matches_of rule.number) has.all ∙ of_rules rule.number elements a.program.rules ∙ ap (λ (rs : List RuleOf). conflict rs elements) has.alone ∙ append-nil (instances_of elements rule) in
+    has.all ∙ of_rules rule.number elements a.program.rules ∙ ap (λ (rs : List RuleOf). conflict rs elements) has.alone ∙ append-nil (instances_of elements rule) in
     ap (λ (w : Texts). lines w (matches_of rule.number instances)) (sym has.words_are)
     ∙ ap (lines a.names.words) are
     ∙ ap (or_text no_matches) (lines_of_rows a rule (rows rule.production.conditions elements) (one_name a.program.rules rule.number rule has.alone))
+
+-- those of a number are all those among themselves
+pub twice : (number : ℕ) (instances : List Instance) → matches_of number (matches_of number instances) ≡ matches_of number instances
+twice number [] = refl
+twice number (i ∷ instances) = by (i.rule == number) refl (twice number instances)
+  where
+    by : (b : Bool) → (i.rule == number) ≡ b → matches_of number (matches_of number instances) ≡ matches_of number instances
+        → matches_of number (cond b (i ∷ matches_of number instances) (matches_of number instances)) ≡ cond b (i ∷ matches_of number instances) (matches_of number instances)
+    by true is later = ap (λ c. cond c (i ∷ matches_of number (matches_of number instances)) (matches_of number (matches_of number instances))) is ∙ ap (λ (l : List Instance). i ∷ l) later
+    by false is later = later
 
 -- ---- one line
 

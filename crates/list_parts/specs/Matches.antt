@@ -23,8 +23,8 @@ match_line words rule i = instance_text words rule.production.name i.tags
 abbrev pub rule_match_lines : Texts → RuleOf → List Instance → List (List ℕ)
 rule_match_lines words rule instances = or_text no_matches (map (match_line words rule) (matches_of rule.number instances))
 
--- an agent over these words has the rule, alone under its number, and these are all instances of its rules
+-- an agent over these words has the rule, alone under its number, and among these are all its instances
 pub record HasMatches (a : Agent) (words : Texts) (rule : RuleOf) (instances : List Instance) : Type 0 where
   pub words_are : a.names.words ≡ words
   pub alone : filter (is_numbered rule.number) a.program.rules ≡ rule ∷ []
-  pub all : instances ≡ conflict a.program.rules a.holding.elements
+  pub all : matches_of rule.number instances ≡ matches_of rule.number (conflict a.program.rules a.holding.elements)

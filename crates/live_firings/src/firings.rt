@@ -9,6 +9,7 @@ ghost use Rattle.live_firings.specs.Living.{AreNews, live_above, live_from, live
 use crate::live::Live;
 use crate::reading::{came, of_keys, settle, went};
 use crate::store::Store;
+use boxed_values::Boxed;
 use match_changes::MatchKey;
 use soar_prefs::Prefs;
 use soar_sym::{List, NoMemory};
@@ -88,7 +89,7 @@ impl LiveFirings {
     }
 
     /// All firings, in order of adding.
-    pub fn all(&self) -> Values<'_, u64, Live>
+    pub fn all(&self) -> Values<'_, u64, Boxed<Live>>
         ensures { result ≡ self.now.list }
     {
         self.store.rows.values()

@@ -11,6 +11,7 @@ ghost use Rattle.live_firings.specs.Store.{HasRoom, IsStore, ArePlacesOf, from_m
 use crate::index::{Matches, add_places};
 use crate::live::{Live, copy_of};
 use crate::store::Store;
+use boxed_values::Boxed;
 use match_changes::MatchKey;
 use open_instances::key_of;
 use soar_sym::{List, NoMemory};
@@ -56,12 +57,12 @@ fn places_are_ordered(places: &BTreeSet<u64>)
 /// Copies of the firings at these places.
 fn at_places(
     alloc: Global,
-    rows: &BTreeMap<u64, Live>,
+    rows: &BTreeMap<u64, Boxed<Live>>,
     places: &BTreeSet<u64>,
 ) -> Result<List<Live>, NoMemory>
     ensures { IfOk result (λ found. found ≡ filter_map (row_at rows.now.entries) places.now.keys) }
 {
-    let mut found = List::new(alloc);
+    let mut found = List::from_vec(Vec::with_capacity(alloc, places.len())?);
     'places: for place in places.iter() {
         if let Some(firing) = rows.get(place) {
             found.push(copy_of(alloc, firing)?)?;
@@ -74,7 +75,11 @@ fn at_places(
 pub fn came(alloc: Global, store: &Store) -> Result<List<MatchKey>, NoMemory>
     ensures { IfOk result (λ came. came ≡ keys_of (values_of (from_mark store.now.mark store.now.rows.entries))) }
 {
-    let mut came = List::new(alloc);
+    let most = store
+        .next
+        .saturating_sub(store.mark)
+        .min(store.rows.len() as u64);
+    let mut came = List::from_vec(Vec::with_capacity(alloc, most as usize)?);
     'rows: for (_, firing) in store.rows.range(store.mark..) {
         came.push(key_of(alloc, &firing.instance)?)?;
     }
@@ -85,7 +90,7 @@ pub fn came(alloc: Global, store: &Store) -> Result<List<MatchKey>, NoMemory>
 pub fn went(alloc: Global, gone: &[(u64, Live)]) -> Result<List<MatchKey>, NoMemory>
     ensures { IfOk result (λ went. went ≡ map (λ g. key_of g.1.instance) gone.now) }
 {
-    let mut went = List::new(alloc);
+    let mut went = List::from_vec(Vec::with_capacity(alloc, gone.len())?);
     'gone: for (_, firing) in gone {
         went.push(key_of(alloc, &firing.instance)?)?;
     }

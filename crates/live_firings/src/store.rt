@@ -1,9 +1,9 @@
 // Live firings by their places, found by number, depth and key.
-ghost use Rattle.std.specs.Prelude.{◌≡◌, ◌+◌, ◌<◌, ◌≤◌, ◌∷◌, ◌++◌, [], if◌then◌else◌, not, ◌==◌, nat_lt, filter, Some, OnOk, OnErr, vec_len, vec_capacity};
-ghost use Rattle.std.specs.BTreeMap.{is_at};
+ghost use Rattle.std.specs.Prelude.{◌≡◌, ℕ, ◌+◌, ◌<◌, ◌≤◌, ◌∷◌, ◌++◌, [], if◌then◌else◌, not, ◌==◌, nat_lt, filter, length, None, Some, IsSome, IfNone, IfErr, OnOk, OnErr, vec_len, vec_capacity};
+ghost use Rattle.std.specs.BTreeMap.{insert_entry, is_at};
 ghost use Rattle.std.specs.Map.{values_of, remove_entry};
 ghost use Rattle.std.specs.Option.{option_map};
-ghost use Rattle.std.specs.Ordering.{nat_cmp};
+ghost use Rattle.std.specs.Ordering.{is_eq, nat_cmp};
 ghost use Rattle.defs_soar.specs.Preferences.{without_firings};
 ghost use Rattle.live_firings.specs.declared.live.Live.{Live as LiveOf};
 ghost use Rattle.live_firings.specs.Living.{without_numbers};
@@ -11,6 +11,7 @@ ghost use Rattle.live_firings.specs.Store.{HasRoom, IsStore, deep_numbers, row_a
 
 use crate::index::{self, Index};
 use crate::live::Live;
+use boxed_values::Boxed;
 use open_instances::key_of;
 use soar_prefs::Prefs;
 use soar_sym::NoMemory;
@@ -20,7 +21,7 @@ use std::collections::BTreeMap;
 /// Firings in order of adding, and those that went since they were told. There is room for each firing to go.
 #[derive(Drop)]
 pub struct Store {
-    pub rows: BTreeMap<u64, Live>,
+    pub rows: BTreeMap<u64, Boxed<Live>>,
     pub index: Index,
     pub next: u64,
     /// The place from which on firings came since they were told.
@@ -60,16 +61,15 @@ impl Store {
             return Err(NoMemory);
         };
         // For this firing and all others to go.
-        self.gone.reserve(self.rows.len() + 1)?;
+        make_room(alloc, &mut self.gone, self.rows.len() + 1)?;
         let key = key_of(alloc, &firing.instance)?;
         let firing = self.index.note(firing, key, place)?;
-        match self.rows.insert(place, firing) {
-            Ok(_) => {
+        match put_row(alloc, &mut self.rows, place, firing) {
+            Ok(()) => {
                 self.next = next;
                 Ok(())
             }
-            Err(failed) => {
-                let (_, firing) = failed.value;
+            Err(firing) => {
                 let _ = self.index.forget(firing, place);
                 Err(NoMemory)
             }
@@ -86,7 +86,7 @@ impl Store {
         ensures rows { self.new.rows.entries ≡ remove_entry (is_at (nat_cmp place)) self.old.rows.entries }
         ensures number { result ≡ option_map (λ l. l.number) (row_at self.old.rows.entries place) }
     {
-        match self.rows.remove(&place) {
+        match take_row(&mut self.rows, place) {
             Some(firing) => {
                 let number = firing.number;
                 let firing = self.index.forget(firing, place);
@@ -156,6 +156,57 @@ impl Store {
     }
 }
 
+/// Puts a firing at a place. Want of memory gives it back.
+fn put_row(
+    alloc: Global,
+    rows: &mut BTreeMap<u64, Boxed<Live>>,
+    place: u64,
+    firing: Live,
+) -> Result<(), Live>
+    ensures entries { OnOk result (rows.new.entries ≡ insert_entry nat_cmp rows.old.entries place firing) }
+    ensures updates { OnOk result ((n : ℕ) → row_at rows.new.entries n ≡ (if is_eq (nat_cmp place n) then Some firing else row_at rows.old.entries n)) }
+    ensures len { OnOk result (length rows.new.entries ≤ length rows.old.entries + 1) }
+    ensures back { IfErr result (λ back. back ≡ firing) }
+    ensures err { OnErr result (rows.new.entries ≡ rows.old.entries) }
+{
+    match Boxed::new(alloc, firing) {
+        Ok(boxed) => put_boxed(rows, place, boxed),
+        Err(failed) => Err(failed.value),
+    }
+}
+
+fn put_boxed(
+    rows: &mut BTreeMap<u64, Boxed<Live>>,
+    place: u64,
+    firing: Boxed<Live>,
+) -> Result<(), Live>
+    ensures entries { OnOk result (rows.new.entries ≡ insert_entry nat_cmp rows.old.entries place firing) }
+    ensures updates { OnOk result ((n : ℕ) → row_at rows.new.entries n ≡ (if is_eq (nat_cmp place n) then Some firing else row_at rows.old.entries n)) }
+    ensures len { OnOk result (length rows.new.entries ≤ length rows.old.entries + 1) }
+    ensures back { IfErr result (λ back. back ≡ firing) }
+    ensures err { OnErr result (rows.new.entries ≡ rows.old.entries) }
+{
+    match rows.insert(place, firing) {
+        Ok(_) => Ok(()),
+        Err(failed) => Err(failed.value.1.into_value()),
+    }
+}
+
+/// Takes the firing of a place away. It takes no memory.
+fn take_row(rows: &mut BTreeMap<u64, Boxed<Live>>, place: u64) -> Option<Live>
+    ensures value { result ≡ row_at rows.old.entries place }
+    ensures entries { rows.new.entries ≡ remove_entry (is_at (nat_cmp place)) rows.old.entries }
+    ensures updates { (n : ℕ) → row_at rows.new.entries n ≡ (if is_eq (nat_cmp place n) then None else row_at rows.old.entries n) }
+    ensures len { length rows.new.entries ≤ length rows.old.entries }
+    ensures none { IfNone result (rows.new.entries ≡ rows.old.entries) }
+    ensures less { IsSome result → length rows.new.entries + 1 ≤ length rows.old.entries }
+{
+    match rows.remove(&place) {
+        Some(boxed) => Some(boxed.into_value()),
+        None => None,
+    }
+}
+
 /// Notes a firing that went, if it was told. It takes no memory: there is room.
 fn note_gone(gone: &mut Vec<(u64, Live)>, mark: u64, place: u64, firing: Live)
     requires { vec_len gone.old < vec_capacity gone.old }
@@ -166,4 +217,19 @@ fn note_gone(gone: &mut Vec<(u64, Live)>, mark: u64, place: u64, firing: Live)
     if place < mark {
         gone.push_reserved((place, firing));
     }
+}
+
+/// Makes room for so many firings to go. Where none is noted nothing is copied.
+fn make_room(alloc: Global, gone: &mut Vec<(u64, Live)>, more: usize) -> Result<(), NoMemory>
+    ensures items { gone.new.items ≡ gone.old.items }
+    ensures len { vec_len gone.new ≡ vec_len gone.old }
+    ensures ok { OnOk result (vec_len gone.new + more ≤ vec_capacity gone.new) }
+    ensures capacity { vec_capacity gone.old ≤ vec_capacity gone.new }
+{
+    if gone.is_empty() && gone.capacity() < more {
+        *gone = Vec::with_capacity(alloc, more.saturating_mul(2))?;
+    } else {
+        gone.reserve(more)?;
+    }
+    Ok(())
 }

@@ -1,5 +1,5 @@
 -- What is told of a change of the conflict set.
-use Rattle.std.specs.Prelude.{◌≡◌, ◌↔◌, List, Option, Some, None}
+use Rattle.std.specs.Prelude.{◌≡◌, ◌↔◌, ℕ, Bool, ◌==◌, List, filter, Option, Some, None}
 use Rattle.defs_match.specs.Laws.{IsIn}
 use Rattle.defs_match.specs.declared.instance.Instance.{Instance}
 use Rattle.match_changes.specs.declared.key.MatchKey.{MatchKey}
@@ -15,3 +15,11 @@ AreTold before after told = (i : Instance) → (IsIn (key_of i) told → ⊥) �
 abbrev pub IsTheOne : List Instance → MatchKey → Option Instance → Type 0
 IsTheOne instances key None = (i : Instance) → IsIn i instances → key_of i ≡ key → ⊥
 IsTheOne instances key (Some i) = IsIn i instances × (key_of i ≡ key)
+
+-- the instance is of the rule of a number
+abbrev pub is_of : ℕ → Instance → Bool
+is_of number i = i.rule == number
+
+-- those of the rule of a number, in order
+abbrev pub of_rule : ℕ → List Instance → List Instance
+of_rule number instances = filter (is_of number) instances

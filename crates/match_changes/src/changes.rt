@@ -3,7 +3,7 @@ ghost use Rattle.soar_wm.specs.WorkingMemory.{without_tag};
 ghost use Rattle.defs_match.specs.Conflict.{conflict};
 ghost use Rattle.defs_match.specs.Contents.{with_element, with_rule, IsNewElement, HasTag, IsNewRule, Works};
 ghost use Rattle.defs_match.specs.Rules.{rule_seen};
-ghost use Rattle.match_changes.specs.Told.{AreTold, IsTheOne};
+ghost use Rattle.match_changes.specs.Told.{AreTold, IsTheOne, of_rule};
 
 use crate::key::MatchKey;
 use defs_match::{Instance, Matcher, Rule};
@@ -53,5 +53,13 @@ pub trait MatchChanges: Matcher {
         ensures rules { OnOk result (Self.rules self.new ≡ Self.rules self.old) }
         ensures elements { OnOk result (Self.elements self.new ≡ Self.elements self.old) }
         ensures found { IfOk result (λ found. IsTheOne (conflict (Self.rules self.old) (Self.elements self.old)) key.now found) }
+        ensures err { OnErr result (Self.failed self.new ≡ true) };
+
+    /// The instances of the rule of a number, in order of tags. Other rules are not looked at.
+    fn instances_of(&mut self, alloc: Global, number: u64) -> Result<List<Instance>, NoMemory>
+        ensures works { OnOk result (Works (Self.failed self.old) (Self.failed self.new)) }
+        ensures rules { OnOk result (Self.rules self.new ≡ Self.rules self.old) }
+        ensures elements { OnOk result (Self.elements self.new ≡ Self.elements self.old) }
+        ensures found { IfOk result (λ found. found ≡ of_rule number (conflict (Self.rules self.old) (Self.elements self.old))) }
         ensures err { OnErr result (Self.failed self.new ≡ true) };
 }

@@ -1,5 +1,6 @@
 ghost use Rattle.std.specs.Prelude.{◌≡◌, true, []};
 
+use boxed_values::Boxed;
 use defs_match::Instance;
 use indexmap::IndexSet;
 use match_changes::MatchKey;
@@ -10,7 +11,7 @@ use std::collections::{BTreeMap, BTreeSet, HashMap};
 #[derive(Drop)]
 pub struct Kept {
     /// The instances that no live firing has.
-    pub free: BTreeMap<MatchKey, Instance>,
+    pub free: BTreeMap<MatchKey, Boxed<Instance>>,
     /// The keys of live firings whose instances are not in the conflict set.
     pub gone: BTreeSet<MatchKey>,
     /// How many live firings have the instance of a key.

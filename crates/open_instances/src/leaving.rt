@@ -11,6 +11,7 @@ ghost use Rattle.open_instances.specs.Noted as noted;
 
 use crate::kept::Kept;
 use crate::keys::is_noted;
+use boxed_values::Boxed;
 use defs_match::Instance;
 use indexmap::IndexSet;
 use match_changes::MatchKey;
@@ -36,7 +37,11 @@ fn has_any(kept: &Kept, number: u64) -> bool
 }
 
 /// Whether an instance of the rule is open and is not to be looked at again.
-fn has_open(free: &BTreeMap<MatchKey, Instance>, touched: &IndexSet<MatchKey>, number: u64) -> bool
+fn has_open(
+    free: &BTreeMap<MatchKey, Boxed<Instance>>,
+    touched: &IndexSet<MatchKey>,
+    number: u64,
+) -> bool
     ensures { result ≡ list_any (λ k. (k.rule == number) && not (noted.contains key_cmp touched.now k)) (map.keys free.now) }
 {
     free.keys()

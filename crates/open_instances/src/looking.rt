@@ -10,6 +10,7 @@ ghost use Rattle.open_instances.specs.Keys.{KeyOf, alike, key_cmp};
 use crate::counts::is_live;
 use crate::kept::Kept;
 use crate::keys::copy_of;
+use boxed_values::Boxed;
 use defs_match::Instance;
 use match_changes::MatchKey;
 use soar_sym::NoMemory;
@@ -30,7 +31,7 @@ pub fn look_at(
 {
     let live = is_live(&kept.counts, &key);
     set_gone(alloc, &mut kept.gone, &key, is_gone(live, &found))?;
-    set_open(&mut kept.free, key, open_of(live, found))
+    set_open(alloc, &mut kept.free, key, open_of(live, found))
 }
 
 /// What is open of a key: its instance, unless a live firing has it.
@@ -49,14 +50,15 @@ fn is_gone(live: bool, found: &Option<Instance>) -> bool
 
 /// Puts the instance of a key in, or takes it out.
 fn set_open(
-    free: &mut BTreeMap<MatchKey, Instance>,
+    alloc: Global,
+    free: &mut BTreeMap<MatchKey, Boxed<Instance>>,
     key: MatchKey,
     instance: Option<Instance>,
 ) -> Result<(), NoMemory>
     ensures { OnOk result ((q : KeyOf) → map.get key_cmp free.new q ≡ (if alike key q then instance else map.get key_cmp free.old q)) }
 {
     match instance {
-        Some(instance) => put_open(free, key, instance),
+        Some(instance) => put_open(alloc, free, key, instance),
         None => {
             free.remove(&key);
             Ok(())
@@ -65,13 +67,14 @@ fn set_open(
 }
 
 fn put_open(
-    free: &mut BTreeMap<MatchKey, Instance>,
+    alloc: Global,
+    free: &mut BTreeMap<MatchKey, Boxed<Instance>>,
     key: MatchKey,
     instance: Instance,
 ) -> Result<(), NoMemory>
     ensures { OnOk result ((q : KeyOf) → map.get key_cmp free.new q ≡ (if alike key q then Some instance else map.get key_cmp free.old q)) }
 {
-    free.insert(key, instance)?;
+    free.insert(key, Boxed::new(alloc, instance)?)?;
     Ok(())
 }
 

@@ -3,6 +3,7 @@ ghost use Rattle.std.specs.Prelude.{◌≡◌, IfOk};
 ghost use Rattle.std.specs.BTreeMap as map;
 ghost use Rattle.open_instances.specs.Keys.{key_cmp};
 
+use boxed_values::Boxed;
 use defs_match::Instance;
 use match_changes::MatchKey;
 use soar_sym::{List, NoMemory};
@@ -12,11 +13,11 @@ use std::collections::BTreeMap;
 /// Copies of the open instances, in order of their keys.
 pub fn unfired(
     alloc: Global,
-    free: &BTreeMap<MatchKey, Instance>,
+    free: &BTreeMap<MatchKey, Boxed<Instance>>,
 ) -> Result<List<Instance>, NoMemory>
     ensures copies { IfOk result (λ unfired. unfired ≡ map.values free.now) }
 {
-    let mut unfired = List::new(alloc);
+    let mut unfired = List::from_vec(Vec::with_capacity(alloc, free.len())?);
     'free: for instance in free.values() {
         unfired.push(copy_of(alloc, instance)?)?;
     }
@@ -34,7 +35,7 @@ fn copy_of(alloc: Global, instance: &Instance) -> Result<Instance, NoMemory>
 }
 
 /// The keys of a map are in order.
-pub fn open_is_ordered(free: &BTreeMap<MatchKey, Instance>)
+pub fn open_is_ordered(free: &BTreeMap<MatchKey, Boxed<Instance>>)
     ensures { map.IsOrdered key_cmp free.now }
 {
     let _ = free.len();

@@ -4,6 +4,7 @@ ghost use Rattle.defs_match.specs.Conflict.{conflict};
 ghost use Rattle.defs_match.specs.Contents.{with_element, with_rule, without_rule, IsNewElement, HasTag, IsNewRule, HasRule, Works};
 ghost use Rattle.defs_match.specs.Rules.{rule_seen};
 ghost use Rattle.live_firings.specs.declared.live.Live.{Live as LiveOf};
+ghost use Rattle.match_changes.specs.Told.{of_rule};
 ghost use Rattle.outstanding.specs.Outstanding.{unfired, unmatched};
 
 use defs_match::{Instance, Matcher, Rule};
@@ -74,6 +75,15 @@ pub trait Outstanding: Matcher {
     fn instances(&mut self, alloc: Global) -> Result<List<Instance>, NoMemory>
         ensures works { OnOk result (Works (Self.failed self.old) (Self.failed self.new)) }
         ensures conflict { IfOk result (λ instances. instances ≡ conflict (Self.rules self.old) (Self.elements self.old)) }
+        ensures rules { OnOk result (Self.rules self.new ≡ Self.rules self.old) }
+        ensures elements { OnOk result (Self.elements self.new ≡ Self.elements self.old) }
+        ensures knows { OnOk result ((live : ListOf LiveOf) → knows self.old live → knows self.new live) }
+        ensures err { OnErr result (Self.failed self.new ≡ true) };
+
+    /// The instances of the rule of a number, in order of tags.
+    fn instances_of(&mut self, alloc: Global, number: u64) -> Result<List<Instance>, NoMemory>
+        ensures works { OnOk result (Works (Self.failed self.old) (Self.failed self.new)) }
+        ensures found { IfOk result (λ found. found ≡ of_rule number (conflict (Self.rules self.old) (Self.elements self.old))) }
         ensures rules { OnOk result (Self.rules self.new ≡ Self.rules self.old) }
         ensures elements { OnOk result (Self.elements self.new ≡ Self.elements self.old) }
         ensures knows { OnOk result ((live : ListOf LiveOf) → knows self.old live → knows self.new live) }

@@ -1,11 +1,12 @@
 ghost use Rattle.std.specs.Prelude.{◌≡◌, ◌||◌, IfOk, OnOk};
 ghost use Rattle.defs_match.specs.Conflict.{conflict};
 ghost use Rattle.defs_match.specs.Contents.{Works};
+ghost use Rattle.match_changes.specs.Told.{of_rule};
 ghost use Rattle.outstanding.specs.Outstanding.{unfired, unmatched};
 ghost use Rattle.outstanding.specs.Wrapping.{wrapped};
 
 use crate::answer::{Open, Outstanding};
-use crate::comparing::compare;
+use crate::comparing::{compare, of_rule};
 use defs_match::{Instance, Matcher, Rule};
 use live_firings::LiveFirings;
 use soar_sym::{List, NoMemory};
@@ -109,6 +110,15 @@ impl<M: Matcher> Outstanding for Compared<M> {
         self.conflict(alloc)
     }
 
+    fn instances_of(&mut self, alloc: Global, number: u64) -> Result<List<Instance>, NoMemory> {
+        if self.failed {
+            return Err(NoMemory);
+        }
+        let found = out_of_conflict(alloc, &mut self.matcher, number);
+        self.failed = found.is_err();
+        found
+    }
+
     fn outstanding(&mut self, alloc: Global, live: &mut LiveFirings) -> Result<Open, NoMemory> {
         if self.failed {
             return Err(NoMemory);
@@ -118,6 +128,21 @@ impl<M: Matcher> Outstanding for Compared<M> {
         self.failed = answer.is_err();
         answer
     }
+}
+
+/// The instances of the rule of a number, out of the conflict set.
+fn out_of_conflict<M: Matcher>(
+    alloc: Global,
+    matcher: &mut M,
+    number: u64,
+) -> Result<List<Instance>, NoMemory>
+    ensures works { OnOk result (Works (M.failed matcher.old) (M.failed matcher.new)) }
+    ensures found { IfOk result (λ found. found ≡ of_rule number (conflict (M.rules matcher.old) (M.elements matcher.old))) }
+    ensures rules { OnOk result (M.rules matcher.new ≡ M.rules matcher.old) }
+    ensures elements { OnOk result (M.elements matcher.new ≡ M.elements matcher.old) }
+{
+    let instances = matcher.conflict(alloc)?;
+    of_rule(alloc, instances, number)
 }
 
 /// What is outstanding, by the conflict set.

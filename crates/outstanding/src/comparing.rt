@@ -1,5 +1,6 @@
 // The whole conflict set and all live firings, compared.
 ghost use Rattle.std.specs.Prelude.{◌≡◌, filter, not, IfOk};
+ghost use Rattle.match_changes.specs.Told.{of_rule};
 ghost use Rattle.outstanding.specs.Keys.{has_key};
 ghost use Rattle.outstanding.specs.Outstanding.{unfired, unmatched};
 
@@ -54,4 +55,21 @@ fn without(
         }
     }
     Ok(without)
+}
+
+/// Those of the rule of a number.
+pub fn of_rule(
+    alloc: Global,
+    instances: List<Instance>,
+    number: u64,
+) -> Result<List<Instance>, NoMemory>
+    ensures { IfOk result (λ found. found ≡ of_rule number instances) }
+{
+    let mut found = List::new(alloc);
+    'instances: for instance in instances.into_vec() {
+        if instance.rule == number {
+            found.push(instance)?;
+        }
+    }
+    Ok(found)
 }

@@ -4,6 +4,7 @@ ghost use Rattle.defs_match.specs.Conflict.{conflict};
 ghost use Rattle.defs_match.specs.Contents.{with_element, with_rule, without_rule, IsNewElement, HasTag, IsNewRule, HasRule, Works};
 ghost use Rattle.defs_match.specs.Rules.{rule_seen};
 ghost use Rattle.live_firings.specs.Living.{keys_of};
+ghost use Rattle.match_changes.specs.Told.{of_rule};
 ghost use Rattle.outstanding.specs.Following.{AreCounted, followed};
 
 use crate::answer::{Open, Outstanding};
@@ -147,6 +148,23 @@ impl<M: MatchChanges> Followed<M> {
         self.failed = instances.is_err();
         instances
     }
+
+    /// The instances of the rule of a number.
+    fn all_of(&mut self, alloc: Global, number: u64) -> Result<List<Instance>, NoMemory>
+        ensures works { OnOk result (Works self.old.failed self.new.failed) }
+        ensures found { IfOk result (λ found. found ≡ of_rule number (conflict (M.rules self.old.matcher) (M.elements self.old.matcher))) }
+        ensures rules { OnOk result (M.rules self.new.matcher ≡ M.rules self.old.matcher) }
+        ensures elements { OnOk result (M.elements self.new.matcher ≡ M.elements self.old.matcher) }
+        ensures counts { OnOk result (self.new.counts ≡ self.old.counts) }
+        ensures err { OnErr result (self.new.failed ≡ true) }
+    {
+        if self.failed {
+            return Err(NoMemory);
+        }
+        let found = self.matcher.instances_of(alloc, number);
+        self.failed = found.is_err();
+        found
+    }
 }
 
 impl<M: MatchChanges> Matcher for Followed<M> {
@@ -202,6 +220,10 @@ impl<M: MatchChanges> Outstanding for Followed<M> {
 
     fn instances(&mut self, alloc: Global) -> Result<List<Instance>, NoMemory> {
         self.all(alloc)
+    }
+
+    fn instances_of(&mut self, alloc: Global, number: u64) -> Result<List<Instance>, NoMemory> {
+        self.all_of(alloc, number)
     }
 
     fn outstanding(&mut self, alloc: Global, live: &mut LiveFirings) -> Result<Open, NoMemory> {

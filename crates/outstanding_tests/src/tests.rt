@@ -72,6 +72,19 @@ fn a_rule_goes_with_its_live_firings(rt: HostRuntime) -> Result<(), Fail> {
     Ok(())
 }
 
+#[test]
+fn the_instances_of_one_rule_are_listed(rt: HostRuntime) -> Result<(), Fail> {
+    assert!(rt;
+        both_answer(
+            rt.alloc(),
+            &["s0a1", "s0a1 +0b2"],
+            "l1 l2 +Sa1 +Sb1 m1 m2 m3 x1 m1",
+            "1 1:S1;|2 1 2:S11;|||",
+        )?
+    );
+    Ok(())
+}
+
 /// The rules of the random lists: joins and negations.
 const MIXED: [&str; 4] = ["s0a1 +1b2", "s0a1", "s0a1 -1b0", "s0a1 +1b2 -2c3"];
 

@@ -74,7 +74,7 @@ fn lesser(least: Option<usize>, depth: usize) -> usize
 fn firings_at(alloc: Global, level: usize, gone: List<Live>) -> Result<List<Live>, NoMemory>
     ensures { IfOk result (λ at. at ≡ filter (λ g. g.depth == level) gone) }
 {
-    let mut at = List::new(alloc);
+    let mut at = List::from_vec(Vec::with_capacity(alloc, gone.len())?);
     'gone: for one in gone.into_vec() {
         if one.depth == level {
             at.push(one)?;
@@ -93,7 +93,7 @@ fn instances_at(
 ) -> Result<List<Instance>, NoMemory>
     ensures { IfOk result (λ at. at ≡ filter (λ i. depth_at goals.now memory.now.elements i == level) instances) }
 {
-    let mut at = List::new(alloc);
+    let mut at = List::from_vec(Vec::with_capacity(alloc, instances.len())?);
     'instances: for instance in instances.into_vec() {
         if match_depth(goals, memory, instance.tags.as_slice()) == level {
             at.push(instance)?;

@@ -27,7 +27,7 @@ pub fn ready(
     requires bound { AreBound (map rule_seen rules.now) unfired }
     ensures { IfOk result (λ ready. ready ≡ filter (can_fire_now proposing (map rule_seen rules.now) memory.now.elements goals.now) unfired) }
 {
-    let mut ready = List::new(alloc);
+    let mut ready = List::from_vec(Vec::with_capacity(alloc, unfired.len())?);
     'unfired: for instance in unfired.into_vec() {
         if can_fire_now(proposing, rules, memory, goals, &instance) {
             ready.push(instance)?;

@@ -5,6 +5,7 @@ pub mod EndLemmas
 pub mod GroundLemmas
 pub mod LeadLemmas
 pub mod LoadLemmas
+pub mod OfRuleLemmas
 pub mod ReadLemmas
 pub mod RuleLemmas
 pub mod ToldLemmas

@@ -157,4 +157,13 @@ impl MatchChanges for Net {
         self.failed = found.is_err();
         found
     }
+
+    fn instances_of(&mut self, alloc: Global, number: u64) -> Result<List<Instance>, NoMemory> {
+        if self.failed {
+            return Err(NoMemory);
+        }
+        let found = told::instances_of(alloc, &self.loaded, number);
+        self.failed = found.is_err();
+        found
+    }
 }

@@ -8,7 +8,7 @@ ghost use Rattle.defs_match.specs.Contents.{with_element, with_rule, is_numbered
 ghost use Rattle.defs_match.specs.Laws.{IsIn};
 ghost use Rattle.defs_match.specs.Rules.{rule_seen};
 ghost use Rattle.defs_match.specs.declared.instance.Instance.{Instance as InstanceOf};
-ghost use Rattle.match_changes.specs.Told.{AreTold, IsTheOne, key_of};
+ghost use Rattle.match_changes.specs.Told.{AreTold, IsTheOne, key_of, of_rule};
 ghost use Rattle.rete_net.specs.Chains.{rule_of};
 ghost use Rattle.rete_net.specs.Loads.{IsLoaded, conflict_in};
 
@@ -50,6 +50,19 @@ pub fn remove(alloc: Global, loaded: &mut Loaded, tag: u32) -> Result<List<Match
     let served = loaded::remove(loaded, tag)?;
     let told = tell(alloc, &loaded.joins, &loaded.ends, served.as_slice())?;
     Ok(told)
+}
+
+/// The instances of the rule of a number, in order of tags.
+pub fn instances_of(alloc: Global, loaded: &Loaded, number: u64) -> Result<List<Instance>, NoMemory>
+    requires { IsLoaded loaded.now }
+    ensures { IfOk result (λ found. found ≡ of_rule number (conflict_in loaded.now)) }
+{
+    let mut found = List::new(alloc);
+    let Some(chain) = loaded.chains.get(&number) else {
+        return Ok(found);
+    };
+    reading::add_instances(alloc, &loaded.joins, chain, &mut found)?;
+    Ok(found)
 }
 
 /// The keys of the instances of the rule of a number.

@@ -18,8 +18,8 @@ use Rattle.defs_run.specs.Sessions.{Session, Reply, Resolved, draws, labelled, r
 use Rattle.soar_settle.specs.declared.stop.Stop.{Stop}
 use Rattle.soar_settle.specs.declared.stop.Stop.TheVariants as stop
 use Rattle.learning_laws.specs.LawfulAgents.{IsNumbered}
-use Rattle.wave_parts.specs.Lawful.{IsOfLawful}
-use Rattle.wave_parts.specs.declared.parts.Parts.{Parts as PartsKept}
+use Rattle.soar_cycle.specs.Lawful.{IsOfLawful}
+use Rattle.soar_cycle.specs.Parts.{Parts as PartsKept}
 use Rattle.soar_agent.specs.Adding.{makes_labelled, puts}
 use Rattle.soar_agent.specs.Labels.{Makes}
 use Rattle.soar_agent.specs.States.{session_of}

@@ -8,8 +8,8 @@ use Rattle.live_firings.specs.Living.{live_seen}
 use Rattle.list_parts.specs.Counted.{stats_line}
 use Rattle.list_parts.specs.declared.stats.Stats.{Stats}
 use Rattle.soar_cycle.specs.Counting.{counts_in}
-use Rattle.wave_parts.specs.Seen.{agent_of}
-use Rattle.wave_parts.specs.declared.parts.Parts.{Parts as PartsKept}
+use Rattle.soar_cycle.specs.Seen.{agent_of}
+use Rattle.soar_cycle.specs.Parts.{Parts as PartsKept}
 use Rattle.soar_agent.specs.Counting.{stats_seen}
 
 pub line_of_counts : (p : PartsKept) (history : List RecordedFiring) → stats_line (stats_seen (counts_in p)) ≡ listing.stats_line (agent_of p history)

@@ -5,7 +5,7 @@ use Rattle.defs_soar.specs.Phases.{Course}
 use Rattle.defs_soar.specs.Trace.{Written, line_text}
 use Rattle.soar_settle.specs.declared.stop.Stop.{Stop}
 use Rattle.soar_settle.specs.declared.stop.Stop.TheVariants as stop
-use Rattle.wave_parts.specs.declared.parts.Parts.{Parts as PartsKept}
+use Rattle.soar_cycle.specs.Parts.{Parts as PartsKept}
 use Rattle.soar_cycle.specs.Agents.{AgentSeen}
 use Rattle.soar_cycle.specs.Courses.{Goes, Passed, Went, front_said}
 use Rattle.session_parts.specs.Stopping.{SaysStop}

@@ -9,7 +9,7 @@ use Rattle.defs_soar.specs.Trace.{Written, followed_by, pieces_of, rendered}
 use Rattle.defs_run.specs.Carrying.{followed, told_of}
 use Rattle.soar_settle.specs.declared.stop.Stop.{Stop}
 use Rattle.soar_settle.specs.declared.stop.Stop.TheVariants as stop
-use Rattle.wave_parts.proofs.StandsLemmas.{state_is}
+use Rattle.soar_cycle.proofs.StandsLemmas.{state_is}
 use Rattle.soar_cycle.specs.Courses.{Goes, Went, front_said, limit_in}
 use Rattle.command_labels.specs.Found.{label_seen}
 use Rattle.command_labels.specs.declared.label.Label.{Label}

@@ -18,8 +18,8 @@ use Rattle.defs_run.specs.Orders.{Operand, is_symbol, is_label}
 use Rattle.defs_run.specs.Sessions.{Label, Session, Reply, Resolved, label_in, labelled, resolved, says}
 use Rattle.soar_settle.specs.declared.stop.Stop.{Stop}
 use Rattle.soar_settle.specs.declared.stop.Stop.TheVariants as stop
-use Rattle.wave_parts.specs.Seen.{agent_of}
-use Rattle.wave_parts.proofs.StandsLemmas.{state_is}
+use Rattle.soar_cycle.specs.Seen.{agent_of}
+use Rattle.soar_cycle.proofs.StandsLemmas.{state_is}
 use Rattle.soar_cycle.specs.Calls.{GivesFresh, fresh_step, next_number}
 use Rattle.soar_cycle.specs.Agents.{AgentSeen}
 use Rattle.command_labels.specs.Found.{label_seen}

@@ -16,3 +16,4 @@ pub mod SlotLemmas
 pub mod SoundLemmas
 pub mod SpellingLemmas
 pub use Rattle.soar_cycle.proofs.CourseLemmas
+pub use Rattle.soar_cycle.proofs.StandsLemmas

@@ -19,10 +19,10 @@ use Rattle.learning_laws.specs.LawfulAgents.{AreGiven, IsLawfulAgent, IsNumbered
 use Rattle.learning_laws.proofs.NewIdentifiers.{last_new}
 use Rattle.letter_laws.specs.Grows.{LettersGrow}
 use Rattle.letter_laws.proofs.GrowthLaws.{given_stay_given, identifiers_grow}
-use Rattle.wave_parts.specs.Lawful.{IsOfLawful}
-use Rattle.wave_parts.specs.Seen.{Stepped}
-use Rattle.wave_parts.specs.Stands.{Stands}
-use Rattle.wave_parts.specs.declared.parts.Parts.{Parts as PartsKept}
+use Rattle.soar_cycle.specs.Lawful.{IsOfLawful}
+use Rattle.soar_cycle.specs.Seen.{Stepped}
+use Rattle.soar_cycle.specs.Stands.{Stands}
+use Rattle.soar_cycle.specs.Parts.{Parts as PartsKept}
 use Rattle.soar_cycle.specs.Calls.{IsTripleGiven, IsTripleKnown}
 use Rattle.soar_cycle.specs.Agents.{AgentSeen, IsSoundAgent}
 use Rattle.command_labels.specs.Found.{label_seen}

@@ -17,11 +17,11 @@ use Rattle.defs_run.specs.Orders.{Refusal, no_production, refusal_text}
 use Rattle.defs_run.specs.Sessions.{Reply, Sequel, quiet, with_agent, as_lines, says, draws, refused_by}
 use Rattle.soar_settle.specs.declared.stop.Stop.{Stop}
 use Rattle.soar_settle.specs.declared.stop.Stop.TheVariants as stop
-use Rattle.wave_parts.specs.Remembers.{Remembers}
-use Rattle.wave_parts.specs.Seen.{Stepped, agent_of}
-use Rattle.wave_parts.specs.Stands.{Stands}
-use Rattle.wave_parts.specs.declared.parts.Parts.{Parts as PartsKept}
-use Rattle.wave_parts.proofs.StandsLemmas.{state_is}
+use Rattle.soar_cycle.specs.Remembers.{Remembers}
+use Rattle.soar_cycle.specs.Seen.{Stepped, agent_of}
+use Rattle.soar_cycle.specs.Stands.{Stands}
+use Rattle.soar_cycle.specs.Parts.{Parts as PartsKept}
+use Rattle.soar_cycle.proofs.StandsLemmas.{state_is}
 use Rattle.soar_cycle.specs.Calls.{drawn}
 use Rattle.soar_cycle.specs.Stepping.{GoesStep, QuietStep, WentStep, step_written}
 use Rattle.soar_cycle.specs.Agents.{AgentSeen}

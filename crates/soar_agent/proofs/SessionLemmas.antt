@@ -7,7 +7,7 @@ use Rattle.defs_soar.specs.Trace.{Written, followed_by}
 use Rattle.defs_run.specs.Sessions.{Session, Reply, draws}
 use Rattle.soar_settle.specs.declared.stop.Stop.{Stop}
 use Rattle.soar_settle.specs.declared.stop.Stop.TheVariants as stop
-use Rattle.wave_parts.proofs.LimitLemmas.{passes_not, passes_over}
+use Rattle.soar_cycle.proofs.LimitLemmas.{passes_not, passes_over}
 use Rattle.soar_agent.specs.Commands.{IsSame}
 use Rattle.soar_agent.specs.Steps.{Obeys}
 use Rattle.soar_agent.specs.Telling.{limit_told, front_told}

@@ -5,11 +5,11 @@ use Rattle.defs_soar.specs.History.{RecordedFiring}
 use Rattle.defs_soar.specs.Phases.{halting}
 use Rattle.defs_soar.specs.Resettling.{AgentStep}
 use Rattle.defs_run.specs.Carrying.{with_settings}
-use Rattle.wave_parts.specs.Remembers.{Remembers}
-use Rattle.wave_parts.specs.Seen.{Stepped, agent_of}
-use Rattle.wave_parts.specs.Settings.{settings_seen}
-use Rattle.wave_parts.specs.declared.settings.Settings.{Settings}
-use Rattle.wave_parts.proofs.StandsLemmas.{remembers_same, state_is}
+use Rattle.soar_cycle.specs.Remembers.{Remembers}
+use Rattle.soar_cycle.specs.Seen.{Stepped, agent_of}
+use Rattle.soar_cycle.specs.Settings.{settings_seen}
+use Rattle.soar_cycle.specs.SettingsType.{Settings}
+use Rattle.soar_cycle.proofs.StandsLemmas.{remembers_same, state_is}
 use Rattle.soar_cycle.specs.Calls.{restart_step}
 use Rattle.soar_cycle.specs.Agents.{AgentSeen}
 use Rattle.command_labels.specs.declared.label.Label.{Label as LabelKept}

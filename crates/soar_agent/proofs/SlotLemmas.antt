@@ -9,7 +9,7 @@ use Rattle.defs_run.specs.Orders.{Operand}
 use Rattle.defs_run.specs.Sessions.{Reply, Resolved, Session, resolved, says}
 use Rattle.soar_settle.specs.declared.stop.Stop.{Stop}
 use Rattle.soar_settle.specs.declared.stop.Stop.TheVariants as stop
-use Rattle.wave_parts.proofs.LimitLemmas.{passed_behind, passed_front}
+use Rattle.soar_cycle.proofs.LimitLemmas.{passed_behind, passed_front}
 use Rattle.soar_agent.specs.Labels.{Makes}
 use Rattle.soar_agent.specs.States.{session_of}
 use Rattle.soar_agent.specs.Steps.{Obeys}

@@ -15,11 +15,11 @@ use Rattle.learning_laws.specs.LawfulAgents.{EachOnce}
 use Rattle.loading_laws.specs.Orders.{IsLawfulOrder, ReadsLawfully}
 use Rattle.soar_settle.specs.Known.{AreElementsKnown}
 use Rattle.command_orders.specs.Asked.{order_seen}
-use Rattle.wave_parts.specs.Lawful.{IsOfLawful}
-use Rattle.wave_parts.specs.Remembers.{Remembers}
-use Rattle.wave_parts.specs.Seen.{IsSound}
-use Rattle.wave_parts.specs.declared.parts.Parts.{Parts as PartsKept}
-use Rattle.wave_parts.proofs.StandsLemmas.{remembers_same}
+use Rattle.soar_cycle.specs.Lawful.{IsOfLawful}
+use Rattle.soar_cycle.specs.Remembers.{Remembers}
+use Rattle.soar_cycle.specs.Seen.{IsSound}
+use Rattle.soar_cycle.specs.Parts.{Parts as PartsKept}
+use Rattle.soar_cycle.proofs.StandsLemmas.{remembers_same}
 use Rattle.soar_cycle.specs.Calls.{IsTripleKnown, MayBeLoaded}
 use Rattle.soar_cycle.specs.Agents.{AgentSeen, with_table as agent_with_table}
 use Rattle.soar_cycle.proofs.TableLemmas.{sound_with_table}

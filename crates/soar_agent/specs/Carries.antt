@@ -6,7 +6,7 @@ use Rattle.defs_run.specs.Inputs.{Carried}
 use Rattle.defs_run.specs.Runs.{replied_by}
 use Rattle.defs_run.specs.Sessions.{Session, Reply}
 use Rattle.soar_settle.specs.declared.stop.Stop.{Stop}
-use Rattle.wave_parts.specs.Remembers.{Remembers}
+use Rattle.soar_cycle.specs.Remembers.{Remembers}
 use Rattle.soar_cycle.specs.Agents.{with_table as agent_with_table}
 use Rattle.soar_agent.specs.States.{session_of}
 use Rattle.soar_agent.specs.Steps.{Obeys}

@@ -12,8 +12,8 @@ use Rattle.defs_run.specs.Orders.{Refusal, unfinished_command, no_file, sources_
 use Rattle.defs_run.specs.Sessions.{Session, Reply, goes_on, sources, quits}
 use Rattle.soar_settle.specs.declared.stop.Stop.{Stop}
 use Rattle.soar_settle.specs.declared.stop.Stop.TheVariants as stop
-use Rattle.wave_parts.specs.Remembers.{Remembers}
-use Rattle.wave_parts.specs.Seen.{agent_of}
+use Rattle.soar_cycle.specs.Remembers.{Remembers}
+use Rattle.soar_cycle.specs.Seen.{agent_of}
 use Rattle.soar_cycle.specs.Agents.{AgentSeen}
 use Rattle.soar_cycle.specs.Courses.{Went, front_said, limit_in}
 use Rattle.soar_agent.specs.States.{IsReady, session_of}

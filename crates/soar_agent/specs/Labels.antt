@@ -8,7 +8,7 @@ use Rattle.defs_run.specs.Inputs.{Spelled}
 use Rattle.defs_run.specs.Sessions.{Resolved}
 use Rattle.soar_settle.specs.declared.stop.Stop.{Stop}
 use Rattle.soar_settle.specs.declared.stop.Stop.TheVariants as stop
-use Rattle.wave_parts.specs.Remembers.{Remembers}
+use Rattle.soar_cycle.specs.Remembers.{Remembers}
 use Rattle.soar_agent.specs.States.{session_of}
 use Rattle.soar_agent.specs.declared.state.Session.{Session as SessionKept}
 

@@ -16,3 +16,6 @@ pub mod Writing
 pub use Rattle.soar_cycle.specs.Agents
 pub use Rattle.soar_cycle.specs.Courses
 pub use Rattle.soar_cycle.specs.declared.standing.Standing
+pub use Rattle.soar_cycle.specs.Remembers
+pub use Rattle.soar_cycle.specs.Seen
+pub use Rattle.soar_cycle.specs.SettingsType

@@ -3,8 +3,8 @@ use Rattle.std.specs.Prelude.{◌≡◌, ℕ, List, map, Some, Result, Err}
 use Rattle.defs_soar.specs.History.{RecordedFiring}
 use Rattle.defs_run.specs.Sessions.{Session}
 use Rattle.soar_settle.specs.declared.stop.Stop.{Stop}
-use Rattle.wave_parts.specs.Lawful.{IsOfLawful}
-use Rattle.wave_parts.specs.Seen.{IsSound, agent_of}
+use Rattle.soar_cycle.specs.Lawful.{IsOfLawful}
+use Rattle.soar_cycle.specs.Seen.{IsSound, agent_of}
 use Rattle.soar_cycle.specs.Agents.{stop_of}
 use Rattle.soar_cycle.specs.declared.standing.Standing.{Standing}
 use Rattle.soar_cycle.specs.declared.standing.Standing.TheVariants as standing

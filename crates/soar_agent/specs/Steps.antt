@@ -6,7 +6,7 @@ use Rattle.defs_soar.specs.Trace.{Written}
 use Rattle.defs_run.specs.Sessions.{Reply}
 use Rattle.soar_settle.specs.declared.stop.Stop.{Stop}
 use Rattle.soar_settle.specs.declared.stop.Stop.TheVariants as stop
-use Rattle.wave_parts.specs.Remembers.{Remembers}
+use Rattle.soar_cycle.specs.Remembers.{Remembers}
 use Rattle.soar_agent.specs.States.{IsReady, session_of}
 use Rattle.soar_agent.specs.Telling.{limit_told, front_told}
 use Rattle.soar_agent.specs.declared.state.Session.{Session as SessionKept}

@@ -6,7 +6,7 @@ ghost use Rattle.defs_run.specs.Sessions.{labelled, resolved};
 ghost use Rattle.defs_soar.specs.History.{RecordedFiring};
 ghost use Rattle.learning_laws.specs.LawfulAgents.{IsNumbered};
 ghost use Rattle.letter_laws.specs.Grows.{LettersGrow};
-ghost use Rattle.wave_parts.specs.Remembers.{Remembers};
+ghost use Rattle.soar_cycle.specs.Remembers.{Remembers};
 ghost use Rattle.command_orders.specs.Asked.{operand_seen};
 ghost use Rattle.command_orders.specs.Known.{IsOperandKnown};
 ghost use Rattle.command_labels.specs.Found.{label_seen};

@@ -1,8 +1,9 @@
 // Commands that look at the agent.
-ghost use Rattle.std.specs.Prelude.{IfOk};
+ghost use Rattle.std.specs.Prelude.{◌≡◌, Some, IfOk, map};
 ghost use Rattle.soar_sym.specs.Words.{IsKnown};
 ghost use Rattle.soar_wm.specs.WorkingMemory.{elements_of};
-ghost use Rattle.defs_run.specs.Carrying.{carried_out, lists_elements};
+ghost use Rattle.defs_match.specs.Rules.{RuleOf, rule_seen};
+ghost use Rattle.defs_run.specs.Carrying.{carried_out, lists_elements, rule_named};
 ghost use Rattle.defs_run.specs.Listing.{conflict_lines, element_lines};
 ghost use Rattle.defs_run.specs.Orders.{matches_of, print_id, print_name};
 ghost use Rattle.soar_agent.specs.Running.{run_learning};
@@ -55,8 +56,9 @@ impl<M: Outstanding> Session<M> {
         ensures reply { Carries self.old self.new origin.now.source.now origin.now.line (carried_out run_learning (matches_of name)) out.old out.new result }
         ensures ready { IfOk result (λ _. IsReady self.new) }
     {
+        let number = self.number_named(name);
         // an agent that stands for a state meets no limit here
-        let Ok(instances) = self.agent.conflict() else {
+        let Ok(instances) = self.agent.instances_of(number) else {
             return Err(Stop::NoMemory);
         };
         match self.agent.rules().named(name) {
@@ -73,6 +75,16 @@ impl<M: Outstanding> Session<M> {
                 Ok(false)
             }
             None => self.refuse_with(origin, &Reason::NoProduction(name), out),
+        }
+    }
+
+    /// The number of the production of a name, and 0 where there is none.
+    fn number_named(&self, name: Sym) -> u64
+        ensures { (r : RuleOf) → rule_named (map rule_seen self.now.agent.parts.rules) name ≡ Some r → result ≡ r.number }
+    {
+        match self.agent.rules().named(name) {
+            Some(rule) => rule.number,
+            None => 0,
         }
     }
 

@@ -5,7 +5,7 @@ ghost use Rattle.defs_run.specs.Inputs.{queued, spelled, with_queued, with_rando
 ghost use Rattle.defs_run.specs.Orders.{queue};
 ghost use Rattle.soar_agent.specs.Running.{run_learning};
 ghost use Rattle.defs_soar.specs.History.{RecordedFiring};
-ghost use Rattle.wave_parts.specs.Remembers.{Remembers};
+ghost use Rattle.soar_cycle.specs.Remembers.{Remembers};
 ghost use Rattle.command_orders.specs.Asked.{operand_seen};
 ghost use Rattle.command_orders.specs.Known.{IsAdditionKnown};
 ghost use Rattle.soar_cycle.specs.Calls.{IsTripleKnown};

@@ -3,7 +3,7 @@ ghost use Rattle.std.specs.Prelude.{◌≡◌, List as ListOf, IfOk};
 ghost use Rattle.soar_sym.specs.Words.{Texts};
 ghost use Rattle.defs_run.specs.Sessions.{refused_by};
 ghost use Rattle.defs_soar.specs.History.{RecordedFiring};
-ghost use Rattle.wave_parts.specs.Remembers.{Remembers};
+ghost use Rattle.soar_cycle.specs.Remembers.{Remembers};
 ghost use Rattle.soar_cycle.specs.Agents.{StaysAsItIs, standing_after};
 ghost use Rattle.session_parts.specs.Reasons.{IsReasonKnown, refusal_by};
 ghost use Rattle.soar_agent.specs.Carries.{Replies};

@@ -7,7 +7,7 @@ ghost use Rattle.defs_run.specs.Sessions.{first_session};
 ghost use Rattle.loading_laws.specs.Orders.{IsLawfulOrder};
 ghost use Rattle.command_orders.specs.Asked.{order_seen};
 ghost use Rattle.command_orders.specs.Known.{IsOrderKnown};
-ghost use Rattle.wave_parts.specs.Remembers.{Remembers};
+ghost use Rattle.soar_cycle.specs.Remembers.{Remembers};
 ghost use Rattle.soar_cycle.specs.Agents.{StaysAsItIs, standing_after};
 ghost use Rattle.soar_agent.specs.Running.{run_learning};
 ghost use Rattle.soar_agent.specs.Commands.{CarriesOut, Commands, Outcomes};

@@ -2,7 +2,7 @@
 ghost use Rattle.std.specs.Prelude.{IfOk};
 ghost use Rattle.defs_run.specs.Carrying.{with_settings};
 ghost use Rattle.command_orders.specs.Known.{IsModeInRange};
-ghost use Rattle.wave_parts.specs.Settings.{settings_seen};
+ghost use Rattle.soar_cycle.specs.Settings.{settings_seen};
 ghost use Rattle.soar_agent.specs.Carries.{RepliesNothing};
 ghost use Rattle.soar_agent.specs.States.{IsReady};
 

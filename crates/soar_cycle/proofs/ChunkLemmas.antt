@@ -4,7 +4,7 @@ use Rattle.defs_soar.specs.WaveFirings.{before_wave, first_wave, with_firings}
 use Rattle.learning_laws.proofs.FiringsLaws.{all_firings_keep}
 use Rattle.trace_lines.specs.declared.halting.Phase.{Phase}
 use Rattle.wave_chunk_laws.proofs.StepLaws.{lawful_waves_learn_well}
-use Rattle.cycle_parts.specs.Waving.{is_proposing}
+use Rattle.cycle_phases.specs.Waving.{is_proposing}
 use Rattle.soar_cycle.specs.Agents.{AgentSeen}
 use Rattle.soar_cycle.specs.Chunks.{LearnsWell}
 

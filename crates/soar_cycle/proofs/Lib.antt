@@ -3,3 +3,5 @@ pub mod CountLemmas
 pub mod TableLemmas
 pub mod ToldLemmas
 pub use Rattle.cycle_phases.proofs.CourseLemmas
+pub use Rattle.cycle_phases.proofs.LimitLemmas
+pub use Rattle.cycle_phases.proofs.StandsLemmas

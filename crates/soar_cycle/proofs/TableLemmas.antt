@@ -12,15 +12,15 @@ use Rattle.soar_record.specs.Recorded.{recorded}
 use Rattle.live_firings.specs.Living.{live_seen}
 use Rattle.program_laws.specs.Knowing.{AreChainsKnown, AreNamed}
 use Rattle.session_laws.proofs.StepLaws.{words_keep}
-use Rattle.wave_firings.proofs.FiringKnown.{are_known_grown, are_rows_grown, are_rules_grown, known_grown}
-use Rattle.wave_learning.specs.Hands.{learned_rule_seen}
-use Rattle.wave_parts.specs.Lawful.{IsOfLawful}
-use Rattle.wave_parts.specs.Seen.{IsSound}
-use Rattle.wave_parts.specs.Stands.{Stands}
-use Rattle.wave_parts.specs.declared.parts.Parts.{Parts as PartsKept}
-use Rattle.wave_parts.proofs.GrownLemmas.{elements_grown, goals_grown, triples_grown}
-use Rattle.wave_parts.proofs.NamedLemmas.{live_grown}
-use Rattle.wave_parts.proofs.StandsLemmas.{remembers_same}
+use Rattle.cycle_phases.proofs.FiringKnown.{are_known_grown, are_rows_grown, are_rules_grown, known_grown}
+use Rattle.cycle_phases.specs.Hands.{learned_rule_seen}
+use Rattle.cycle_phases.specs.Lawful.{IsOfLawful}
+use Rattle.cycle_phases.specs.Seen.{IsSound}
+use Rattle.cycle_phases.specs.Stands.{Stands}
+use Rattle.cycle_phases.specs.Parts.{Parts as PartsKept}
+use Rattle.cycle_phases.proofs.GrownLemmas.{elements_grown, goals_grown, triples_grown}
+use Rattle.cycle_phases.proofs.PartsNamedLemmas.{live_grown}
+use Rattle.cycle_phases.proofs.StandsLemmas.{remembers_same}
 use Rattle.soar_cycle.specs.Agents.{AgentSeen, IsSoundAgent, with_table}
 
 -- ---- what is known stays known

@@ -5,11 +5,11 @@ use Rattle.defs_soar.specs.Phases.{Course, Phased}
 use Rattle.defs_soar.specs.Resettling.{AgentStep}
 use Rattle.soar_settle.specs.declared.stop.Stop.{Stop}
 use Rattle.soar_settle.specs.declared.stop.Stop.TheVariants as stop
-use Rattle.wave_parts.specs.declared.parts.Parts.{Parts as PartsKept}
-use Rattle.cycle_parts.specs.Stepping.{GoesStep, StopsStep, WentStep}
-use Rattle.cycle_parts.specs.Waving.{WavesFrom, Worked}
-use Rattle.cycle_parts.specs.declared.waving.Waved.{Waved}
-use Rattle.cycle_parts.specs.declared.waving.Waved.TheVariants as waved
+use Rattle.cycle_phases.specs.Parts.{Parts as PartsKept}
+use Rattle.cycle_phases.specs.Stepping.{GoesStep, StopsStep, WentStep}
+use Rattle.cycle_phases.specs.Waving.{WavesFrom, Worked}
+use Rattle.cycle_phases.specs.Waved.{Waved}
+use Rattle.cycle_phases.specs.WavedVariants as waved
 use Rattle.cycle_phases.specs.Courses.{Goes, IsEndOf, Passed, Went}
 use Rattle.soar_cycle.specs.Telling.{Tells}
 use Rattle.cycle_phases.specs.declared.phase.Ended.{Ended}

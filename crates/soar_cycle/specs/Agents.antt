@@ -6,10 +6,10 @@ use Rattle.defs_match.specs.Rules.{RuleOf}
 use Rattle.live_firings.specs.declared.live.Live.{Live}
 use Rattle.soar_settle.specs.declared.stop.Stop.{Stop}
 use Rattle.soar_settle.specs.declared.stop.Stop.TheVariants as stop
-use Rattle.wave_parts.specs.Lawful.{IsOfLawful}
-use Rattle.wave_parts.specs.Seen.{IsSound}
-use Rattle.wave_parts.specs.declared.parts.Parts.{Parts as PartsKept}
-use Rattle.cycle_parts.specs.Bonds.{Bond}
+use Rattle.cycle_phases.specs.Lawful.{IsOfLawful}
+use Rattle.cycle_phases.specs.Seen.{IsSound}
+use Rattle.cycle_phases.specs.Parts.{Parts as PartsKept}
+use Rattle.cycle_phases.specs.Bonds.{Bond}
 use Rattle.soar_cycle.specs.declared.standing.Standing.{Standing}
 use Rattle.soar_cycle.specs.declared.standing.Standing.TheVariants as standing
 

@@ -4,7 +4,7 @@ use Rattle.soar_wm.specs.WorkingMemory.{element_of}
 use Rattle.soar_wm.specs.declared.element.Element.{Element}
 use Rattle.defs_match.specs.Rules.{RuleOf, rule_seen}
 use Rattle.defs_run.specs.Listing.{is_chunk}
-use Rattle.wave_parts.specs.declared.parts.Parts.{Parts as PartsKept}
+use Rattle.cycle_phases.specs.Parts.{Parts as PartsKept}
 use Rattle.soar_cycle.specs.declared.counts.Counts.{Counts}
 
 -- how many elements have a tag

@@ -3,5 +3,13 @@ pub mod Chunks
 pub mod Counting
 pub mod Telling
 pub use Rattle.cycle_phases.specs.Courses
-pub use Rattle.cycle_parts.specs.Calls
-pub use Rattle.cycle_parts.specs.Stepping
+pub use Rattle.cycle_phases.specs.Calls
+pub use Rattle.cycle_phases.specs.Stepping
+pub use Rattle.cycle_phases.specs.Hands
+pub use Rattle.cycle_phases.specs.Lawful
+pub use Rattle.cycle_phases.specs.Remembers
+pub use Rattle.cycle_phases.specs.Seen
+pub use Rattle.cycle_phases.specs.Settings
+pub use Rattle.cycle_phases.specs.Stands
+pub use Rattle.cycle_phases.specs.Parts
+pub use Rattle.cycle_phases.specs.SettingsType

@@ -9,13 +9,13 @@ ghost use Rattle.defs_soar.specs.Values.{has_triple_among};
 ghost use Rattle.soar_cycle.specs.Agents.{IsSoundAgent, with_table};
 ghost use Rattle.soar_cycle.specs.Counting.{counts_in};
 ghost use Rattle.soar_cycle.specs.contracts.agent.Agent as agent;
-ghost use Rattle.wave_learning.specs.Hands.{learned_rule_seen};
-ghost use Rattle.wave_parts.specs.Stands.{Stands};
+ghost use Rattle.cycle_phases.specs.Hands.{learned_rule_seen};
+ghost use Rattle.cycle_phases.specs.Stands.{Stands};
 
 use crate::counts::{Counts, counts_in};
 use crate::explaining::chain_of_rule;
 use crate::standing::Standing;
-use cycle_parts::Engine;
+use cycle_phases::{Engine, Settings, Stop};
 use defs_soar::{Chain, Goal};
 use outstanding::Outstanding;
 use rule_shelf::Rules;
@@ -24,7 +24,6 @@ use soar_sym::{Letters, List, NoMemory, SymTable, Triple};
 use soar_wm::Memory;
 use std::alloc::Global;
 use std::marker::Model;
-use wave_parts::{Settings, Stop};
 
 /// An agent over any matcher, which holds its rules and working memory.
 #[derive(Drop)]

@@ -2,18 +2,18 @@
 ghost use Rattle.std.specs.Prelude.{◌≡◌, ◌+◌, ◌≤◌, Ok, Err, IfOk};
 ghost use Rattle.defs_soar.specs.Agents.{Agent as AgentOf};
 ghost use Rattle.soar_cycle.specs.Agents.{IsSoundAgent, IsStopped, StaysAsItIs, standing_after};
-ghost use Rattle.wave_parts.specs.Stands.{Stands};
+ghost use Rattle.cycle_phases.specs.Stands.{Stands};
 ghost use Rattle.soar_sym.specs.Letters.{last_of};
 ghost use Rattle.soar_sym.specs.Words.{IsKnown};
-ghost use Rattle.cycle_parts.specs.Calls.{GivesFresh, IsTripleGiven, input_step, queue_step, random_step, restart_step};
-ghost use Rattle.cycle_parts.specs.Stepping.{GoesStep, QuietStep};
+ghost use Rattle.cycle_phases.specs.Calls.{GivesFresh, IsTripleGiven, input_step, queue_step, random_step, restart_step};
+ghost use Rattle.cycle_phases.specs.Stepping.{GoesStep, QuietStep};
 
 use crate::agent::Agent;
 use crate::standing::{Standing, standing_after};
 use crate::telling::tell;
+use cycle_phases::{Settings, Stop};
 use outstanding::Outstanding;
 use soar_sym::{List, Sym, Text, Triple};
-use wave_parts::{Settings, Stop};
 
 impl<M: Outstanding> Agent<M> {
     /// Adds a triple to the inputs, or takes it out, settles, and appends what is told of that. Nothing is appended where

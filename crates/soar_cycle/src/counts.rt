@@ -5,10 +5,10 @@ ghost use Rattle.defs_run.specs.Listing.{is_chunk};
 ghost use Rattle.soar_wm.specs.WorkingMemory.{IsLawful};
 ghost use Rattle.soar_cycle.specs.Counting.{chunks_among, count_at, counts_in};
 
+use cycle_phases::Parts;
 use rule_shelf::Rules;
 use soar_rule::Kind;
 use soar_wm::Memory;
-use wave_parts::Parts;
 
 /// How much was done since the start or the last start anew, and how much there is now.
 #[derive(Clone, Copy)]

@@ -2,7 +2,7 @@
 ghost use Rattle.std.specs.Prelude.{◌≡◌, map};
 ghost use Rattle.soar_wm.specs.WorkingMemory.{triple_of};
 ghost use Rattle.firing_records.specs.Levels.{TellsLevels};
-ghost use Rattle.wave_parts.specs.Seen.{IsSound};
+ghost use Rattle.cycle_phases.specs.Seen.{IsSound};
 
 use crate::agent::Agent;
 use kept_triples::Kept;

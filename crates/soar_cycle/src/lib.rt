@@ -13,8 +13,6 @@ mod telling;
 
 pub use agent::Agent;
 pub use counts::Counts;
-pub use cycle_parts::Waved;
-pub use cycle_phases::Ended;
+pub use cycle_phases::{Ended, Settings, Stop, Waved};
 pub use standing::Standing;
 pub use trace_lines::Phase;
-pub use wave_parts::{Settings, Stop};

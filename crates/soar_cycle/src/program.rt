@@ -2,23 +2,24 @@
 ghost use Rattle.std.specs.Prelude.{◌≡◌, false, map, true, Ok, Err, IfErr, IfOk, MatchResult};
 ghost use Rattle.defs_soar.specs.Agents.{Agent as AgentOf};
 ghost use Rattle.soar_cycle.specs.Agents.{IsSoundAgent, IsStopped, StaysAsItIs, standing_after};
-ghost use Rattle.wave_parts.specs.Stands.{Stands};
+ghost use Rattle.cycle_phases.specs.Stands.{Stands};
 ghost use Rattle.soar_rule.specs.AsItStands.{can_be_matched};
 ghost use Rattle.soar_rule.specs.Productions.{production_seen};
 ghost use Rattle.soar_rule.specs.Symbols.{AreKnown, symbols_of};
 ghost use Rattle.defs_match.specs.Conflict.{conflict};
 ghost use Rattle.defs_match.specs.Rules.{rule_seen};
 ghost use Rattle.defs_soar.specs.Pending.{is_justification};
-ghost use Rattle.cycle_parts.specs.Calls.{MayBeLoaded, excised_agent, load_step};
-ghost use Rattle.cycle_parts.specs.Stepping.{QuietStep};
+ghost use Rattle.cycle_phases.specs.Calls.{MayBeLoaded, excised_agent, load_step};
+ghost use Rattle.cycle_phases.specs.Stepping.{QuietStep};
+ghost use Rattle.match_changes.specs.Told.{of_rule};
 
 use crate::agent::Agent;
 use crate::standing::{Standing, standing_after};
+use cycle_phases::Stop;
 use defs_match::Instance;
 use outstanding::Outstanding;
 use soar_rule::Production;
 use soar_sym::{List, NoMemory, Sym};
-use wave_parts::Stop;
 
 impl<M: Outstanding> Agent<M> {
     /// Loads a production under the next rule number, in the place of that of its name, whose explanation goes too.
@@ -78,6 +79,27 @@ impl<M: Outstanding> Agent<M> {
             return Err(stop);
         }
         let answer = as_stop(self.engine.conflict(self.alloc));
+        self.standing = standing_after(self.standing, &answer);
+        answer
+    }
+
+    /// The instances of the rule of a number, in order of tags. Other rules are not looked at.
+    pub fn instances_of(&mut self, number: u64) -> Result<List<Instance>, Stop>
+        requires sound { IsSoundAgent self.old }
+        ensures found { self.old.standing ≡ Standing.Stands → IfOk result (λ found. found ≡ of_rule number (conflict (map rule_seen self.old.parts.rules) self.old.parts.memory.elements)) }
+        ensures limit { self.old.standing ≡ Standing.Stands → IfErr result (λ why. why ≡ Stop.NoMemory) }
+        ensures parts { self.new.parts ≡ self.old.parts }
+        ensures settings { self.new.parts.settings ≡ self.old.parts.settings }
+        ensures standing { self.new.standing ≡ standing_after self.old.standing result }
+        ensures stopped { IsStopped self.old.standing result }
+        ensures still { StaysAsItIs self.old.standing self.old self.new }
+        ensures sound { IsSoundAgent self.new }
+        ensures mid_line { self.new.mid_line ≡ self.old.mid_line }
+    {
+        if let Some(stop) = self.standing.stop() {
+            return Err(stop);
+        }
+        let answer = as_stop(self.engine.instances_of(self.alloc, number));
         self.standing = standing_after(self.standing, &answer);
         answer
     }

@@ -3,23 +3,21 @@ ghost use Rattle.std.specs.Prelude.{◌≡◌, false, Err, IfOk};
 ghost use Rattle.defs_soar.specs.Agents.{Agent as AgentOf};
 ghost use Rattle.soar_cycle.specs.Agents.{IsSoundAgent, IsStopped, StaysAsItIs, standing_after};
 ghost use Rattle.soar_cycle.specs.Chunks.{LearnsWell};
-ghost use Rattle.wave_parts.specs.Stands.{Stands};
+ghost use Rattle.cycle_phases.specs.Stands.{Stands};
 ghost use Rattle.defs_soar.specs.Cycle.{cycle};
 ghost use Rattle.defs_soar.specs.Decision.{decided_by};
 ghost use Rattle.defs_soar.specs.Learning.{with_learning};
-ghost use Rattle.cycle_parts.specs.Stepping.{GoesStep};
-ghost use Rattle.cycle_parts.specs.Waving.{WavesFrom, is_proposing};
+ghost use Rattle.cycle_phases.specs.Stepping.{GoesStep};
+ghost use Rattle.cycle_phases.specs.Waving.{WavesFrom, is_proposing};
 ghost use Rattle.cycle_phases.specs.Courses.{Goes, IsEndOf, phase_course, phased};
 
 use crate::agent::Agent;
 use crate::standing::{Standing, standing_after};
 use crate::telling::tell;
-use cycle_parts::Waved;
-use cycle_phases::{Ended, run_cycle, run_phase};
+use cycle_phases::{Ended, Stop, Waved, run_cycle, run_phase};
 use outstanding::Outstanding;
 use soar_sym::Text;
 use trace_lines::Phase;
-use wave_parts::Stop;
 
 impl<M: Outstanding> Agent<M> {
     /// Runs a wave of a phase, and appends what is told of it. Nothing is appended where memory is wanting. What it

@@ -1,8 +1,8 @@
 ghost use Rattle.std.specs.Prelude.{◌≡◌};
 ghost use Rattle.soar_cycle.specs.Agents.{standing_after, stop_of};
 
+use cycle_phases::Stop;
 use defs_soar::Which;
-use wave_parts::Stop;
 
 /// Whether an agent stands for a state of the definitions.
 #[derive(Clone, Copy, PartialEq, Eq)]

@@ -1,8 +1,8 @@
 // What an agent appends once it knows its answer.
 ghost use Rattle.soar_cycle.specs.Telling.{Tells};
 
+use cycle_phases::Stop;
 use soar_sym::Text;
-use wave_parts::Stop;
 
 /// Appends what was said, unless memory is wanting.
 pub fn tell<T: Copy>(answer: Result<T, Stop>, said: &Text, text: &mut Text) -> Result<T, Stop>

@@ -9,7 +9,7 @@ use Rattle.soar_rule.specs.Productions.{ProductionOf}
 use Rattle.soar_rule.specs.Symbols.{AreKnown, constants_of, symbols_of}
 use Rattle.defs_soar.specs.Laws.{IsIn}
 use Rattle.learning_laws.specs.LawfulAgents.{IsLiteral}
-use Rattle.cycle_parts.specs.Calls.{MayBeLoaded}
+use Rattle.soar_cycle.specs.Calls.{MayBeLoaded}
 use Rattle.soar_cycle_tests.specs.Idle.{idle_production}
 
 idle_checked : ordered idle_production ≡ Ok idle_production

@@ -1,3 +1,4 @@
 pub mod Memory
+pub mod Packed
 pub mod Places
 pub mod Store

@@ -8,6 +8,7 @@ ghost use Rattle.soar_prefs.specs.Store.{has, same_place, row_at, Marks, MarksOt
 ghost use Rattle.soar_prefs.specs.declared.key.Key.{Key as KeyOf};
 
 use crate::key::Key;
+use crate::packed::PackedPreference;
 use crate::places;
 use crate::same::is_wish;
 use defs_soar::{PrefKind, Preference, Wish};
@@ -121,7 +122,7 @@ pub fn note(index: &mut Index, row: &Preference, number: u64) -> Result<(), NoMe
 pub fn rows_of(
     alloc: Global,
     index: &Index,
-    rows: &BTreeMap<u64, Preference>,
+    rows: &BTreeMap<u64, PackedPreference>,
     id: Sym,
     attr: Sym,
 ) -> Result<List<Preference>, NoMemory>
@@ -132,20 +133,21 @@ pub fn rows_of(
     let key = (id, attr);
     'numbers: for (place, _) in index.slots.range((key, 0)..=(key, u64::MAX)) {
         if let Some(row) = rows.get(&place.1) {
-            found.push(*row)?;
+            found.push(row.preference())?;
         }
     }
     Ok(found)
 }
 
 /// Whether a wish is among those of the operator-supported rows of its triple.
-pub fn has_wish(index: &Index, rows: &BTreeMap<u64, Preference>, wish: Wish) -> bool
+pub fn has_wish(index: &Index, rows: &BTreeMap<u64, PackedPreference>, wish: Wish) -> bool
     ensures found { result ≡ list_any (λ q. q.operator_support && wish_eq q.wish wish) (filter_map (λ e. row_at rows.now.entries e.0.1) (of_key triple_cmp (wish.id, wish.attr, wish.value) index.now.triples.entries)) }
     ensures ordered { IsOrdered (place_cmp triple_cmp) index.now.triples }
 {
     let key = (wish.id, wish.attr, wish.value);
     'numbers: for (place, _) in index.triples.range((key, 0)..=(key, u64::MAX)) {
-        if let Some(row) = rows.get(&place.1) {
+        if let Some(packed) = rows.get(&place.1) {
+            let row = packed.preference();
             if row.operator_support && is_wish(row.wish, wish) {
                 return true;
             }
@@ -157,7 +159,7 @@ pub fn has_wish(index: &Index, rows: &BTreeMap<u64, Preference>, wish: Wish) -> 
 /// Whether a row of the triple has the kind.
 pub fn has_kind(
     index: &Index,
-    rows: &BTreeMap<u64, Preference>,
+    rows: &BTreeMap<u64, PackedPreference>,
     triple: Triple,
     kind: PrefKind,
 ) -> bool
@@ -167,7 +169,7 @@ pub fn has_kind(
     let key = (triple.id, triple.attr, triple.value);
     'numbers: for (place, _) in index.triples.range((key, 0)..=(key, u64::MAX)) {
         if let Some(row) = rows.get(&place.1) {
-            if row.wish.kind.is(kind) {
+            if row.preference().wish.kind.is(kind) {
                 return true;
             }
         }

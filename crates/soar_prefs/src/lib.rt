@@ -6,6 +6,7 @@ mod fault;
 mod index;
 mod journal;
 mod key;
+mod packed;
 mod places;
 mod prefs;
 mod same;
@@ -13,4 +14,5 @@ mod store;
 
 pub use defs_soar::{PrefKind, Preference, Wish};
 pub use fault::PrefFault;
+pub use packed::PackedPreference;
 pub use prefs::Prefs;

@@ -5,6 +5,7 @@ ghost use Rattle.soar_prefs.specs.Memory.{Adds, CoversRows, hold_up, without_tri
 use crate::fault::PrefFault;
 use crate::journal;
 use crate::key::Key;
+use crate::packed::PackedPreference;
 use crate::store::Store;
 use defs_soar::Preference;
 use soar_sym::{List, NoMemory, Sym, Triple};
@@ -112,7 +113,7 @@ impl Prefs {
     }
 
     /// All rows, in order of adding.
-    pub fn rows(&self) -> Values<'_, u64, Preference>
+    pub fn rows(&self) -> Values<'_, u64, PackedPreference>
         ensures { result ≡ self.now.rows }
     {
         self.store.rows.values()

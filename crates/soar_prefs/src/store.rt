@@ -12,6 +12,7 @@ use crate::event::Event;
 use crate::index::{self, Index};
 use crate::journal;
 use crate::key::Key;
+use crate::packed::PackedPreference;
 use defs_soar::{PrefKind, Preference};
 use soar_sym::{List, NoMemory, Sym, Triple};
 use std::alloc::Global;
@@ -20,7 +21,7 @@ use std::collections::BTreeMap;
 /// Rows in order of adding, and in its journal those that came or went. The journal has room for each row to go.
 #[derive(Drop)]
 pub struct Store {
-    pub rows: BTreeMap<u64, Preference>,
+    pub rows: BTreeMap<u64, PackedPreference>,
     pub numbers: Index,
     pub next: u64,
     pub journal: Vec<Event>,
@@ -59,7 +60,7 @@ impl Store {
         // For this row to come, and for it and all others to go.
         self.journal.reserve(self.rows.len() + 2)?;
         index::note(&mut self.numbers, &row, number)?;
-        match self.rows.insert(number, row) {
+        match self.rows.insert(number, PackedPreference::new(row)) {
             Ok(_) => {
                 self.next = next;
                 journal::append(&mut self.journal, number, row, true);
@@ -81,7 +82,8 @@ impl Store {
         ensures settled { undone self.new.journal.items self.new.rows.entries ≡ undone self.old.journal.items self.old.rows.entries }
         ensures rows { self.new.rows.entries ≡ remove_entry (is_at (nat_cmp number)) self.old.rows.entries }
     {
-        if let Some(row) = self.rows.remove(&number) {
+        if let Some(packed) = self.rows.remove(&number) {
+            let row = packed.preference();
             index::forget(&mut self.numbers, &row, number);
             journal::append(&mut self.journal, number, row, false);
         }
@@ -139,7 +141,7 @@ impl Store {
     {
         let mut all = List::new(alloc);
         'rows: for row in self.rows.values() {
-            all.push(*row)?;
+            all.push(row.preference())?;
         }
         Ok(all)
     }

@@ -76,7 +76,7 @@ fn has_firings(prefs: &Prefs, alloc: Global, id: Sym, firings: &[u64]) -> Result
 fn sum_of_firings(prefs: &Prefs) -> u64 {
     let mut sum: u64 = 0;
     for row in prefs.rows() {
-        sum = sum.saturating_add(row.firing);
+        sum = sum.saturating_add(row.preference().firing);
     }
     sum
 }

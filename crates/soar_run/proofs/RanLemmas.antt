@@ -13,9 +13,9 @@ use Rattle.defs_soar.specs.Trace.{Written, followed_by, line_text}
 use Rattle.soar_agent.specs.Running.{run_learning}
 use Rattle.soar_settle.specs.declared.stop.Stop.{Stop}
 use Rattle.soar_settle.specs.declared.stop.Stop.TheVariants as stop
-use Rattle.wave_parts.specs.Remembers.{Remembers}
-use Rattle.wave_parts.specs.Seen.{agent_of}
-use Rattle.wave_parts.proofs.StandsLemmas.{of_each_state, stands_at}
+use Rattle.soar_agent.specs.Remembers.{Remembers}
+use Rattle.soar_agent.specs.Seen.{agent_of}
+use Rattle.soar_agent.proofs.StandsLemmas.{of_each_state, stands_at}
 use Rattle.soar_agent.specs.Agents.{AgentSeen}
 use Rattle.soar_agent.specs.Courses.{Went, front_said, limit_in}
 use Rattle.soar_agent.proofs.CourseLemmas.{front_append, front_stops, limit_append, limit_behind, none_went, went_then}

@@ -16,8 +16,8 @@ use Rattle.command_runs.specs.declared.carrier.Answered.TheVariants as answered
 use Rattle.command_runs.specs.declared.carrier.Next.{Next}
 use Rattle.soar_settle.specs.declared.stop.Stop.{Stop}
 use Rattle.soar_settle.specs.declared.stop.Stop.TheVariants as stop
-use Rattle.wave_parts.specs.Remembers.{Remembers}
-use Rattle.wave_parts.specs.Seen.{agent_of}
+use Rattle.soar_agent.specs.Remembers.{Remembers}
+use Rattle.soar_agent.specs.Seen.{agent_of}
 use Rattle.soar_agent.specs.Courses.{front_said, limit_in}
 use Rattle.soar_agent.specs.Commands.{AsksToRun, Commands}
 use Rattle.soar_agent.specs.States.{session_of}

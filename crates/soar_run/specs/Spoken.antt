@@ -2,7 +2,7 @@
 use Rattle.std.specs.Prelude.{◌≡◌, List}
 use Rattle.defs_soar.specs.History.{RecordedFiring}
 use Rattle.defs_run.specs.Sessions.{Session}
-use Rattle.wave_parts.specs.Remembers.{Remembers}
+use Rattle.soar_agent.specs.Remembers.{Remembers}
 use Rattle.soar_agent.specs.States.{session_of}
 use Rattle.soar_agent.specs.declared.state.Session.{Session as SessionKept}
 

@@ -4,8 +4,8 @@ ghost use Rattle.soar_edge.specs.Outside.{Appends, AppendsSome, HasPutCause};
 ghost use Rattle.defs_soar.specs.History.{RecordedFiring};
 ghost use Rattle.soar_agent.specs.Running.{run_learning};
 ghost use Rattle.command_runs.specs.Carrying.{IsReadyAfter};
-ghost use Rattle.wave_parts.specs.Remembers.{Remembers};
-ghost use Rattle.wave_parts.specs.Seen.{agent_of};
+ghost use Rattle.soar_agent.specs.Remembers.{Remembers};
+ghost use Rattle.soar_agent.specs.Seen.{agent_of};
 ghost use Rattle.soar_run.specs.Cycles.{IsRanOk, WritesCycle, course_text, cycle_of};
 ghost use Rattle.soar_run.specs.Ready.{IsReadySession};
 

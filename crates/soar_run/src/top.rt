@@ -26,6 +26,7 @@ use std::alloc::Global;
 const USAGE: &str = "usage: soar_app [--watch N] [--generate N] [FILE]...\n";
 
 /// Runs the files that the words name and then the input, or a script in their place, and ends with how that went.
+/// The session's memory stays until the process ends; a session whose memory goes with it is `soar_agent::Session`.
 #[tactic(auto, unfolding(defs_run::specs::Whole::whole_transcript))]
 pub fn run_soar<I: Source, F: Shelf, O: Sink>(
     alloc: Global,

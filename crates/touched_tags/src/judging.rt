@@ -40,7 +40,7 @@ pub fn judge_all<K: KeptSet>(
     ensures come { IfOk result (λ judged. judged.come ≡ filter (comes goals.now (K.triples kept.now) memory.now.elements) looked.now) }
 {
     let mut gone = BTreeMap::new(alloc);
-    let mut come = List::new(alloc);
+    let mut come = List::from_vec(Vec::with_capacity(alloc, looked.len() / 2)?);
     'looked: for triple in looked {
         let verdict = verdict_of_triple(goals, kept, memory, *triple);
         if let Some(element) = verdict.gone {

@@ -21,7 +21,7 @@ pub fn looked_at(
     ensures { IfOk result (λ looked. IsLooked before.now goals.now touched.now memory.now.elements looked) }
 {
     let changed = changed_goals(alloc, before, goals)?;
-    let mut looked = List::new(alloc);
+    let mut looked = List::from_vec(Vec::with_capacity(alloc, touched.len().saturating_mul(2))?);
     add_both(&mut looked, touched)?;
     add_of_ids(alloc, &mut looked, changed.as_slice(), memory)?;
     Ok(looked)

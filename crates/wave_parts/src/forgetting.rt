@@ -60,7 +60,7 @@ fn add_rows(roots: &mut List<u64>, prefs: &Prefs) -> Result<(), NoMemory>
     ensures { OnOk result (roots.new ≡ roots.old ++ map (λ row. row.firing) prefs.now.rows) }
 {
     'rows: for row in prefs.rows() {
-        roots.push(row.firing)?;
+        roots.push(row.preference().firing)?;
     }
     Ok(())
 }

@@ -6,7 +6,7 @@ ghost use Rattle.outstanding_tests.specs.Worlds.{AreTold};
 
 use super::live::{Fired, fire, forget, none_fired, retract};
 use super::rules::{Ready, attribute};
-use super::shown::add_outstanding;
+use super::shown::{add_instances, add_outstanding};
 use super::world::{World, add, excise, load, nothing, remove};
 use outstanding::{Open, Outstanding};
 use soar_sym::{NoMemory, Sym, Triple};
@@ -27,10 +27,12 @@ pub enum Call {
     Retract,
     /// The first live firing is forgotten.
     Forget,
+    /// The instances of a rule are listed.
+    List(u64),
 }
 
 /// The calls of a text: `+Sa1` adds (S1 ^a 1), `-SaX` removes (S1 ^a X1), `l1` loads rule 1, `x1`
-/// excises it, `a` asks what is outstanding, and so do `f`, which fires what is unfired, `r`, which retracts what is
+/// excises it, `m1` lists its instances, `a` asks what is outstanding, and so do `f`, which fires what is unfired, `r`, which retracts what is
 /// unmatched, and `g`, which forgets the first live firing.
 pub fn calls_of(alloc: Global, text: &str) -> Result<Vec<Call>, NoMemory> {
     let mut calls = Vec::new(alloc);
@@ -48,6 +50,7 @@ fn call_of(word: &str) -> Call {
         [b'f'] => Call::Fire,
         [b'r'] => Call::Retract,
         [b'g'] => Call::Forget,
+        [b'm', number] => Call::List(u64::from(number.saturating_sub(b'0'))),
         [b'x', number] => Call::Excise(u64::from(number.saturating_sub(b'0'))),
         [_, number] => Call::Load(u64::from(number.saturating_sub(b'0'))),
         _ => Call::Excise(0),
@@ -75,7 +78,7 @@ fn symbol_of(byte: u8) -> Sym {
     }
 }
 
-/// What is outstanding at each of these calls that asks.
+/// What is outstanding, or listed, at each of these calls that asks.
 pub fn answers_of<M: Outstanding>(
     alloc: Global,
     matcher: &mut M,
@@ -101,7 +104,10 @@ pub fn answers_of<M: Outstanding>(
 }
 
 fn asks(call: Call) -> bool {
-    matches!(call, Call::Ask | Call::Fire | Call::Retract | Call::Forget)
+    matches!(
+        call,
+        Call::Ask | Call::Fire | Call::Retract | Call::Forget | Call::List(_)
+    )
 }
 
 /// The live firings after a call that asks.
@@ -118,8 +124,27 @@ fn answer<M: Outstanding>(
     ensures elements { OnOk result (M.elements matcher.new ≡ M.elements matcher.old) }
     ensures knows { OnOk result (M.knows matcher.new fired.new.live.told) }
 {
+    if let Call::List(number) = call {
+        return list(alloc, matcher, number, out);
+    }
     let answer = ask(alloc, matcher, fired, out)?;
     fire_or_not(alloc, answer, fired, call)
+}
+
+/// The instances of a rule, behind a text.
+fn list<M: Outstanding>(
+    alloc: Global,
+    matcher: &mut M,
+    number: u64,
+    out: &mut String,
+) -> Result<(), NoMemory>
+    ensures works { OnOk result (Works (M.failed matcher.old) (M.failed matcher.new)) }
+    ensures rules { OnOk result (M.rules matcher.new ≡ M.rules matcher.old) }
+    ensures elements { OnOk result (M.elements matcher.new ≡ M.elements matcher.old) }
+    ensures knows { OnOk result ((live : ListOf LiveOf) → M.knows matcher.old live → M.knows matcher.new live) }
+{
+    let instances = matcher.instances_of(alloc, number)?;
+    add_instances(alloc, instances.as_slice(), out)
 }
 
 /// What is outstanding, and behind a text too.

@@ -7,14 +7,29 @@ use std::alloc::Global;
 /// Each unfired instance by its rule, its tags and what its variables stand for, as `1 6 7:S12;`, and behind a dash those
 /// of the unmatched firings, and a bar.
 pub fn add_outstanding(alloc: Global, answer: &Open, out: &mut String) -> Result<(), NoMemory> {
-    for instance in answer.unfired.as_slice() {
-        add_instance(alloc, instance, out)?;
-    }
+    add_each(alloc, answer.unfired.as_slice(), out)?;
     out.push('-')?;
     for firing in answer.unmatched.as_slice() {
         add_instance(alloc, &firing.instance, out)?;
     }
     Ok(out.push('|')?)
+}
+
+/// Each of these instances, and a bar.
+pub fn add_instances(
+    alloc: Global,
+    instances: &[Instance],
+    out: &mut String,
+) -> Result<(), NoMemory> {
+    add_each(alloc, instances, out)?;
+    Ok(out.push('|')?)
+}
+
+fn add_each(alloc: Global, instances: &[Instance], out: &mut String) -> Result<(), NoMemory> {
+    for instance in instances {
+        add_instance(alloc, instance, out)?;
+    }
+    Ok(())
 }
 
 fn add_instance(alloc: Global, instance: &Instance, out: &mut String) -> Result<(), NoMemory> {

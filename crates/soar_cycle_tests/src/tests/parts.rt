@@ -1,11 +1,11 @@
 // An agent over the matcher by enumeration, inputs, and a rule.
 ghost use Rattle.std.specs.Prelude.{◌≡◌, ◌∷◌, [], IfOk};
 ghost use Rattle.soar_rule.specs.Productions.{production_seen};
-ghost use Rattle.cycle_parts.specs.Calls.{IsTripleGiven};
+ghost use Rattle.soar_cycle.specs.Calls.{IsTripleGiven};
 ghost use Rattle.soar_cycle.specs.Agents.{IsSoundAgent};
 ghost use Rattle.soar_cycle_tests.specs.Idle.{idle_pattern, idle_production, plain_field};
-ghost use Rattle.wave_parts.specs.Lawful.{IsOfLawful};
-ghost use Rattle.wave_parts.specs.declared.parts.Parts.{Parts as PartsKept};
+ghost use Rattle.soar_cycle.specs.Lawful.{IsOfLawful};
+ghost use Rattle.soar_cycle.specs.Parts.{Parts as PartsKept};
 
 use match_direct::Direct;
 use outstanding::Compared;

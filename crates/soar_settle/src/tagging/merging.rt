@@ -20,7 +20,7 @@ pub fn merged(
     requires second { AreTriplesKnown table.now b.now }
     ensures { IfOk result (λ both. both ≡ merged table.now a.now b.now) }
 {
-    let mut out = Vec::new(alloc);
+    let mut out = Vec::with_capacity(alloc, a.len().saturating_add(b.len()))?;
     let mut from = 0;
     'triples: for triple in a {
         from = add_before(table, &mut out, b, from, *triple)?;

@@ -58,7 +58,7 @@ fn add_all(
     }) }
     ensures new { IfOk result (λ new. new ≡ tagged goals.now memory.old.last triples.now) }
 {
-    let mut new = List::new(alloc);
+    let mut new = List::from_vec(Vec::with_capacity(alloc, triples.len())?);
     'triples: for triple in triples {
         let element = add_one(memory, *triple, is_goal(goals, triple.id))?;
         new.push(element)?;

@@ -1,7 +1,7 @@
 use Rattle.std.proofs.Common.{◌-◌, ◌∙◌, Result, Ok, Err, OnOk, ap, refl, sym, subst}
 use Rattle.std.proofs.lemmas.Result.{err_from_is_err_and}
-use Rattle.wave_parts.specs.Lawful.{IsOfLawful}
-use Rattle.wave_parts.specs.Seen.{IsSound}
+use Rattle.cycle_parts.specs.Lawful.{IsOfLawful}
+use Rattle.cycle_parts.specs.Seen.{IsSound}
 use Rattle.cycle_parts.specs.Waving.{is_proposing}
 use Rattle.cycle_parts.specs.declared.waving.Waved.TheVariants as waved
 use Rattle.cycle_parts.proofs.ToldLemmas.{told_lawful, told_sound}

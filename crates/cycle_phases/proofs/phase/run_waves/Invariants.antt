@@ -3,9 +3,9 @@ use Rattle.defs_soar.specs.Agents.{Agent}
 use Rattle.cycle_parts.specs.Bonds.{Bond}
 use Rattle.cycle_parts.specs.Waving.{is_proposing}
 use Rattle.cycle_phases.specs.Going.{Going}
-use Rattle.wave_parts.specs.Lawful.{IsOfLawful}
-use Rattle.wave_parts.specs.Seen.{IsSound}
-use Rattle.wave_parts.specs.Stands.{Stands}
+use Rattle.cycle_parts.specs.Lawful.{IsOfLawful}
+use Rattle.cycle_parts.specs.Seen.{IsSound}
+use Rattle.cycle_parts.specs.Stands.{Stands}
 use Rattle.cycle_phases.proofs.phase.run_waves.Given as goal
 
 abbrev pub invariant-waves : goal.invariant-waves

@@ -1,6 +1,6 @@
 use Rattle.std.proofs.Common.{◌≡◌, length, ap, arith}
 use Rattle.defs_soar.specs.Pending.{elements_of_tags}
-use Rattle.firing_records.proofs.DepthLemmas.{match_within}
+use Rattle.soar_levels.proofs.DepthLemmas.{match_within}
 use Rattle.firing_records.proofs.recording.recorded.Goals as goal
 
 pub firing_of-requires : goal.firing_of-requires

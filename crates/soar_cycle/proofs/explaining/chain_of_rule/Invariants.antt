@@ -1,6 +1,6 @@
 use Rattle.std.proofs.Common.{◌≡◌, map, drop}
 use Rattle.defs_run.specs.Carrying.{chain_of_rule}
-use Rattle.wave_learning.specs.Hands.{learned_rule_seen}
+use Rattle.cycle_phases.specs.Hands.{learned_rule_seen}
 use Rattle.soar_cycle.proofs.explaining.chain_of_rule.Given as goal
 
 abbrev pub invariant-chains : goal.invariant-chains

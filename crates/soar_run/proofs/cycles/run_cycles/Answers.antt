@@ -1,6 +1,6 @@
 use Rattle.std.proofs.Common.{◌≡◌, ◌-◌, ◌+◌, Ok, ap, true, false, refl, sym, ◌∙◌, arith}
-use Rattle.wave_parts.specs.Seen.{agent_of}
-use Rattle.wave_parts.specs.declared.settings.Settings.{Settings}
+use Rattle.soar_agent.specs.Seen.{agent_of}
+use Rattle.soar_agent.specs.SettingsType.{Settings}
 use Rattle.soar_run.specs.Cycles.{cycle_of}
 use Rattle.soar_run.proofs.RanLemmas.{all_behind, halts_behind, none_behind, one_behind, some_at, some_behind, some_of_all, stops_behind, writes_at}
 use Rattle.soar_run.proofs.cycles.run_cycles.Goals as goal

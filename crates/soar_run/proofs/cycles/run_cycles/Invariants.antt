@@ -1,8 +1,8 @@
 use Rattle.std.proofs.Common.{◌≡◌, ◌-◌, List}
 use Rattle.defs_soar.specs.History.{RecordedFiring}
 use Rattle.soar_agent.specs.Running.{run_learning}
-use Rattle.wave_parts.specs.Remembers.{Remembers}
-use Rattle.wave_parts.specs.Seen.{agent_of}
+use Rattle.soar_agent.specs.Remembers.{Remembers}
+use Rattle.soar_agent.specs.Seen.{agent_of}
 use Rattle.soar_run.specs.Ready.{IsReadySession}
 use Rattle.soar_run.proofs.RanLemmas.{RunBehind}
 use Rattle.soar_run.proofs.cycles.run_cycles.Given as goal

@@ -1,6 +1,6 @@
 use Rattle.std.proofs.Common.{List, ℕ, OnOk, subst}
 use Rattle.soar_edge.specs.Outside.{Appends, AppendsSome}
-use Rattle.wave_parts.specs.Seen.{agent_of}
+use Rattle.soar_agent.specs.Seen.{agent_of}
 use Rattle.soar_run.specs.Cycles.{cycle_of}
 use Rattle.soar_run.proofs.RanLemmas.{stopped_text, stopped_written}
 use Rattle.soar_run.proofs.cycles.write_cycle.Goals as goal

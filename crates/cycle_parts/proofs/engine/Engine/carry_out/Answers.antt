@@ -3,7 +3,7 @@ use Rattle.std.proofs.lemmas.Result.{err_from_is_err_and}
 use Rattle.defs_match.specs.Rules.{rule_seen}
 use Rattle.matching_laws.specs.Telling.{with_each}
 use Rattle.soar_settle.specs.Tagging.{without_each}
-use Rattle.wave_parts.specs.Carrying.{CarriesOut}
+use Rattle.decision_parts.specs.Carrying.{CarriesOut}
 use Rattle.cycle_parts.specs.Retelling.{AreHeld, without_each_rule}
 use Rattle.cycle_parts.proofs.RetellingLemmas.{all_are_told, spent_are_held, taught_are_new}
 use Rattle.cycle_parts.proofs.engine.Engine.carry_out.Goals as goal

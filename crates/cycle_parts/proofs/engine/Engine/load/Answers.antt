@@ -6,10 +6,10 @@ use Rattle.defs_match.specs.Rules.{rule_seen}
 use Rattle.defs_match.specs.declared.rule.Rule.{Rule}
 use Rattle.defs_soar.specs.Agents.{Agent}
 use Rattle.rule_shelf.specs.Shelf.{AreBelow}
-use Rattle.wave_parts.specs.Lawful.{IsOfLawful}
-use Rattle.wave_parts.specs.Seen.{IsSound, Stepped}
-use Rattle.wave_parts.specs.Stands.{Stands}
-use Rattle.wave_parts.specs.declared.parts.Parts.{Parts as PartsKept}
+use Rattle.decision_parts.specs.Lawful.{IsOfLawful}
+use Rattle.decision_parts.specs.Seen.{IsSound, Stepped}
+use Rattle.decision_parts.specs.Stands.{Stands}
+use Rattle.decision_parts.specs.Parts.{Parts as PartsKept}
 use Rattle.cycle_parts.specs.Calls.{load_step}
 use Rattle.cycle_parts.proofs.ExcisedLemmas.{elements_stay, told_stays}
 use Rattle.cycle_parts.proofs.LawfulLemmas.{lawful_loaded}

@@ -3,8 +3,8 @@ use Rattle.defs_match.specs.Rules.{rule_seen}
 use Rattle.defs_soar.specs.Pending.{is_none}
 use Rattle.pending_work.specs.Firables.{IsPending}
 use Rattle.pending_work.specs.Working.{is_nothing}
-use Rattle.wave_parts.specs.Seen.{IsSound, pending_of}
-use Rattle.wave_parts.specs.declared.parts.Parts.{Parts as PartsKept}
+use Rattle.decision_parts.specs.Seen.{IsSound, pending_of}
+use Rattle.decision_parts.specs.Parts.{Parts as PartsKept}
 use Rattle.cycle_parts.proofs.ToldLemmas.{open_in, told_alone, told_sound}
 use Rattle.cycle_parts.proofs.engine.Engine.pending.Goals as goal
 

@@ -1,6 +1,6 @@
 use Rattle.std.proofs.Common.{Err, Ok}
 use Rattle.std.proofs.lemmas.Result.{err_from_is_err_and}
-use Rattle.wave_parts.proofs.SoundLemmas.{to_settle}
+use Rattle.decision_parts.proofs.PartsSoundLemmas.{to_settle}
 use Rattle.cycle_parts.proofs.SteppingLemmas.{settles_now}
 use Rattle.cycle_parts.proofs.engine.Engine.resettle.Goals as goal
 

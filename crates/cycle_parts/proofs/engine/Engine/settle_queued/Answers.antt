@@ -6,9 +6,9 @@ use Rattle.soar_prefs.specs.Memory.{has_plain}
 use Rattle.soar_settle.specs.Known.{AreTriplesKnown}
 use Rattle.input_queue.specs.Seen.{queued_seen, triple_queued}
 use Rattle.input_queue.specs.declared.queued.Queued.{Queued}
-use Rattle.wave_parts.specs.Resettles.{resettled_now}
-use Rattle.wave_parts.specs.Seen.{IsSound}
-use Rattle.wave_parts.specs.Stands.{Stands}
+use Rattle.decision_parts.specs.Resettles.{resettled_now}
+use Rattle.decision_parts.specs.Seen.{IsSound}
+use Rattle.decision_parts.specs.Stands.{Stands}
 use Rattle.cycle_parts.specs.Settling.{Settles}
 use Rattle.cycle_parts.proofs.InputLemmas.{input_stops, takes_input}
 use Rattle.cycle_parts.proofs.SoundLemmas.{queued_kept_up, sound_in_cycle}

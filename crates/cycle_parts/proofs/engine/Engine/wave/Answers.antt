@@ -4,10 +4,10 @@ use Rattle.defs_match.specs.Rules.{rule_seen}
 use Rattle.live_firings.specs.Living.{live_seen}
 use Rattle.pending_work.specs.Firables.{AreBound}
 use Rattle.soar_settle.specs.Known.{AreInstancesKnown}
-use Rattle.wave_parts.specs.Carrying.{CarriesOut, IsPendingIn}
-use Rattle.wave_parts.specs.Lawful.{IsOfLawful}
-use Rattle.wave_parts.specs.Seen.{AreLiveKnown, IsSound}
-use Rattle.wave_parts.specs.declared.parts.Parts.{Parts as PartsKept}
+use Rattle.decision_parts.specs.Carrying.{CarriesOut, IsPendingIn}
+use Rattle.decision_parts.specs.Lawful.{IsOfLawful}
+use Rattle.decision_parts.specs.Seen.{AreLiveKnown, IsSound}
+use Rattle.decision_parts.specs.Parts.{Parts as PartsKept}
 use Rattle.step_report.specs.Reports.{report_events}
 use Rattle.step_report.specs.Saying.{SaysEvents}
 use Rattle.cycle_parts.specs.Waving.{is_proposing}

@@ -19,8 +19,8 @@ returns-clause-holds c = λ goals0 rows0 inputs0 holds covered.
     let ids : c.ids.result.now ≡ goal_ids goals = c.ids.ensures ∙ ap (λ k. k.ids) c.self.view_is ∙ c.requires.own.ids in
     let stood : Stands c.self.inside.graph old (goal_ids goals0) = subst (λ k. Stands k.graph k.triples (goal_ids goals0)) (sym c.self.view_is) holds.graph in
     let changed : IsChanged old c.as_slice.result.now c.as_slice-2.result.now new =
-    changed_by old new c.as_slice.result.now c.as_slice-2.result.now (record { gone = c.new.result; come = c.new-2.result }) c.look_at_all.new.difference
-    c.in_ok-look_at_all.ensures.counts c.new.ensures c.new-2.ensures c.as_slice.ensures c.as_slice-2.ensures
+    changed_by old new c.as_slice.result.now c.as_slice-2.result.now c.in_ok-difference.difference c.look_at_all.new.difference
+    c.in_ok-look_at_all.ensures.counts c.in_ok-difference.ensures.gone c.in_ok-difference.ensures.come c.as_slice.ensures c.as_slice-2.ensures
     in
     on_ok_weaker c.change.result
     (λ stands. record {

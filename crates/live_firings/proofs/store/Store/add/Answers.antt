@@ -15,23 +15,23 @@ returns-in-Ok-clause-sound c =
     let old = c.args.self.now in
     let next : c.in-Some.next ≡ old.next + 1 = omega arith in
     let small : c.in-Some.next < 2 ^ 64 = omega arith in
-    stored _ _ _ _ _ c.in-Some.next _ c.in_ok-firing.firing c.requires.sound next small c.in-Ok.ensures.entries c.in-Ok.ensures.updates.0
+    stored _ _ _ _ _ c.in-Some.next _ c.in_ok-firing.firing c.requires.sound next small c.in-Ok.ensures.entries c.in-Ok.ensures.updates
     (subst (λ (l : Live). Marked l.number l.depth (match_of l) old.next true old.index c.note.new.self) (sym c.in_ok-firing.ensures.same) c.in_ok-firing.ensures.ok)
 
 pub returns-in-Ok-clause-told : goal.returns-in-Ok-clause-told
 returns-in-Ok-clause-told c =
     let old = c.args.self.now in
-    told_add old.mark old.next c.reserve.new.self.items _ _ c.in_ok-firing.firing c.requires.sound.numbered c.requires.sound.marked c.in-Ok.ensures.entries ∙ ap (λ gone. told_rows old.mark gone old.rows.entries) c.reserve.ensures.items
+    told_add old.mark old.next c.make_room.new.gone.items _ _ c.in_ok-firing.firing c.requires.sound.numbered c.requires.sound.marked c.in-Ok.ensures.entries ∙ ap (λ gone. told_rows old.mark gone old.rows.entries) c.make_room.ensures.items
 
 pub returns-in-Ok-clause-ok : goal.returns-in-Ok-clause-ok
 returns-in-Ok-clause-ok c =
     values_push c.args.self.now.next _ _ c.in_ok-firing.firing c.requires.sound.numbered c.in-Ok.ensures.entries ∙ ap (λ l. values_of c.args.self.now.rows.entries ++ l ∷ []) c.in_ok-firing.ensures.same
 
-pub returns-clause-sound : goal.returns-clause-sound
-returns-clause-sound c =
+pub returns-in-Err-clause-sound : goal.returns-in-Err-clause-sound
+returns-in-Err-clause-sound c =
     let old = c.args.self.now in
     let firing : Live = c.args.firing in
-    let back : c.in-Err.failed.value.1 ≡ firing = ap (λ p. p.1) c.in-Err.ensures.value_returned ∙ c.in_ok-firing.ensures.same in
+    let back : c.in-Err.firing ≡ firing = c.in-Err.ensures.back ∙ c.in_ok-firing.ensures.same in
     kept _ _ _ _ _ _ firing c.requires.sound c.in-Err.ensures.err
     (all_remarked firing.number firing.depth (match_of firing) old.next old.index c.note.new.self c.forget.new.self c.in_ok-firing.ensures.ok
     (subst (λ (l : Live). Marked l.number l.depth (match_of l) old.next false c.note.new.self c.forget.new.self) back c.forget.ensures.marks))

@@ -6,7 +6,7 @@ use Rattle.live_firings.proofs.ToldLemmas.{told_less}
 use Rattle.live_firings.proofs.store.Store.take.Goals as goal
 
 pub returns-in-Some-clause-sound : goal.returns-in-Some-clause-sound
-returns-in-Some-clause-sound c = gone _ _ _ _ _ _ c.args.place c.in-Some.firing c.requires.sound c.in-Some.ensures.value c.in-Some.ensures.entries c.in-Some.ensures.updates.0 c.forget-firing.ensures.marks
+returns-in-Some-clause-sound c = gone _ _ _ _ _ _ c.args.place c.in-Some.firing c.requires.sound c.in-Some.ensures.value c.in-Some.ensures.entries c.in-Some.ensures.updates c.forget-firing.ensures.marks
 
 pub returns-in-Some-clause-told : goal.returns-in-Some-clause-told
 returns-in-Some-clause-told c =

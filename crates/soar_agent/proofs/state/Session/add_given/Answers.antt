@@ -1,7 +1,7 @@
 use Rattle.std.proofs.Common.{◌≡◌, ◌∙◌, [], true, Some, map, sym, subst}
 use Rattle.soar_sym.specs.declared.symbol.Sym.{Sym}
 use Rattle.defs_run.specs.Runs.{replied_by}
-use Rattle.wave_parts.specs.Remembers.{Remembers}
+use Rattle.soar_cycle.specs.Remembers.{Remembers}
 use Rattle.soar_agent.specs.Adding.{adds_at_top}
 use Rattle.command_orders.specs.Asked.{operand_seen}
 use Rattle.command_labels.specs.Found.{label_seen}

@@ -1,7 +1,7 @@
 use Rattle.std.proofs.Common.{List}
 use Rattle.soar_sym.specs.declared.symbol.Triple.{Triple}
-use Rattle.wave_parts.specs.Seen.{agent_of}
-use Rattle.wave_parts.proofs.StandsLemmas.{stands_at}
+use Rattle.soar_cycle.specs.Seen.{agent_of}
+use Rattle.soar_cycle.proofs.StandsLemmas.{stands_at}
 use Rattle.defs_soar.specs.Cycle.{held_with}
 use Rattle.letter_laws.proofs.GrowthLaws.{settling_gives_none}
 use Rattle.soar_cycle.specs.Calls.{input_step, with_input}

@@ -7,7 +7,7 @@ use Rattle.defs_soar.specs.Texts.{chain_lines}
 use Rattle.defs_run.specs.Carrying.{explained}
 use Rattle.defs_run.specs.Runs.{replied_by}
 use Rattle.defs_run.specs.Sessions.{Session}
-use Rattle.wave_parts.specs.Hands.{learned_rule_seen}
+use Rattle.soar_cycle.specs.Hands.{learned_rule_seen}
 use Rattle.soar_agent.specs.States.{session_of}
 use Rattle.soar_agent.specs.Steps.{Obeys}
 use Rattle.soar_agent.proofs.ExplainLemmas.{chain_known}

@@ -4,8 +4,8 @@ use Rattle.list_parts.specs.Counted.{stats_line}
 use Rattle.list_parts.specs.declared.stats.Stats.{Stats}
 use Rattle.soar_cycle.specs.Counting.{counts_in}
 use Rattle.soar_agent.specs.Counting.{stats_seen}
-use Rattle.wave_parts.specs.Seen.{agent_of}
-use Rattle.wave_parts.specs.declared.parts.Parts.{Parts}
+use Rattle.soar_cycle.specs.Seen.{agent_of}
+use Rattle.soar_cycle.specs.Parts.{Parts}
 use Rattle.soar_agent.proofs.CountLemmas.{line_of_counts}
 use Rattle.soar_agent.proofs.ReplyLemmas.{says_lines}
 use Rattle.soar_agent.proofs.state.Session.list_counts.Goals as goal

@@ -2,7 +2,7 @@ use Rattle.std.proofs.Common.{◌≡◌, ◌∙◌, List, ap, map}
 use Rattle.defs_match.specs.Conflict.{conflict}
 use Rattle.defs_match.specs.Rules.{RuleOf, rule_seen}
 use Rattle.defs_match.specs.declared.instance.Instance.{Instance}
-use Rattle.wave_parts.specs.declared.parts.Parts.{Parts}
+use Rattle.soar_cycle.specs.Parts.{Parts}
 use Rattle.soar_cycle.specs.Agents.{AgentSeen}
 use Rattle.session_parts.specs.Saying.{match_lines}
 use Rattle.soar_agent.proofs.ReplyLemmas.{says_lines}

@@ -3,7 +3,7 @@ use Rattle.soar_sym.specs.Words.{Texts}
 use Rattle.defs_match.specs.Rules.{rule_seen}
 use Rattle.defs_match.specs.declared.rule.Rule.{Rule}
 use Rattle.list_parts.specs.Lists.{rule_lines}
-use Rattle.wave_parts.specs.declared.parts.Parts.{Parts}
+use Rattle.soar_cycle.specs.Parts.{Parts}
 use Rattle.soar_agent.proofs.ReplyLemmas.{says_lines}
 use Rattle.soar_agent.proofs.state.Session.list_productions.Goals as goal
 

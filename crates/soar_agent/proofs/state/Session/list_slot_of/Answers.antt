@@ -4,7 +4,7 @@ use Rattle.defs_soar.specs.Preferences.{slot_of}
 use Rattle.defs_soar.specs.declared.preference.Preference.{Preference}
 use Rattle.soar_prefs.specs.Memory.{PreferenceMemory}
 use Rattle.list_parts.specs.Lists.{preference_lines}
-use Rattle.wave_parts.specs.declared.parts.Parts.{Parts}
+use Rattle.soar_cycle.specs.Parts.{Parts}
 use Rattle.soar_agent.proofs.ReplyLemmas.{says_lines}
 use Rattle.soar_agent.proofs.state.Session.list_slot_of.Goals as goal
 

@@ -3,7 +3,7 @@ use Rattle.soar_sym.specs.Words.{Texts}
 use Rattle.soar_wm.specs.declared.element.Element.{Element}
 use Rattle.soar_wm.specs.WorkingMemory.{WorkingMemory, elements_of}
 use Rattle.defs_run.specs.Listing.{element_lines}
-use Rattle.wave_parts.specs.declared.parts.Parts.{Parts}
+use Rattle.soar_cycle.specs.Parts.{Parts}
 use Rattle.soar_agent.proofs.ReplyLemmas.{says_lines}
 use Rattle.soar_agent.proofs.state.Session.list_symbol.Goals as goal
 

@@ -2,8 +2,8 @@ use Rattle.std.proofs.Common.{refl}
 use Rattle.soar_rule.specs.Productions.{ProductionOf, production_seen}
 use Rattle.defs_soar.specs.Agents.{Agent}
 use Rattle.defs_run.specs.Sessions.{quiet, with_agent}
-use Rattle.wave_parts.specs.Seen.{agent_of}
-use Rattle.wave_parts.proofs.StandsLemmas.{stands_at}
+use Rattle.soar_cycle.specs.Seen.{agent_of}
+use Rattle.soar_cycle.proofs.StandsLemmas.{stands_at}
 use Rattle.soar_cycle.specs.Calls.{load_step}
 use Rattle.soar_agent.specs.States.{session_of}
 use Rattle.soar_agent.proofs.ReplyLemmas.{drawn_done, drawn_none, with_kept}

@@ -5,8 +5,8 @@ use Rattle.soar_sym.specs.Words.{IsKnown}
 use Rattle.soar_sym.specs.declared.symbol.Sym.{Sym}
 use Rattle.defs_soar.specs.Naming.{letter_from}
 use Rattle.learning_laws.specs.LawfulAgents.{IsNumbered}
-use Rattle.wave_parts.specs.Seen.{agent_of}
-use Rattle.wave_parts.proofs.StandsLemmas.{stands_at}
+use Rattle.soar_cycle.specs.Seen.{agent_of}
+use Rattle.soar_cycle.proofs.StandsLemmas.{stands_at}
 use Rattle.command_labels.specs.Lettered.{is_lettered}
 use Rattle.soar_agent.proofs.LabelLemmas.{known_lettered, makes_label, makes_none}
 use Rattle.soar_agent.proofs.ReadyLemmas.{letters_new, new_numbered, ready_labelled}

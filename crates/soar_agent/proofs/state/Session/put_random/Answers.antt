@@ -1,8 +1,8 @@
 use Rattle.std.proofs.Common.{refl}
 use Rattle.defs_soar.specs.Agents.{Agent}
 use Rattle.defs_run.specs.Inputs.{with_random}
-use Rattle.wave_parts.specs.Seen.{agent_of}
-use Rattle.wave_parts.proofs.StandsLemmas.{stands_at}
+use Rattle.soar_cycle.specs.Seen.{agent_of}
+use Rattle.soar_cycle.proofs.StandsLemmas.{stands_at}
 use Rattle.soar_cycle.specs.Calls.{random_step}
 use Rattle.soar_agent.specs.States.{session_of}
 use Rattle.soar_agent.proofs.ReplyLemmas.{quiet_done, quiet_none, with_kept}

@@ -1,6 +1,6 @@
 use Rattle.defs_soar.specs.Agents.{Agent}
-use Rattle.wave_parts.specs.Seen.{agent_of}
-use Rattle.wave_parts.proofs.StandsLemmas.{stands_at}
+use Rattle.soar_cycle.specs.Seen.{agent_of}
+use Rattle.soar_cycle.proofs.StandsLemmas.{stands_at}
 use Rattle.soar_cycle.specs.Calls.{restart_step}
 use Rattle.soar_agent.specs.Restarting.{restarts}
 use Rattle.soar_agent.specs.States.{session_of}

@@ -3,8 +3,8 @@ use Rattle.defs_soar.specs.Cycle.{cycle}
 use Rattle.defs_soar.specs.Decision.{decided_by}
 use Rattle.defs_soar.specs.Learning.{with_learning}
 use Rattle.defs_soar.specs.Phases.{Course}
-use Rattle.wave_parts.specs.Seen.{agent_of}
-use Rattle.wave_parts.proofs.StandsLemmas.{stands_at}
+use Rattle.soar_cycle.specs.Seen.{agent_of}
+use Rattle.soar_cycle.proofs.StandsLemmas.{stands_at}
 use Rattle.letter_laws.proofs.GrowthLaws.{cycles_grow}
 use Rattle.soar_agent.proofs.CycleLemmas.{cycle_said, cycle_stopped}
 use Rattle.soar_agent.proofs.ReadyLemmas.{letters_more, ready_after}

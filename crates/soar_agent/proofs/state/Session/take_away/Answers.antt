@@ -1,7 +1,7 @@
 use Rattle.std.proofs.Common.{refl}
 use Rattle.defs_soar.specs.Agents.{Agent}
-use Rattle.wave_parts.specs.Seen.{agent_of}
-use Rattle.wave_parts.proofs.StandsLemmas.{stands_at}
+use Rattle.soar_cycle.specs.Seen.{agent_of}
+use Rattle.soar_cycle.proofs.StandsLemmas.{stands_at}
 use Rattle.soar_cycle.specs.Calls.{excised_agent}
 use Rattle.soar_agent.proofs.ReplyLemmas.{quiet_stands}
 use Rattle.soar_agent.proofs.ReadyLemmas.{letters_kept, ready_after}

@@ -1,8 +1,8 @@
 use Rattle.std.proofs.Common.{subst, sym}
-use Rattle.wave_parts.specs.Stands.{Stands}
+use Rattle.cycle_phases.specs.Stands.{Stands}
 use Rattle.soar_cycle.specs.Agents.{AgentSeen}
 use Rattle.defs_soar.specs.Decision.{decided_by}
-use Rattle.cycle_parts.specs.Stepping.{GoesStep}
+use Rattle.cycle_phases.specs.Stepping.{GoesStep}
 use Rattle.soar_cycle.proofs.ToldLemmas.{halted_told, step_told}
 use Rattle.soar_cycle.proofs.agent.Agent.decide.Goals as goal
 

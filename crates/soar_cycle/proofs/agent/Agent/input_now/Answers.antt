@@ -1,7 +1,7 @@
 use Rattle.std.proofs.Common.{subst, sym}
-use Rattle.wave_parts.specs.Stands.{Stands}
-use Rattle.cycle_parts.specs.Stepping.{GoesStep}
-use Rattle.cycle_parts.specs.Calls.{input_step}
+use Rattle.cycle_phases.specs.Stands.{Stands}
+use Rattle.cycle_phases.specs.Stepping.{GoesStep}
+use Rattle.cycle_phases.specs.Calls.{input_step}
 use Rattle.soar_cycle.specs.Agents.{AgentSeen}
 use Rattle.soar_cycle.proofs.ToldLemmas.{step_told}
 use Rattle.soar_cycle.proofs.agent.Agent.input_now.Goals as goal

@@ -1,8 +1,8 @@
 use Rattle.std.proofs.Common.{map, subst, sym}
 use Rattle.soar_wm.specs.WorkingMemory.{triple_of}
 use Rattle.firing_records.specs.Levels.{TellsLevels}
-use Rattle.wave_parts.specs.Seen.{IsSound}
-use Rattle.wave_parts.proofs.SoundLemmas.{levels_told}
+use Rattle.cycle_phases.specs.Seen.{IsSound}
+use Rattle.cycle_phases.proofs.PartsSoundLemmas.{levels_told}
 use Rattle.soar_cycle.specs.Agents.{AgentSeen}
 use Rattle.soar_cycle.proofs.agent.Agent.levels.Goals as goal
 

@@ -1,5 +1,5 @@
 use Rattle.std.proofs.Common.{subst, sym}
-use Rattle.wave_parts.specs.Stands.{Stands}
+use Rattle.cycle_phases.specs.Stands.{Stands}
 use Rattle.soar_cycle.specs.Agents.{AgentSeen}
 use Rattle.cycle_phases.specs.Courses.{Goes, phase_course, phased}
 use Rattle.soar_cycle.proofs.ToldLemmas.{end_told, goes_told}

@@ -1,7 +1,7 @@
 use Rattle.std.proofs.Common.{ℕ, List, subst, sym}
-use Rattle.cycle_parts.specs.Calls.{random_step}
-use Rattle.cycle_parts.specs.Stepping.{QuietStep}
-use Rattle.wave_parts.specs.Stands.{Stands}
+use Rattle.cycle_phases.specs.Calls.{random_step}
+use Rattle.cycle_phases.specs.Stepping.{QuietStep}
+use Rattle.cycle_phases.specs.Stands.{Stands}
 use Rattle.soar_cycle.specs.Agents.{AgentSeen}
 use Rattle.soar_cycle.proofs.agent.Agent.random.Goals as goal
 

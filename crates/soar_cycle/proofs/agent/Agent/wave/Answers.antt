@@ -1,7 +1,7 @@
 use Rattle.std.proofs.Common.{subst, sym}
-use Rattle.wave_parts.specs.Stands.{Stands}
+use Rattle.cycle_phases.specs.Stands.{Stands}
 use Rattle.soar_cycle.specs.Agents.{AgentSeen}
-use Rattle.cycle_parts.specs.Waving.{WavesFrom, is_proposing}
+use Rattle.cycle_phases.specs.Waving.{WavesFrom, is_proposing}
 use Rattle.soar_cycle.proofs.ChunkLemmas.{learns_well}
 use Rattle.soar_cycle.proofs.ToldLemmas.{waves_told}
 use Rattle.soar_cycle.proofs.agent.Agent.wave.Goals as goal
