@@ -13,3 +13,4 @@ pub mod RootLaws
 pub mod TaughtLaws
 pub mod TrimmedLaws
 pub mod WaveRecords
+pub use Rattle.learning_laws.proofs.Lists

@@ -5,7 +5,7 @@ use Rattle.defs_soar.specs.Explanation.{explaining, firing_of, maker_named, with
 use Rattle.defs_soar.specs.History.{FiringOf}
 use Rattle.defs_soar.specs.Laws.{IsIn}
 use Rattle.defs_soar.specs.Standing.{is_recorded}
-use Rattle.settling_laws.proofs.RepeatLemmas.{until_same_keeps}
+use Rattle.learning_laws.proofs.RepeatLemmas.{until_same_keeps}
 use Rattle.learning_laws.proofs.ExplainNumbers.{above_in, AllAbove, few_among, longer_all, Rising, rising_all, rising_with, same_all, same_with, from_all, with_left, with_right, with_this, with_others}
 use Rattle.learning_laws.proofs.Lists.{any_in, any_some, filter_keeps, filter_within, in_flat_map, in_flat_mapped, in_mapped, same_number}
 

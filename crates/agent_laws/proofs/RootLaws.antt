@@ -15,7 +15,7 @@ use Rattle.defs_soar.specs.Resettling.{resettled}
 use Rattle.defs_soar.specs.Settling.{kept_triples, settled}
 use Rattle.defs_soar.specs.Standing.{AreFrom, firings_of_history, is_recorded, IsRecordOf, makers_of_goal}
 use Rattle.defs_soar.specs.Trimming.{highest_broken, one_trim, supports_of, Remains, trimmed, trimmed_by, with_supports, without_broken}
-use Rattle.settling_laws.proofs.SettlingLemmas.{settled_is_within}
+use Rattle.learning_laws.proofs.SettlingLemmas.{settled_is_within}
 use Rattle.learning_laws.proofs.Lists.{all_each, each_all, filter_within, in_append, in_flat_map, in_flat_mapped, in_left, in_map, in_mapped, in_right}
 use Rattle.agent_laws.proofs.RecordLaws.{roots_reach_more}
 

@@ -11,7 +11,7 @@ use Rattle.defs_soar.specs.History.{RecordedFiring}
 use Rattle.defs_soar.specs.Resettling.{resettled}
 use Rattle.defs_soar.specs.Settling.{count_of, kept_triples, one_settling, settled, Supports}
 use Rattle.defs_soar.specs.Trimming.{highest_broken, is_lost, one_trim, supports_of, Remains, trimmed, trimmed_by, with_supports, without_broken}
-use Rattle.settling_laws.proofs.SettlingLemmas.{settled_stays}
+use Rattle.learning_laws.proofs.SettlingLemmas.{settled_stays}
 use Rattle.learning_laws.proofs.TrimLaws.{broken_within, length_take_less}
 use Rattle.agent_laws.specs.Trims.{AreWhole, IsTrimmed, ResettlingEnds, TrimmingEnds}
 

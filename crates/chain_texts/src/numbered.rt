@@ -3,7 +3,7 @@ ghost use Rattle.std.specs.Prelude.{◌≡◌, ◌∷◌, ◌++◌, decimal, str
 ghost use Rattle.soar_sym.specs.Words.{IsKnown};
 ghost use Rattle.defs_text.specs.Symbols.{instance_text};
 
-use defs_match::Instance;
+use defs_soar::Instance;
 use soar_show::show_instance;
 use soar_sym::{NoMemory, Sym, SymTable, Text};
 use std::alloc::Global;

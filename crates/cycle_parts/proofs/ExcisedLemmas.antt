@@ -4,7 +4,7 @@ use Rattle.soar_sym.specs.declared.symbol.Sym.{Sym}
 use Rattle.defs_match.specs.declared.rule.Rule.{Rule}
 use Rattle.defs_soar.specs.Agents.{Agent}
 use Rattle.defs_soar.specs.History.{RecordedFiring}
-use Rattle.wave_learning.specs.declared.program.LearnedRule.{LearnedRule}
+use Rattle.decision_parts.specs.LearnedRule.{LearnedRule}
 use Rattle.decision_parts.specs.Seen.{agent_of}
 use Rattle.decision_parts.specs.Stands.{Stands}
 use Rattle.decision_parts.specs.Parts.{Parts as PartsKept}

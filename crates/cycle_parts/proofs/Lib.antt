@@ -23,3 +23,4 @@ pub use Rattle.decision_parts.proofs.LimitLemmas
 pub use Rattle.decision_parts.proofs.PartsNamedLemmas
 pub use Rattle.decision_parts.proofs.PartsSoundLemmas
 pub use Rattle.decision_parts.proofs.StandsLemmas
+pub use Rattle.pending_work.proofs.RuleLemmas as PendingWorkRuleLemmas

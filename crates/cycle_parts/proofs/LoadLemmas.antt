@@ -13,8 +13,8 @@ use Rattle.defs_soar.specs.History.{RecordedFiring}
 use Rattle.defs_soar.specs.Limits.{counts_to}
 use Rattle.defs_run.specs.Carrying.{is_named}
 use Rattle.rule_shelf.specs.Shelf.{AreBelow}
-use Rattle.wave_learning.specs.Hands.{learned_rule_seen}
-use Rattle.wave_learning.specs.declared.program.LearnedRule.{LearnedRule}
+use Rattle.decision_parts.specs.Hands.{learned_rule_seen}
+use Rattle.decision_parts.specs.LearnedRule.{LearnedRule}
 use Rattle.decision_parts.specs.Counting.{Counts}
 use Rattle.decision_parts.specs.Seen.{AreUpTo, IsSound, Stepped, agent_of}
 use Rattle.decision_parts.specs.Stands.{Stands}

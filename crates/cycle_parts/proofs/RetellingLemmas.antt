@@ -7,7 +7,7 @@ use Rattle.defs_match.specs.Rules.{RuleOf, rule_seen}
 use Rattle.defs_soar.specs.Laws.{IsIn}
 use Rattle.matching_laws.proofs.TagLemmas.{below_apart, itself}
 use Rattle.pending_work.specs.Firables.{AreNumbered, IsBelowRules}
-use Rattle.program_laws.specs.Taught.{AreNext}
+use Rattle.decision_parts.specs.Taught.{AreNext}
 use Rattle.decision_parts.specs.Seen.{AreUpTo, IsSound}
 use Rattle.decision_parts.specs.Teaching.{AreRetaught, is_numbered_among, numbers_among, without_numbers}
 use Rattle.decision_parts.specs.Parts.{Parts as PartsKept}

@@ -21,9 +21,9 @@ use Rattle.soar_prefs.specs.Memory.{has_plain}
 use Rattle.input_queue.specs.Seen.{triple_queued}
 use Rattle.input_queue.specs.declared.queued.Queued.{Queued}
 use Rattle.pending_work.specs.Firables.{AreNumbered}
-use Rattle.program_laws.specs.Knowing.{AreChainsKnown}
-use Rattle.wave_learning.specs.Hands.{learned_rule_seen}
-use Rattle.wave_learning.specs.declared.program.LearnedRule.{LearnedRule}
+use Rattle.decision_parts.specs.Knowing.{AreChainsKnown}
+use Rattle.decision_parts.specs.Hands.{learned_rule_seen}
+use Rattle.decision_parts.specs.LearnedRule.{LearnedRule}
 use Rattle.decision_parts.specs.KeptUp.{IsKeptUp}
 use Rattle.decision_parts.specs.Programs.{AreExplained}
 use Rattle.decision_parts.specs.Seen.{AreUpTo, IsSound}

@@ -5,7 +5,7 @@ use Rattle.soar_sym.specs.declared.symbol.Sym.{Sym}
 use Rattle.defs_match.specs.Rules.{RuleOf, rule_seen}
 use Rattle.defs_run.specs.Carrying.{is_named}
 use Rattle.defs_soar.specs.Agents.{Learnt}
-use Rattle.wave_learning.specs.Hands.{learned_rule_seen}
+use Rattle.decision_parts.specs.Hands.{learned_rule_seen}
 use Rattle.decision_parts.specs.Parts.{Parts as PartsKept}
 
 -- the rule of the number has the name

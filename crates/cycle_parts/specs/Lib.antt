@@ -5,7 +5,7 @@ pub mod Retelling
 pub mod Settling
 pub mod Waving
 pub use Rattle.decision_parts.specs.Stepping
-pub use Rattle.wave_learning.specs.Hands
+pub use Rattle.decision_parts.specs.Hands
 pub use Rattle.decision_parts.specs.Lawful
 pub use Rattle.decision_parts.specs.Remembers
 pub use Rattle.decision_parts.specs.Seen
@@ -13,3 +13,8 @@ pub use Rattle.decision_parts.specs.Settings
 pub use Rattle.decision_parts.specs.Stands
 pub use Rattle.decision_parts.specs.Parts
 pub use Rattle.decision_parts.specs.SettingsType
+pub use Rattle.step_report.specs.Saying
+pub use Rattle.decision_parts.specs.Details
+pub use Rattle.decision_parts.specs.Knowing
+pub use Rattle.decision_parts.specs.Levels
+pub use Rattle.pending_work.specs.Firables

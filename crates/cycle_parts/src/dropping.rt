@@ -5,13 +5,13 @@ ghost use Rattle.defs_match.specs.Rules.{rule_seen};
 ghost use Rattle.live_firings.specs.declared.live.Live.{Live as LiveOf};
 ghost use Rattle.cycle_parts.specs.Dropping.{AreDropped, is_of_name, unnamed, unnamed_chains};
 ghost use Rattle.pending_work.specs.Firables.{AreNumbered};
-ghost use Rattle.wave_learning.specs.Hands.{learned_rule_seen};
+ghost use Rattle.decision_parts.specs.Hands.{learned_rule_seen};
 
 use decision_parts::Parts;
 use outstanding::Outstanding;
 use rule_shelf::Rules;
 use soar_sym::{List, Sym, is_symbol};
-use wave_learning::LearnedRule;
+use decision_parts::LearnedRule;
 
 /// Takes the rules of a name away, and their explanations.
 pub fn drop_named<M: Outstanding>(parts: &mut Parts, matcher: &mut M, name: Sym)

@@ -21,7 +21,7 @@ use outstanding::Outstanding;
 use soar_sym::{List, NoMemory, SymTable, Text};
 use std::alloc::Global;
 use step_report::{Settled, begin_part, say_settled, says_in_turn};
-use trace_details::CyclePart;
+use decision_parts::CyclePart;
 
 impl<M: Outstanding> Engine<M> {
     /// Runs the input phase: one cycle more, and the queued changes of the inputs in order (Soar manual, chapter 2,

@@ -18,7 +18,7 @@ use outstanding::Outstanding;
 use soar_sym::{NoMemory, SymTable, Text};
 use std::alloc::Global;
 use step_report::{begin_part, say_halt_at, say_outputs_at, says_in_turn};
-use trace_details::CyclePart;
+use decision_parts::CyclePart;
 
 impl<M: Outstanding> Engine<M> {
     /// Runs the output phase: what the output link shows no longer, then what is new there, and a halt (Soar manual,

@@ -13,7 +13,7 @@ use Rattle.soar_settle.specs.declared.stop.Stop.{Stop}
 use Rattle.soar_settle.specs.declared.stop.Stop.TheVariants as stop
 use Rattle.trace_lines.specs.Saying.{part_of}
 use Rattle.trace_lines.specs.declared.halting.Phase.{Phase}
-use Rattle.step_report.specs.Saying.{SaysEvents}
+use Rattle.cycle_parts.specs.Saying.{SaysEvents}
 use Rattle.cycle_parts.specs.Stands.{Stands}
 use Rattle.cycle_parts.specs.Parts.{Parts as PartsKept}
 use Rattle.cycle_parts.specs.SettingsType.{Settings}

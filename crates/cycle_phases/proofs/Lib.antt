@@ -8,3 +8,4 @@ pub use Rattle.cycle_parts.proofs.LimitLemmas
 pub use Rattle.cycle_parts.proofs.PartsNamedLemmas
 pub use Rattle.cycle_parts.proofs.PartsSoundLemmas
 pub use Rattle.cycle_parts.proofs.StandsLemmas
+pub use Rattle.cycle_parts.proofs.PendingWorkRuleLemmas as RuleLemmas

@@ -15,3 +15,6 @@ pub use Rattle.cycle_parts.specs.Settings
 pub use Rattle.cycle_parts.specs.Stands
 pub use Rattle.cycle_parts.specs.Parts
 pub use Rattle.cycle_parts.specs.SettingsType
+pub use Rattle.cycle_parts.specs.Knowing
+pub use Rattle.cycle_parts.specs.Levels
+pub use Rattle.cycle_parts.specs.Firables

@@ -13,7 +13,7 @@ ghost use Rattle.cycle_parts.specs.Stands.{Stands};
 
 use crate::phase::run_phase;
 use cycle_parts::{Engine, Stop};
-use outstanding::Outstanding;
+use cycle_parts::Outstanding;
 use soar_sym::Text;
 use std::alloc::Global;
 use trace_lines::Phase;

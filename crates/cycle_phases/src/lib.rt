@@ -5,5 +5,5 @@ mod cycle;
 mod phase;
 
 pub use cycle::run_cycle;
-pub use cycle_parts::{Engine, LearnedRule, Parts, Settings, Stop, Waved};
+pub use cycle_parts::{Engine, Kept, LearnedRule, Parts, Settings, Stop, Waved};
 pub use phase::{Ended, run_phase};

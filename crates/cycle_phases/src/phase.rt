@@ -3,8 +3,8 @@ ghost use Rattle.std.specs.Prelude.{◌≡◌, [], ◌∷◌, OnOk};
 ghost use Rattle.defs_soar.specs.Agents.{Agent as AgentOf};
 ghost use Rattle.defs_soar.specs.Events.{begins};
 ghost use Rattle.trace_lines.specs.Saying.{part_of};
-ghost use Rattle.trace_details.specs.Details.{part_of as cycle_part_of};
-ghost use Rattle.step_report.specs.Saying.{SaysEvents};
+ghost use Rattle.cycle_parts.specs.Details.{part_of as cycle_part_of};
+ghost use Rattle.cycle_parts.specs.Saying.{SaysEvents};
 ghost use Rattle.cycle_parts.specs.Bonds.{Bond};
 ghost use Rattle.cycle_phases.specs.Courses.{Goes, IsEndOf, ended_as, phase_course, phased};
 ghost use Rattle.cycle_phases.specs.Going.{GoesPhase, cut_events};
@@ -13,11 +13,11 @@ ghost use Rattle.cycle_parts.specs.Seen.{IsSound};
 ghost use Rattle.cycle_parts.specs.Stands.{Stands};
 
 use cycle_parts::{Engine, Parts, Stop, Waved};
-use outstanding::Outstanding;
+use cycle_parts::Outstanding;
 use soar_sym::{NoMemory, Text};
 use std::alloc::Global;
-use step_report::{begin_part, say_cut_at};
-use trace_details::CyclePart;
+use cycle_parts::{begin_part, say_cut_at};
+use cycle_parts::CyclePart;
 use trace_lines::Phase;
 
 /// How a phase ended: nothing was pending, or it was cut with work still pending, or the agent is halted.

@@ -14,7 +14,7 @@ pub mod SettledLemmas
 pub mod StepLemmas
 pub mod SubstateLemmas
 pub mod WalkedLemmas
-pub use Rattle.wave_firings.proofs.FiringKnown
+pub use Rattle.wave_parts.proofs.FiringKnown
 pub use Rattle.wave_parts.proofs.GrownLemmas
 pub use Rattle.wave_parts.proofs.KeptUpLemmas
 pub use Rattle.wave_parts.proofs.LimitLemmas

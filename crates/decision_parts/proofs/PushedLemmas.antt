@@ -20,11 +20,11 @@ use Rattle.agent_laws.specs.Dependence.{NewGoalsDependOnNothing, firings_in}
 use Rattle.agent_laws.proofs.PartLaws.{fewer_roots_need_less}
 use Rattle.agent_laws.proofs.RootLaws.{each_root, maker_selected, root_of_goal, root_of_live, root_of_row}
 use Rattle.dependency_tables.specs.Tables.{table_of, tables_of}
-use Rattle.live_firings.specs.Living.{live_seen}
+use Rattle.wave_parts.specs.LiveFiringsLiving.{live_seen}
 use Rattle.learning_laws.specs.LawfulAgents.{IsNumbered}
 use Rattle.soar_fire.specs.Growth.{LettersKeep}
-use Rattle.goal_trimming.specs.Doubted.{AreDoubted}
-use Rattle.goal_trimming.proofs.LostLemmas.{doubted_pushed}
+use Rattle.wave_parts.specs.Doubted.{AreDoubted}
+use Rattle.wave_parts.proofs.LostLemmas.{doubted_pushed}
 use Rattle.soar_goals.specs.Known.{AreItemsKnown}
 use Rattle.soar_record.specs.Recorded.{recorded}
 use Rattle.wave_parts.specs.Remembers.{PastGoalsAreNumbered, Remembers, roots_in}

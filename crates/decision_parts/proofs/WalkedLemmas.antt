@@ -27,12 +27,12 @@ use Rattle.decision_walk.specs.First.{AreFirst}
 use Rattle.decision_walk.specs.Known.{AreSelectionsKnown, IsSelectionKnown}
 use Rattle.decision_walk.specs.Makers.{AreFiringsUpTo, AreMakersUpTo, IsMakerUpTo}
 use Rattle.dependency_tables.specs.Tables.{table_of, tables_of}
-use Rattle.live_firings.specs.Living.{Firings, live_above, live_from, live_seen}
-use Rattle.goal_trimming.specs.Doubted.{AreDoubted}
-use Rattle.goal_trimming.proofs.LostLemmas.{doubted_first}
-use Rattle.goal_trimming.proofs.TagLemmas.{left_depend}
+use Rattle.wave_parts.specs.LiveFiringsLiving.{Firings, live_above, live_from, live_seen}
+use Rattle.wave_parts.specs.Doubted.{AreDoubted}
+use Rattle.wave_parts.proofs.LostLemmas.{doubted_first}
+use Rattle.wave_parts.proofs.TagLemmas.{left_depend}
 use Rattle.learning_laws.specs.LawfulAgents.{IsNumbered}
-use Rattle.row_laws.specs.Kept.{RetractedKeepRange}
+use Rattle.wave_parts.specs.Kept.{RetractedKeepRange}
 use Rattle.soar_goals.specs.Known.{AreGoalsKnown as AreListKnown, AreItemsKnown}
 use Rattle.soar_prefs.specs.Memory.{PreferenceMemory}
 use Rattle.soar_record.specs.Recorded.{recorded}
@@ -40,7 +40,7 @@ use Rattle.soar_choose.specs.Rows.{AreInRange, IsFraction}
 use Rattle.soar_settle.specs.Known.{AreRowsKnown}
 use Rattle.soar_settle.proofs.FilterLemmas.{filter_shorter}
 use Rattle.settling_laws.proofs.MemberLemmas.{filter_within}
-use Rattle.wave_firings.specs.Numbered.{AreMakersOfFirings, AreOfFirings}
+use Rattle.wave_parts.specs.Numbered.{AreMakersOfFirings, AreOfFirings}
 use Rattle.wave_parts.proofs.KeptUpLemmas.{kept_renewed}
 use Rattle.wave_parts.specs.Modes.{is_fraction}
 use Rattle.wave_parts.specs.Remembers.{Remembers, roots_in}

@@ -18,3 +18,8 @@ pub use Rattle.wave_parts.specs.Teaching
 pub use Rattle.wave_parts.specs.declared.carrying.Done
 pub use Rattle.wave_parts.specs.declared.parts.Parts
 pub use Rattle.wave_parts.specs.declared.settings.Settings as SettingsType
+pub use Rattle.wave_parts.specs.LearnedRule
+pub use Rattle.wave_parts.specs.Taught
+pub use Rattle.wave_parts.specs.Knowing
+pub use Rattle.wave_parts.specs.Details
+pub use Rattle.wave_parts.specs.Levels

@@ -10,7 +10,7 @@ use step_report::{
     Settled, begin_part, say_changes, say_goal_limit_at, say_removals, say_selection_at,
     say_substate_at, says_in_turn,
 };
-use trace_details::CyclePart;
+use wave_parts::CyclePart;
 use trace_lines::{NewGoal, Selected};
 
 /// The line of a decision.

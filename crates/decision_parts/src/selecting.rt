@@ -17,7 +17,7 @@ use crate::ending::end_decision;
 use crate::pushing::push_goal;
 use crate::saying::DecisionLine;
 use defs_soar::{Impasse, Item};
-use input_queue::drop_word;
+use wave_parts::drop_word;
 use soar_sym::{List, Sym, Text};
 use std::alloc::Global;
 use step_report::Removed;

@@ -9,8 +9,8 @@ ghost use Rattle.wave_parts.specs.Seen.{IsSound, IsToSettle};
 ghost use Rattle.wave_parts.specs.Stands.{Stands};
 
 use decision_walk::{Decided, walk, walks_keep_goals};
-use row_laws::rows_fit_decisions;
-use soar_decide::View;
+use wave_parts::rows_fit_decisions;
+use decision_walk::View;
 use soar_sym::NoMemory;
 use std::alloc::Global;
 use wave_parts::Parts;

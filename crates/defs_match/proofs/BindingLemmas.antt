@@ -1,8 +1,8 @@
 -- The variables that a row binds are those that its conditions bind, in their order, so an instance tells its bindings.
 use Rattle.std.proofs.Common.{◌≡◌, refl, sym, ◌∙◌, ap, true, false, [], ◌∷◌, List, ℕ, ◌==◌, ◌||◌, ◌++◌, Bool, flat_map, map, cond, Option, Some, None, option_and_then, inl, inr, arith}
 use Rattle.std.specs.Bool.{⊤}
-use Rattle.soar_sym.specs.Equality.{symbol_eq}
-use Rattle.soar_sym.specs.declared.symbol.Sym.{Sym}
+use Rattle.soar_wm.specs.Equality.{symbol_eq}
+use Rattle.soar_wm.specs.Sym.{Sym}
 use Rattle.soar_rule.specs.declared.cond.Atom.TheVariants.{Const, Var}
 use Rattle.soar_rule.specs.declared.cond.Test.{Test}
 use Rattle.soar_rule.specs.declared.cond.Test.TheVariants.{Plain, Rel, OneOf}

@@ -1,7 +1,7 @@
 -- Matches that were worked out by hand. Word 24 is the attribute a, word 25 b, word 26 c and word 27 a value.
 use Rattle.std.specs.Prelude.{◌≡◌, ℕ, Bool, true, false, pos, List, [], ◌∷◌, map}
-use Rattle.soar_sym.specs.declared.symbol.Sym.{Sym}
-use Rattle.soar_sym.specs.declared.symbol.Sym.TheVariants.{Ident, Word, Int}
+use Rattle.soar_wm.specs.Sym.{Sym}
+use Rattle.soar_wm.specs.SymVariants.{Ident, Word, Int}
 use Rattle.soar_rule.specs.declared.cond.Atom.TheVariants.{Const, Var}
 use Rattle.soar_rule.specs.declared.cond.Relation.TheVariants.{Differ, SameKind}
 use Rattle.soar_rule.specs.declared.cond.Test.{Test}

@@ -1,4 +1,4 @@
-use soar_sym::{List, Sym};
+use soar_wm::{List, Sym};
 
 /// A match of a rule: the tags of its elements in the order of the conditions that took them,
 /// and what its variables stand for, in the order in which they were bound.

@@ -5,7 +5,7 @@ ghost use Rattle.defs_match.specs.Rules.{rule_seen};
 
 use shared_values::Shared;
 use soar_rule::Production;
-use soar_sym::NoMemory;
+use soar_wm::NoMemory;
 use std::alloc::Global;
 
 /// A loaded production, under the number by which rules are ordered. Whatever holds the rule shares the production.

@@ -15,3 +15,4 @@ pub mod Stages
 pub mod Transcripts
 pub mod Whole
 pub mod WholeReading
+pub use Rattle.defs_soar.specs.Pending

@@ -17,7 +17,7 @@ use Rattle.soar_rule.specs.declared.production.Support.TheVariants.{Unset}
 use Rattle.soar_rule.specs.Conditions.{Condition, positive, Conditions, all_of}
 use Rattle.soar_rule.specs.Productions.{atom_value, ValueOf, PreferenceOf, accepts, rejects, requires_it, prohibits, is_best, is_worst, is_indifferent, is_better_than, is_worse_than, is_indifferent_to, ActionOf, makes, ProductionOf}
 use Rattle.soar_rule.specs.Renaming.{conditions_with, action_with}
-use Rattle.soar_wm.specs.declared.element.Element.{Element}
+use Rattle.defs_match.specs.Element.{Element}
 use Rattle.defs_text.specs.Numbered.{word_in}
 use Rattle.defs_soar.specs.declared.preference.PrefKind.{PrefKind}
 use Rattle.defs_soar.specs.declared.preference.PrefKind.TheVariants as kind

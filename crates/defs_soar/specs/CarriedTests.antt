@@ -14,7 +14,7 @@ use Rattle.soar_rule.specs.declared.cond.Test.TheVariants.{Plain, Rel, OneOf}
 use Rattle.soar_rule.specs.declared.cond.Pattern.{Pattern}
 use Rattle.soar_rule.specs.Conditions.{positive, negated, conjunctive, Conditions, no_more, condition_and}
 use Rattle.soar_rule.specs.Equality.{relation_eq}
-use Rattle.soar_wm.specs.declared.element.Element.{Element}
+use Rattle.defs_match.specs.Element.{Element}
 use Rattle.defs_match.specs.Testing.{Bindings, symbol_at}
 use Rattle.defs_soar.specs.ChainIdentifiers.{firings_of, is_in_ground, is_made_by, is_goal_of_depth}
 use Rattle.defs_soar.specs.History.{FiringOf, ChainOf}

@@ -9,7 +9,7 @@ use Rattle.soar_sym.specs.declared.symbol.Sym.{Sym}
 use Rattle.defs_soar.specs.declared.firing.How.{How}
 use Rattle.defs_soar.specs.declared.firing.How.TheVariants as how
 use Rattle.defs_soar.specs.declared.firing.Used.{Used}
-use Rattle.soar_wm.specs.declared.element.Element.{Element}
+use Rattle.defs_match.specs.Element.{Element}
 use Rattle.defs_soar.specs.Architecture.{superstate_word}
 use Rattle.defs_soar.specs.Dependencies.{is_new_in}
 use Rattle.defs_soar.specs.History.{FiringOf, StepOf, architecture_step, item_step, select_step, fire_step, ChainOf}

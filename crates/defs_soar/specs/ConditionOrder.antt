@@ -11,7 +11,7 @@ use Rattle.soar_sym.specs.Order.{symbol_cmp}
 use Rattle.soar_sym.specs.Words.{Texts}
 use Rattle.soar_sym.specs.declared.symbol.Sym.{Sym}
 use Rattle.soar_rule.specs.Repeat.{repeated}
-use Rattle.soar_wm.specs.declared.element.Element.{Element}
+use Rattle.defs_match.specs.Element.{Element}
 use Rattle.defs_soar.specs.Sorted.{has_symbol, with_symbol}
 use Rattle.defs_soar.specs.Values.{is_identifier}
 

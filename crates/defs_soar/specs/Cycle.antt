@@ -3,7 +3,7 @@ use Rattle.std.specs.Prelude.{ℕ, suc, Bool, true, false, ◌&&◌, not, List, 
 use Rattle.soar_sym.specs.Words.{Texts}
 use Rattle.soar_sym.specs.declared.symbol.Triple.{Triple}
 use Rattle.soar_rule.specs.Repeat.{Turn, ends, goes_on, turns}
-use Rattle.soar_wm.specs.WorkingMemory.{triple_of}
+use Rattle.defs_match.specs.WorkingMemory.{triple_of}
 use Rattle.defs_soar.specs.Agents.{Agent, Queued}
 use Rattle.defs_soar.specs.Architecture.{output_identifier}
 use Rattle.defs_soar.specs.Events.{Part, input_phase, proposal_phase, application_phase, output_phase, Event, begins, is_cut, shows_no_longer, shows, halts}

@@ -1,7 +1,7 @@
 -- Firings as they are recorded, and explanations, as plain data.
 use Rattle.std.specs.Prelude.{ℕ, Bool, List, map, Option}
 use Rattle.soar_sym.specs.declared.symbol.Sym.{Sym}
-use Rattle.soar_wm.specs.declared.element.Element.{Element}
+use Rattle.defs_match.specs.Element.{Element}
 use Rattle.defs_match.specs.Rules.{RuleOf, rule_seen}
 use Rattle.defs_match.specs.declared.instance.Instance.{Instance}
 use Rattle.defs_soar.specs.declared.chain.Chain.{Chain}

@@ -7,7 +7,7 @@ use Rattle.soar_sym.specs.Words.{Texts}
 use Rattle.soar_sym.specs.declared.symbol.Sym.{Sym}
 use Rattle.soar_rule.specs.Productions.{ProductionOf}
 use Rattle.soar_rule.specs.Symbols.{constants_of}
-use Rattle.soar_wm.specs.declared.element.Element.{Element}
+use Rattle.defs_match.specs.Element.{Element}
 use Rattle.defs_match.specs.Conflict.{bindings_of}
 use Rattle.defs_match.specs.Rules.{RuleOf}
 use Rattle.defs_soar.specs.declared.preference.Wish.{Wish}

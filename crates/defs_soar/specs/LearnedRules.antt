@@ -9,7 +9,7 @@ use Rattle.std.specs.Str.{bytes_eq}
 use Rattle.soar_sym.specs.Words.{Texts, with_text}
 use Rattle.soar_sym.specs.declared.symbol.Sym.{Sym}
 use Rattle.soar_rule.specs.Productions.{ProductionOf}
-use Rattle.soar_wm.specs.declared.element.Element.{Element}
+use Rattle.defs_match.specs.Element.{Element}
 use Rattle.defs_text.specs.Numbered.{word_in}
 use Rattle.defs_match.specs.Rules.{RuleOf}
 use Rattle.defs_soar.specs.declared.learning.Cause.{Cause}

@@ -11,7 +11,7 @@ use Rattle.soar_rule.specs.Canonical.{canonical}
 use Rattle.soar_rule.specs.Equality.{same_body}
 use Rattle.soar_rule.specs.Productions.{ProductionOf}
 use Rattle.soar_rule.specs.Sizes.{size_of_all}
-use Rattle.soar_wm.specs.declared.element.Element.{Element}
+use Rattle.defs_match.specs.Element.{Element}
 use Rattle.defs_match.specs.Rules.{RuleOf}
 use Rattle.defs_soar.specs.declared.learning.Cause.{Cause}
 use Rattle.defs_soar.specs.declared.learning.Cause.TheVariants as cause

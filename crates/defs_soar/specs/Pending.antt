@@ -3,7 +3,7 @@ use Rattle.std.specs.Prelude.{ℕ, Bool, true, false, ◌&&◌, ◌==◌, not, m
 use Rattle.std.specs.List.{list_any}
 use Rattle.soar_rule.specs.declared.production.Kind.{Kind}
 use Rattle.soar_rule.specs.declared.production.Kind.TheVariants as kind
-use Rattle.soar_wm.specs.declared.element.Element.{Element}
+use Rattle.defs_match.specs.Element.{Element}
 use Rattle.defs_match.specs.Conflict.{bindings_of, instances_of, conflict}
 use Rattle.defs_match.specs.Rules.{RuleOf}
 use Rattle.defs_match.specs.Testing.{Bindings}

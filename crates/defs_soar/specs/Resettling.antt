@@ -1,7 +1,7 @@
 -- An agent settled anew, and what that step told and drew (Soar manual, chapter 2, elaboration cycle).
 use Rattle.std.specs.Prelude.{◌+◌, Bool, false, ◌==◌, not, List, [], ◌∷◌, ◌++◌, map, filter, length}
 use Rattle.std.specs.List.{list_any}
-use Rattle.soar_wm.specs.declared.element.Element.{Element}
+use Rattle.defs_match.specs.Element.{Element}
 use Rattle.defs_soar.specs.Agents.{Agent}
 use Rattle.defs_soar.specs.Events.{Event, removes, goes, comes}
 use Rattle.defs_soar.specs.Limits.{Total, elements_to, tags_to}

@@ -3,8 +3,8 @@
 -- What a firing explained before may hold no longer when learning comes to it. Then nothing is learned, and the cause is told.
 use Rattle.std.specs.Prelude.{ℕ, suc, List, [], ◌∷◌, Option, Some, None}
 use Rattle.soar_rule.specs.Conditions.{Condition, positive, negated, conjunctive}
-use Rattle.soar_wm.specs.declared.element.Element.{Element}
-use Rattle.soar_wm.specs.WorkingMemory.{element_of}
+use Rattle.defs_match.specs.Element.{Element}
+use Rattle.defs_match.specs.WorkingMemory.{element_of}
 use Rattle.defs_match.specs.Rows.{Row, empty_row, extend, rows_from}
 
 -- the least tag of a ground that working memory has no longer; grounds are in order of tag

@@ -5,7 +5,7 @@ use Rattle.std.specs.Prelude.{◌==◌}
 use Rattle.soar_sym.specs.Letters.{with_last}
 use Rattle.soar_sym.specs.Words.{architecture}
 use Rattle.soar_sym.specs.declared.symbol.Sym.{Sym}
-use Rattle.soar_wm.specs.declared.element.Element.{Element}
+use Rattle.defs_match.specs.Element.{Element}
 use Rattle.defs_soar.specs.declared.choice.Mode.TheVariants as mode
 use Rattle.defs_soar.specs.declared.goal.Impasse.TheVariants as impasse
 use Rattle.defs_soar.specs.Agents.{Agent, Holding, Program, Counts, Settings}

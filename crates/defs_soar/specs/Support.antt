@@ -7,7 +7,7 @@ use Rattle.soar_rule.specs.declared.cond.Atom.{Atom}
 use Rattle.soar_rule.specs.declared.cond.Atom.TheVariants.{Const, Var}
 use Rattle.soar_rule.specs.declared.production.Support.{Support}
 use Rattle.soar_rule.specs.declared.production.Support.TheVariants as support
-use Rattle.soar_wm.specs.declared.element.Element.{Element}
+use Rattle.defs_match.specs.Element.{Element}
 use Rattle.soar_rule.specs.declared.cond.Test.{Test}
 use Rattle.soar_rule.specs.declared.cond.Test.TheVariants.{Plain}
 use Rattle.soar_rule.specs.declared.cond.Field.{Field}

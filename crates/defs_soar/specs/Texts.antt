@@ -4,8 +4,8 @@ use Rattle.std.specs.Fmt.{decimal}
 use Rattle.soar_sym.specs.Words.{Texts}
 use Rattle.soar_sym.specs.declared.symbol.Sym.{Sym}
 use Rattle.soar_sym.specs.declared.symbol.Triple.{Triple}
-use Rattle.soar_wm.specs.declared.element.Element.{Element}
-use Rattle.soar_wm.specs.WorkingMemory.{triple_of}
+use Rattle.defs_match.specs.Element.{Element}
+use Rattle.defs_match.specs.WorkingMemory.{triple_of}
 use Rattle.defs_text.specs.Symbols.{symbol_text, instance_text}
 use Rattle.defs_match.specs.declared.instance.Instance.{Instance}
 use Rattle.defs_soar.specs.declared.preference.PrefKind.{PrefKind}

@@ -4,8 +4,8 @@ use Rattle.std.specs.List.{list_any}
 use Rattle.soar_sym.specs.declared.symbol.Sym.{Sym}
 use Rattle.soar_sym.specs.declared.symbol.Triple.{Triple}
 use Rattle.soar_rule.specs.Repeat.{Turn, ends, goes_on, turns}
-use Rattle.soar_wm.specs.declared.element.Element.{Element}
-use Rattle.soar_wm.specs.WorkingMemory.{triple_of, element_of}
+use Rattle.defs_match.specs.Element.{Element}
+use Rattle.defs_match.specs.WorkingMemory.{triple_of, element_of}
 use Rattle.defs_soar.specs.declared.goal.Goal.{Goal}
 use Rattle.defs_soar.specs.declared.preference.Preference.{Preference}
 use Rattle.defs_soar.specs.Agents.{LiveFiring}

@@ -6,7 +6,7 @@ use Rattle.std.specs.Prelude.{ℕ, ◌&&◌, not, List, [], ◌∷◌, flat_map,
 use Rattle.soar_sym.specs.Words.{Texts}
 use Rattle.soar_sym.specs.declared.symbol.Sym.{Sym}
 use Rattle.soar_rule.specs.Symbols.{constants_of_condition}
-use Rattle.soar_wm.specs.declared.element.Element.{Element}
+use Rattle.defs_match.specs.Element.{Element}
 use Rattle.defs_soar.specs.declared.preference.Wish.{Wish}
 use Rattle.defs_soar.specs.CarriedTests.{Carried, carried_tests}
 use Rattle.defs_soar.specs.ChainIdentifiers.{is_made_by}

@@ -2,7 +2,7 @@
 use Rattle.std.specs.Prelude.{ℕ, zero, suc, Bool, true, false, ◌&&◌, ◌==◌, nat_lt, List, [], ◌∷◌, map, length, Option, Some, None, if◌then◌else◌}
 use Rattle.soar_sym.specs.Equality.{symbol_eq}
 use Rattle.soar_sym.specs.declared.symbol.Sym.{Sym}
-use Rattle.soar_wm.specs.declared.element.Element.{Element}
+use Rattle.defs_match.specs.Element.{Element}
 use Rattle.defs_soar.specs.declared.choice.Choice.{Choice}
 use Rattle.defs_soar.specs.declared.choice.Choice.TheVariants as choice
 use Rattle.defs_soar.specs.declared.choice.Mode.{Mode}

@@ -1,7 +1,7 @@
 -- The firings of a wave (Soar manual, chapter 2, elaboration cycle).
 use Rattle.std.specs.Prelude.{suc, Bool, false, ◌||◌, List, [], ◌∷◌, ◌++◌, map}
 use Rattle.soar_rule.specs.Symbols.{constants_of}
-use Rattle.soar_wm.specs.WorkingMemory.{triple_of}
+use Rattle.defs_match.specs.WorkingMemory.{triple_of}
 use Rattle.defs_soar.specs.Agents.{Agent}
 use Rattle.defs_soar.specs.Events.{fires}
 use Rattle.defs_soar.specs.Firing.{MadeSoFar, made_by}

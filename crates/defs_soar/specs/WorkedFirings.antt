@@ -7,7 +7,7 @@ use Rattle.soar_rule.specs.declared.action.Func.TheVariants as func
 use Rattle.soar_rule.specs.declared.production.Kind.TheVariants.{User}
 use Rattle.soar_rule.specs.declared.production.Support.{Support}
 use Rattle.soar_rule.specs.declared.production.Support.TheVariants as support
-use Rattle.soar_wm.specs.declared.element.Element.{Element}
+use Rattle.defs_match.specs.Element.{Element}
 use Rattle.soar_rule.specs.Conditions.{no_more}
 use Rattle.soar_rule.specs.Productions.{ValueOf, atom_value, call_value, values_of, accepts, is_better_than, is_indifferent_to, makes, ActionOf, ProductionOf}
 use Rattle.defs_soar.specs.declared.firing.DropCause.TheVariants as cause

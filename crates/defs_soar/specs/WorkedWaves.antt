@@ -6,9 +6,9 @@ use Rattle.soar_rule.specs.declared.cond.Atom.TheVariants.{Const, Var}
 use Rattle.soar_rule.specs.declared.action.Func.TheVariants as func
 use Rattle.soar_rule.specs.declared.production.Kind.TheVariants.{User}
 use Rattle.soar_rule.specs.declared.production.Support.TheVariants as support
-use Rattle.soar_wm.specs.declared.element.Element.{Element}
+use Rattle.defs_match.specs.Element.{Element}
 use Rattle.soar_rule.specs.declared.cond.Test.TheVariants.{Plain}
-use Rattle.soar_wm.specs.WorkingMemory.{triple_of}
+use Rattle.defs_match.specs.WorkingMemory.{triple_of}
 use Rattle.soar_rule.specs.Conditions.{positive, no_more, condition_and}
 use Rattle.soar_rule.specs.Productions.{atom_value, call_value, values_of, accepts, makes}
 use Rattle.defs_match.specs.Rules.{RuleOf}

@@ -1,7 +1,7 @@
 use crate::firing::Firing;
 use crate::preference::Wish;
 use soar_sym::List;
-use soar_wm::Element;
+use defs_match::Element;
 
 /// A step of an explanation.
 #[derive(Drop)]

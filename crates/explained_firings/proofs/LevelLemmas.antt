@@ -11,7 +11,7 @@ use Rattle.defs_soar.specs.Goals.{goal_ids}
 use Rattle.defs_soar.specs.Levels.{first_place, level, or_reached, reached_from, reaches}
 use Rattle.defs_soar.specs.Sorted.{has_symbol}
 use Rattle.level_laws.specs.Labels.{as_told}
-use Rattle.kept_triples.specs.Kept.{KeptOf, level_in_kept}
+use Rattle.firing_records.specs.Kept.{KeptOf, level_in_kept}
 use Rattle.firing_records.specs.Levels.{TellsLevels}
 use Rattle.firing_records.specs.Recorded.{Standing, reach_of}
 

@@ -1,1 +1,2 @@
 pub mod Explaining
+pub use Rattle.chunk_results.specs.Reached

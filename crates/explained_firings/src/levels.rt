@@ -1,7 +1,7 @@
-ghost use Rattle.kept_triples.specs.Kept.{level_in_kept};
+ghost use Rattle.firing_records.specs.Kept.{level_in_kept};
 
 use defs_soar::Leveled;
-use kept_triples::Kept;
+use firing_records::Kept;
 use soar_sym::Sym;
 
 /// The levels of what is kept.

@@ -4,7 +4,7 @@ use Rattle.soar_sym.specs.declared.symbol.Sym.{Sym}
 use Rattle.soar_sym.specs.declared.symbol.Triple.{Triple}
 use Rattle.defs_soar.specs.declared.goal.Goal.{Goal}
 use Rattle.defs_soar.specs.Levels.{level}
-use Rattle.level_laws.specs.Labels.{as_told}
+use Rattle.soar_levels.specs.Labels.{as_told}
 use Rattle.kept_triples.specs.Kept.{KeptOf, level_in_kept}
 
 -- what is told of each symbol is its level over these triples, 2^32 - 1 at most

@@ -15,3 +15,5 @@ pub use among::goals_of;
 pub use before::Before;
 pub use outcome::Recorded;
 pub use recording::recorded;
+pub use kept_triples::Kept;
+pub use soar_levels::operator_kind;

@@ -4,7 +4,7 @@ ghost use Rattle.defs_soar.specs.Uses.{maker_of, makes_element};
 ghost use Rattle.firing_records.specs.Makers.{least_maker, lesser};
 
 use defs_soar::{PrefKind, Preference};
-use soar_prefs::Prefs;
+use kept_triples::Prefs;
 use soar_sym::{NoMemory, is_symbol};
 use soar_wm::Element;
 use std::alloc::Global;

@@ -4,7 +4,7 @@ ghost use Rattle.defs_soar.specs.Goals.{goal_elements};
 ghost use Rattle.firing_records.specs.Own.{HasSame};
 
 use defs_soar::Goal;
-use soar_settle::{TripleSet, add_goal_elements};
+use kept_triples::{TripleSet, add_goal_elements};
 use soar_sym::{List, NoMemory, Triple};
 use std::alloc::Global;
 

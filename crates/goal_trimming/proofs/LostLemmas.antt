@@ -10,7 +10,7 @@ use Rattle.defs_soar.specs.Trimming.{is_lost}
 use Rattle.defs_soar.specs.Values.{has_triple_among}
 use Rattle.settling_laws.proofs.SymbolOrderLemmas.{symbol_same}
 use Rattle.soar_prefs.specs.Memory.{has_plain}
-use Rattle.soar_settle.proofs.TripleOrderLemmas.{both}
+use Rattle.kept_triples.proofs.TripleOrderLemmas.{both}
 use Rattle.touched_tags.specs.Looked.{first_with as element_with}
 use Rattle.touched_tags.proofs.FirstLemmas.{at_tag_in, in_is_first}
 use Rattle.touched_tags.proofs.MemberLemmas.{same_some}

@@ -5,3 +5,4 @@ mod broken;
 mod trimming;
 
 pub use trimming::trim;
+pub use touched_tags::retag_touched;

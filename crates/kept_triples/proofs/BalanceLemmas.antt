@@ -2,7 +2,7 @@
 use Rattle.std.proofs.Common.{◌≡◌, ℕ, suc, ◌+◌, Bool, true, false, cond, List, [], ◌∷◌, ◌++◌, length, filter, ap, refl, sym, ◌∙◌, arith}
 use Rattle.soar_sym.specs.declared.symbol.Sym.{Sym}
 use Rattle.soar_sym.specs.declared.symbol.Triple.{Triple}
-use Rattle.level_laws.specs.Labels.{leads}
+use Rattle.level_change.specs.Labels.{leads}
 use Rattle.level_change.specs.Counts.{edge_count, IsChanged}
 use Rattle.kept_triples.specs.Counts.{how_many}
 use Rattle.kept_triples.specs.Looking.{Balances}

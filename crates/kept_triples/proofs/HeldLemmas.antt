@@ -9,8 +9,8 @@ use Rattle.defs_soar.specs.Laws.{IsIn}
 use Rattle.defs_soar.specs.Values.{has_triple_among, triple_eq}
 use Rattle.settling_laws.specs.Changes.{own_triples, rows_hold, HasLinks}
 use Rattle.settling_laws.proofs.WhenLemmas.{triple_is_held_when}
-use Rattle.soar_prefs.specs.Memory.{has_plain}
-use Rattle.level_laws.proofs.SymbolLemmas.{symbol_self}
+use Rattle.soar_settle.specs.Memory.{has_plain}
+use Rattle.level_change.proofs.SymbolLemmas.{symbol_self}
 use Rattle.kept_triples.specs.Kept.{IsCovered}
 use Rattle.kept_triples.specs.Looking.{is_held_now}
 use Rattle.kept_triples.proofs.KeyLemmas.{triple_is}

@@ -4,3 +4,4 @@ pub mod KeyLemmas
 pub mod LookLemmas
 pub mod OwnLemmas
 pub mod SetLemmas
+pub use Rattle.soar_settle.proofs.TripleOrderLemmas

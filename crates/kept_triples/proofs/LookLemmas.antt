@@ -4,8 +4,8 @@ use Rattle.soar_sym.specs.Equality.{mark_eq, symbol_eq}
 use Rattle.soar_sym.specs.declared.symbol.Triple.{Triple}
 use Rattle.defs_soar.specs.Values.{has_triple_among, triple_eq}
 use Rattle.settling_laws.specs.Changes.{has_value}
-use Rattle.soar_prefs.specs.Memory.{has_plain}
-use Rattle.level_laws.proofs.SymbolLemmas.{symbol_same, symbol_turned}
+use Rattle.soar_settle.specs.Memory.{has_plain}
+use Rattle.level_change.proofs.SymbolLemmas.{symbol_same, symbol_turned}
 use Rattle.kept_triples.specs.Looking.{with_mark}
 
 -- ---- one triple

@@ -9,9 +9,9 @@ use Rattle.defs_soar.specs.Held.{held}
 use Rattle.defs_soar.specs.Levels.{level}
 use Rattle.defs_soar.specs.Values.{has_triple_among}
 use Rattle.settling_laws.specs.Changes.{own_triples, SameSupport}
-use Rattle.level_laws.specs.Labels.{as_told}
+use Rattle.level_change.specs.Labels.{as_told}
 use Rattle.level_change.specs.Graph.{Graph, level_in_graph, Stands}
-use Rattle.soar_prefs.specs.Memory.{has_plain}
+use Rattle.soar_settle.specs.Memory.{has_plain}
 
 -- the triples, each once, the levels over them, and the goals' own elements and identifiers
 pub record KeptOf : Type 0 where

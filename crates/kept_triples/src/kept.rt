@@ -6,7 +6,7 @@ ghost use Rattle.defs_soar.specs.declared.goal.Goal.{Goal as GoalOf};
 ghost use Rattle.defs_soar.specs.declared.preference.Preference.{Preference as PreferenceOf};
 ghost use Rattle.defs_soar.specs.Sorted.{has_symbol};
 ghost use Rattle.defs_soar.specs.Values.{has_triple_among};
-ghost use Rattle.soar_prefs.specs.Memory.{has_plain};
+ghost use Rattle.soar_settle.specs.Memory.{has_plain};
 ghost use Rattle.kept_triples.specs.Kept.{level_in_kept, HoldsTriples, IsCovered, OwnIs};
 
 use crate::looking::{Difference, look_at_all};
@@ -15,7 +15,7 @@ use crate::triples::TripleSet;
 use defs_soar::Goal;
 use input_memory::Inputs;
 use level_change::LevelGraph;
-use soar_prefs::Prefs;
+use soar_settle::Prefs;
 use soar_sym::{List, NoMemory, Sym, Triple};
 use std::alloc::Global;
 use std::marker::Model;

@@ -10,3 +10,4 @@ mod triples;
 pub use kept::Kept;
 pub use laws::kept_levels_are_levels;
 pub use own::Own;
+pub use soar_settle::{Prefs, TripleSet, add_goal_elements};

@@ -3,14 +3,14 @@ ghost use Rattle.std.specs.Prelude.{◌≡◌, ◌||◌, ◌&&◌, [], not, cond
 ghost use Rattle.soar_sym.specs.declared.symbol.Triple.{Triple as TripleOf};
 ghost use Rattle.defs_soar.specs.Values.{has_triple_among, triple_eq};
 ghost use Rattle.settling_laws.specs.Changes.{has_value, rows_hold};
-ghost use Rattle.soar_prefs.specs.Memory.{has_plain};
+ghost use Rattle.soar_settle.specs.Memory.{has_plain};
 ghost use Rattle.kept_triples.specs.Looking.{Balances, is_held_now, with_mark};
 
 use crate::own::Own;
 use crate::triples::TripleSet;
 use defs_soar::{Goal, is_operator_slot};
 use input_memory::Inputs;
-use soar_prefs::Prefs;
+use soar_settle::Prefs;
 use soar_sym::{List, NoMemory, Triple};
 use std::alloc::Global;
 

@@ -11,7 +11,7 @@ use Rattle.defs_soar.specs.declared.preference.Wish.{Wish}
 use Rattle.defs_soar.specs.Support.{goal_at_depth, match_depth, operator_kind}
 use Rattle.defs_soar.specs.Uses.{all_uses, elements_matched}
 use Rattle.defs_soar.specs.WaveAtHand.{goals_among}
-use Rattle.firing_records.specs.Recorded.{RecordedAs, Standing, reach_of, recorded_as}
+use Rattle.wave_entries.specs.Recorded.{RecordedAs, Standing, reach_of, recorded_as}
 use Rattle.learning_laws.proofs.InstanceLaws.{matched_again}
 use Rattle.learned_firings.specs.Deciding.{AreThere}
 use Rattle.learned_firings.specs.Firings.{learned_as}

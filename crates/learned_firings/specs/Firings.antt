@@ -12,7 +12,7 @@ use Rattle.defs_soar.specs.Events.{LearningEvent, learning}
 use Rattle.defs_soar.specs.LearnedFirings.{learned_firing}
 use Rattle.defs_soar.specs.Support.{goal_at_depth, operator_kind}
 use Rattle.defs_soar.specs.WaveAtHand.{BeforeWave, Fresh, supported_wish}
-use Rattle.firing_records.specs.Recorded.{RecordedAs, Standing, reach_of}
+use Rattle.wave_entries.specs.Recorded.{RecordedAs, Standing, reach_of}
 
 -- what was before a wave, for the firings of learned rules: neither the history nor the settings count
 abbrev pub moment : Standing → BeforeWave

@@ -5,13 +5,13 @@ ghost use Rattle.soar_rule.specs.Variables.{bound_variables};
 ghost use Rattle.defs_match.specs.Conflict.{paired};
 ghost use Rattle.defs_match.specs.Rules.{rule_seen};
 ghost use Rattle.defs_soar.specs.Support.{operator_kind as kind_of};
-ghost use Rattle.firing_records.specs.Recorded.{standing};
+ghost use Rattle.wave_entries.specs.Recorded.{standing};
 ghost use Rattle.learned_firings.specs.Deciding.{AreThere, deciding, tags_if, tells_selected, with_seen};
 
 use chain_identifiers::is_among;
 use defs_match::{Instance, Rule};
-use firing_records::Before;
-use soar_levels::operator_kind;
+use wave_entries::Before;
+use wave_entries::operator_kind;
 use soar_sym::architecture::OPERATOR;
 use soar_sym::{List, Sym, is_symbol};
 use soar_wm::Element;

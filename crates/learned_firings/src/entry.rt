@@ -2,15 +2,15 @@
 ghost use Rattle.std.specs.Prelude.{◌≡◌, map, IfOk};
 ghost use Rattle.defs_soar.specs.WaveAtHand.{fired, supported_wish};
 ghost use Rattle.wave_entries.specs.Entries.{entry_seen, held_seen};
-ghost use Rattle.trace_details.specs.Lessons.{lesson_seen};
-ghost use Rattle.firing_records.specs.Recorded.{recorded_seen};
+ghost use Rattle.wave_entries.specs.Lessons.{lesson_seen};
+ghost use Rattle.wave_entries.specs.Recorded.{recorded_seen};
 ghost use Rattle.learned_firings.specs.Firings.{told_as_learned};
 
 use defs_soar::{Goal, Wish, is_operator_slot};
-use firing_records::Recorded;
+use wave_entries::Recorded;
 use soar_sym::{List, Text};
 use std::alloc::{AllocError, Global};
-use trace_details::{HeldBy, Lesson};
+use wave_entries::{HeldBy, Lesson};
 use wave_entries::{Entry, Fresh, Heading, HeldWish, Told};
 
 /// A firing of a learned rule, under what was learned, with the preferences that it takes over.

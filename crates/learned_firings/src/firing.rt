@@ -4,14 +4,14 @@ ghost use Rattle.soar_rule.specs.Symbols.{AreKnown};
 ghost use Rattle.soar_rule.specs.Variables.{bound_variables};
 ghost use Rattle.defs_match.specs.Rules.{rule_seen};
 ghost use Rattle.defs_soar.specs.Goals.{goal_ids};
-ghost use Rattle.firing_records.specs.Recorded.{recorded_seen, standing};
+ghost use Rattle.wave_entries.specs.Recorded.{recorded_seen, standing};
 ghost use Rattle.learned_firings.specs.Deciding.{AreThere};
 ghost use Rattle.learned_firings.specs.Firings.{learned_as};
 
 use crate::deciding::learned_kind;
 use defs_match::{Instance, Rule};
 use defs_soar::Wish;
-use firing_records::{Before, Recorded, goals_of, recorded};
+use wave_entries::{Before, Recorded, goals_of, recorded};
 use soar_sym::{List, NoMemory, Sym, SymTable};
 use soar_wm::Element;
 use std::alloc::{AllocError, Global};

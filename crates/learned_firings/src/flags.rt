@@ -1,12 +1,12 @@
 // How the preferences of a firing are held, where some of them go over to what is learned.
 ghost use Rattle.std.specs.Prelude.{◌≡◌, map, IfOk};
-ghost use Rattle.trace_details.specs.Details.{support_of};
+ghost use Rattle.wave_entries.specs.Details.{support_of};
 ghost use Rattle.wave_entries.specs.Entries.{entry_seen, fresh_at_hand, held_seen};
 ghost use Rattle.learned_firings.specs.Flags.{flagged, held_if, first_flag, flags_behind, with_flags, with_flags_held};
 
 use soar_sym::List;
 use std::alloc::{AllocError, Global};
-use trace_details::HeldBy;
+use wave_entries::HeldBy;
 use wave_entries::{Entry, Fresh, HeldWish, Told};
 
 /// The entries, with the flagged preferences of the firing of a number held in this way.

@@ -73,3 +73,5 @@ pub mod WalkLaws
 pub mod WaveLearning
 pub mod WorkLaws
 pub mod WorkedLaws
+pub use Rattle.settling_laws.proofs.RepeatLemmas
+pub use Rattle.settling_laws.proofs.SettlingLemmas

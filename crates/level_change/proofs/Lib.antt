@@ -13,3 +13,4 @@ pub mod StandLemmas
 pub mod SeedLemmas
 pub mod SpreadLemmas
 pub mod TotalLemmas
+pub use Rattle.level_laws.proofs.SymbolLemmas

@@ -8,3 +8,4 @@ pub mod Graph
 pub mod Passing
 pub mod Seeds
 pub mod Told
+pub use Rattle.level_laws.specs.Labels

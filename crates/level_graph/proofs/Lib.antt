@@ -6,3 +6,4 @@ pub mod MapLemmas
 pub mod MarkLemmas
 pub mod PassLemmas
 pub mod PassSteps
+pub use Rattle.level_laws.proofs.SymbolLemmas

@@ -11,7 +11,7 @@ use crate::reading::{came, of_keys, settle, went};
 use crate::store::Store;
 use boxed_values::Boxed;
 use match_changes::MatchKey;
-use soar_prefs::Prefs;
+use soar_settle::Prefs;
 use soar_sym::{List, NoMemory};
 use std::alloc::Global;
 use std::collections::BTreeSet;

@@ -9,3 +9,4 @@ mod store;
 
 pub use firings::{LiveFirings, News};
 pub use live::{Live, copy_of};
+pub use soar_settle::Changes;

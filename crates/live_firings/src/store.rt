@@ -13,7 +13,7 @@ use crate::index::{self, Index};
 use crate::live::Live;
 use boxed_values::Boxed;
 use open_instances::key_of;
-use soar_prefs::Prefs;
+use soar_settle::Prefs;
 use soar_sym::NoMemory;
 use std::alloc::Global;
 use std::collections::BTreeMap;

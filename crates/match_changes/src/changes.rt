@@ -1,5 +1,5 @@
 ghost use Rattle.std.specs.Prelude.{◌≡◌, false, true, IfOk, OnOk, OnErr};
-ghost use Rattle.soar_wm.specs.WorkingMemory.{without_tag};
+ghost use Rattle.defs_match.specs.WorkingMemory.{without_tag};
 ghost use Rattle.defs_match.specs.Conflict.{conflict};
 ghost use Rattle.defs_match.specs.Contents.{with_element, with_rule, IsNewElement, HasTag, IsNewRule, Works};
 ghost use Rattle.defs_match.specs.Rules.{rule_seen};
@@ -8,7 +8,7 @@ ghost use Rattle.match_changes.specs.Told.{AreTold, IsTheOne, of_rule};
 use crate::key::MatchKey;
 use defs_match::{Instance, Matcher, Rule};
 use soar_sym::{List, NoMemory};
-use soar_wm::Element;
+use defs_match::Element;
 use std::alloc::Global;
 
 /// A matcher that tells what its calls change of the conflict set.

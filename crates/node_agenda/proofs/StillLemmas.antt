@@ -7,8 +7,8 @@ use Rattle.node_memory.specs.Changes.{RowsChange, ElementsChange}
 use Rattle.node_memory.specs.Memories.{Found}
 use Rattle.node_memory.specs.Held.{listed, Holds, SameElements}
 use Rattle.node_memory.proofs.ChangeLemmas.{in_join}
-use Rattle.join_parts.proofs.KnownLemmas.{not_taken}
-use Rattle.negation_parts.proofs.NegationLemmas.{in_kept}
+use Rattle.node_table.proofs.KnownLemmas.{not_taken}
+use Rattle.node_table.proofs.NegationLemmas.{in_kept}
 use Rattle.node_table.specs.declared.node.Step.{Step}
 use Rattle.node_table.specs.declared.node.Step.TheVariants.{Join, Negation}
 use Rattle.node_table.specs.Serving.{LeavesOut, stepped}

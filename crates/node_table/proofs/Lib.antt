@@ -13,3 +13,5 @@ pub mod NumberLemmas
 pub mod OrderLemmas
 pub mod ServingLemmas
 pub mod StandLemmas
+pub use Rattle.negation_parts.proofs.NegationLemmas
+pub use Rattle.join_parts.proofs.KnownLemmas

@@ -14,3 +14,4 @@ pub use answer::{Open, Outstanding};
 pub use compared::Compared;
 pub use comparing::compare;
 pub use followed::Followed;
+pub use live_firings::Live;

@@ -12,7 +12,7 @@ use Rattle.defs_match.specs.Rules.{RuleOf}
 use Rattle.defs_match.specs.Testing.{Bindings}
 use Rattle.defs_match.specs.declared.instance.Instance.{Instance}
 use Rattle.pending_work.specs.Firables.{AreNumbered, AreBound, IsBelowRules, IsBoundBy, IsInstance, rules_of}
-use Rattle.soar_settle.specs.Known.{AreElementsKnown, AreInstancesKnown}
+use Rattle.outstanding.specs.Known.{AreElementsKnown, AreInstancesKnown}
 use Rattle.pending_work.proofs.BindingLemmas.{HoldIn, HoldOf, RowsBind, rows_bind}
 use Rattle.pending_work.proofs.RuleLemmas.{AreAbove, above_conflict, later_number, own_number}
 

@@ -7,8 +7,8 @@ use Rattle.defs_match.specs.Rules.{RuleOf}
 use Rattle.defs_match.specs.declared.instance.Instance.{Instance}
 use Rattle.defs_soar.specs.declared.goal.Goal.{Goal}
 use Rattle.defs_soar.specs.Pending.{is_listed}
-use Rattle.live_firings.specs.Living.{live_seen}
-use Rattle.live_firings.specs.declared.live.Live.{Live}
+use Rattle.outstanding.specs.Living.{live_seen}
+use Rattle.outstanding.specs.Live.{Live}
 use Rattle.outstanding.specs.Outstanding.{unfired}
 use Rattle.pending_work.specs.Candidates.{fires_by, fires_now}
 use Rattle.pending_work.specs.Open.{can_fire_by, can_fire_now}

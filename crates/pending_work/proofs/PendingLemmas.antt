@@ -12,9 +12,9 @@ use Rattle.pending_work.specs.declared.work.Work.{Work}
 use Rattle.pending_work.specs.Active.{active_of, depth_at, level_of}
 use Rattle.pending_work.specs.Candidates.{fires_now}
 use Rattle.pending_work.specs.Firables.{AreBound, AreNumbered, IsPending, firables_for}
-use Rattle.live_firings.specs.Living.{live_seen}
-use Rattle.live_firings.specs.declared.live.Live.{Live}
-use Rattle.soar_settle.specs.Known.{AreElementsKnown, AreInstancesKnown}
+use Rattle.outstanding.specs.Living.{live_seen}
+use Rattle.outstanding.specs.Live.{Live}
+use Rattle.outstanding.specs.Known.{AreElementsKnown, AreInstancesKnown}
 use Rattle.pending_work.proofs.ConflictLemmas.{bound_conflict, bound_filter, known_conflict, known_filter}
 use Rattle.pending_work.proofs.FirableLemmas.{depths_agree, fires_agree, level_agrees}
 use Rattle.pending_work.proofs.RuleLemmas.{firables_conflict}

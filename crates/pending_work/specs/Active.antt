@@ -5,7 +5,7 @@ use Rattle.defs_match.specs.declared.instance.Instance.{Instance}
 use Rattle.defs_soar.specs.declared.goal.Goal.{Goal}
 use Rattle.defs_soar.specs.Pending.{elements_of_tags, least}
 use Rattle.defs_soar.specs.Support.{match_depth}
-use Rattle.live_firings.specs.declared.live.Live.{Live}
+use Rattle.outstanding.specs.Live.{Live}
 use Rattle.pending_work.specs.declared.work.Work.{Work}
 
 -- the depth of the instance's match goal

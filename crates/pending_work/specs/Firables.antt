@@ -6,7 +6,7 @@ use Rattle.defs_match.specs.Contents.{is_numbered}
 use Rattle.defs_match.specs.Rules.{RuleOf}
 use Rattle.defs_match.specs.declared.instance.Instance.{Instance}
 use Rattle.defs_soar.specs.Pending.{Firable, Work as WorkOf, firable_of}
-use Rattle.live_firings.specs.Living.{live_seen}
+use Rattle.outstanding.specs.Living.{live_seen}
 use Rattle.pending_work.specs.declared.work.Work.{Work}
 
 -- each number is below all that come after it

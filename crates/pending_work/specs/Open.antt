@@ -6,7 +6,7 @@ use Rattle.defs_match.specs.Rules.{RuleOf}
 use Rattle.defs_match.specs.declared.instance.Instance.{Instance}
 use Rattle.defs_soar.specs.declared.goal.Goal.{Goal}
 use Rattle.defs_soar.specs.Pending.{Firable, firable_of, is_justification, is_of_operator_kind}
-use Rattle.live_firings.specs.declared.live.Live.{Live}
+use Rattle.outstanding.specs.Live.{Live}
 use Rattle.outstanding.specs.declared.answer.Open.{Open}
 use Rattle.outstanding.specs.Outstanding.{unfired, unmatched}
 

@@ -6,7 +6,7 @@ ghost use Rattle.pending_work.specs.Active.{active_of, depth_at, lesser, least_f
 use crate::work::Work;
 use defs_match::Instance;
 use defs_soar::Goal;
-use live_firings::Live;
+use outstanding::Live;
 use soar_levels::match_depth;
 use soar_sym::{List, NoMemory};
 use soar_wm::Memory;

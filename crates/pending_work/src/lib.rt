@@ -6,3 +6,4 @@ mod candidates;
 mod work;
 
 pub use work::{Work, pending};
+pub use outstanding::Open;

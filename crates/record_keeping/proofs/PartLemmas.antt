@@ -4,7 +4,7 @@ use Rattle.defs_soar.specs.Explanation.{explaining}
 use Rattle.defs_soar.specs.History.{FiringOf}
 use Rattle.defs_soar.specs.Laws.{IsIn}
 use Rattle.defs_soar.specs.Standing.{AreFrom, is_recorded}
-use Rattle.learning_laws.proofs.Lists.{all_each, any_in, any_some, each_all, filter_keeps, filter_within, same_number}
+use Rattle.agent_laws.proofs.Lists.{all_each, any_in, any_some, each_all, filter_keeps, filter_within, same_number}
 use Rattle.agent_laws.specs.Records.{IsPartOf, NumbersByRecord, PartsOfParts}
 use Rattle.agent_laws.proofs.ReachLaws.{explaining_has_makers}
 use Rattle.agent_laws.proofs.RecordLaws.{from_there}

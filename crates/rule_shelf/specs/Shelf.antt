@@ -2,7 +2,7 @@
 use Rattle.std.specs.Prelude.{ℕ, ◌<◌, ◌==◌, Bool, List, [], ◌∷◌, map, filter}
 use Rattle.body_marks.specs.Fingerprint.{fingerprint}
 use Rattle.defs_match.specs.Rules.{RuleOf}
-use Rattle.defs_soar.specs.Pending.{is_justification}
+use Rattle.defs_run.specs.Pending.{is_justification}
 
 -- the numbers of all rules are below this one
 abbrev pub AreBelow : ℕ → List RuleOf → Type 0

@@ -5,3 +5,4 @@ pub mod Reasons
 pub mod Saying
 pub mod Stopping
 pub mod Told
+pub use Rattle.soar_cmd.specs.Answers

@@ -7,8 +7,8 @@ use Rattle.soar_sym.specs.Order.{triple_cmp}
 use Rattle.soar_sym.specs.Words.{IsKnown, IsTable, Texts}
 use Rattle.soar_sym.specs.declared.symbol.Sym.{Sym}
 use Rattle.soar_sym.specs.declared.symbol.Triple.{Triple}
-use Rattle.soar_wm.specs.declared.element.Element.{Element}
-use Rattle.soar_wm.specs.WorkingMemory.{element_of, triple_of}
+use Rattle.defs_soar.specs.Element.{Element}
+use Rattle.defs_soar.specs.WorkingMemory.{element_of, triple_of}
 use Rattle.defs_soar.specs.declared.goal.Goal.{Goal}
 use Rattle.defs_soar.specs.declared.preference.PrefKind.{PrefKind}
 use Rattle.defs_soar.specs.declared.preference.PrefKind.TheVariants as kind

@@ -7,7 +7,7 @@ use Rattle.chain_texts.specs.Shown.{shown_symbols}
 use Rattle.defs_soar.specs.Agents.{Learnt}
 use Rattle.defs_soar.specs.History.{ChainOf}
 use Rattle.defs_run.specs.Carrying.{chain_of_rule}
-use Rattle.program_laws.specs.Knowing.{AreChainsKnown}
+use Rattle.soar_cycle.specs.Knowing.{AreChainsKnown}
 
 pub chain_known : (words : Texts) (chains : List Learnt) (number : ℕ) (found : ChainOf) → AreChainsKnown words chains → chain_of_rule chains number ≡ Some found → AreKnown words (shown_symbols found)
 chain_known words [] number found known is = absurd (cc)

@@ -6,8 +6,8 @@ use Rattle.soar_sym.specs.declared.symbol.Sym.{Sym}
 use Rattle.defs_match.specs.Rules.{RuleOf}
 use Rattle.defs_run.specs.Carrying.{is_named, rule_named}
 use Rattle.defs_run.specs.Inputs.{Carried}
-use Rattle.pending_work.specs.Firables.{AreNumbered, IsBelowRules, rules_of}
-use Rattle.pending_work.proofs.RuleLemmas.{later_number, own_number}
+use Rattle.soar_cycle.specs.Firables.{AreNumbered, IsBelowRules, rules_of}
+use Rattle.soar_cycle.proofs.RuleLemmas.{later_number, own_number}
 
 below_named : (n : ℕ) (rules : List RuleOf) (name : Sym) (found : RuleOf) → IsBelowRules n rules → rule_named rules name ≡ Some found → n < found.number
 below_named n [] name found below is = absurd (cc)

@@ -22,7 +22,7 @@ use defs_soar::Which;
 use loading_laws::what_is_read_may_be_loaded;
 use outstanding::Outstanding;
 use session_parts::{Origin, Reason, say_stop};
-use soar_cmd::{CmdFault, read_command};
+use session_parts::{CmdFault, read_command};
 use soar_cycle::{Agent, Standing, Stop};
 use soar_edge::Command;
 use soar_sym::{NoMemory, Text};

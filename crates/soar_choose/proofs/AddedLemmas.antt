@@ -6,7 +6,7 @@ use Rattle.std.specs.Option.{unwrap_or}
 use Rattle.std.specs.Ordering.{is_eq, ordering_then}
 use Rattle.soar_sym.specs.Equality.{symbol_eq}
 use Rattle.soar_sym.specs.declared.symbol.Sym.{Sym}
-use Rattle.level_graph.proofs.KeyLemmas.{cmp_same, sym_cmp}
+use Rattle.symbol_sets.proofs.KeyLemmas.{cmp_same, sym_cmp}
 use Rattle.soar_choose.specs.Told.{has_pair, sum_at}
 use Rattle.soar_choose.proofs.ShuffleLemmas.{turn}
 

@@ -5,3 +5,4 @@ pub mod ToldLemmas
 pub use Rattle.cycle_phases.proofs.CourseLemmas
 pub use Rattle.cycle_phases.proofs.LimitLemmas
 pub use Rattle.cycle_phases.proofs.StandsLemmas
+pub use Rattle.cycle_phases.proofs.RuleLemmas

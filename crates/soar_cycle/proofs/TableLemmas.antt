@@ -10,7 +10,7 @@ use Rattle.learning_laws.specs.Lawful.{Grown}
 use Rattle.learning_laws.specs.LawfulAgents.{EachOnce}
 use Rattle.soar_record.specs.Recorded.{recorded}
 use Rattle.live_firings.specs.Living.{live_seen}
-use Rattle.program_laws.specs.Knowing.{AreChainsKnown, AreNamed}
+use Rattle.cycle_phases.specs.Knowing.{AreChainsKnown, AreNamed}
 use Rattle.session_laws.proofs.StepLaws.{words_keep}
 use Rattle.cycle_phases.proofs.FiringKnown.{are_known_grown, are_rows_grown, are_rules_grown, known_grown}
 use Rattle.cycle_phases.specs.Hands.{learned_rule_seen}

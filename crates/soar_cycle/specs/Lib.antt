@@ -13,3 +13,5 @@ pub use Rattle.cycle_phases.specs.Settings
 pub use Rattle.cycle_phases.specs.Stands
 pub use Rattle.cycle_phases.specs.Parts
 pub use Rattle.cycle_phases.specs.SettingsType
+pub use Rattle.cycle_phases.specs.Knowing
+pub use Rattle.cycle_phases.specs.Firables

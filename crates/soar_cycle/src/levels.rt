@@ -1,11 +1,11 @@
 // The levels that are kept.
 ghost use Rattle.std.specs.Prelude.{◌≡◌, map};
 ghost use Rattle.soar_wm.specs.WorkingMemory.{triple_of};
-ghost use Rattle.firing_records.specs.Levels.{TellsLevels};
+ghost use Rattle.cycle_phases.specs.Levels.{TellsLevels};
 ghost use Rattle.cycle_phases.specs.Seen.{IsSound};
 
 use crate::agent::Agent;
-use kept_triples::Kept;
+use cycle_phases::Kept;
 use outstanding::Outstanding;
 
 impl<M: Outstanding> Agent<M> {

@@ -4,3 +4,7 @@ pub mod KeyLemmas
 pub mod MarkLemmas
 pub mod RangeLemmas
 pub mod StoreLemmas
+pub use Rattle.settling_laws.proofs.SlotLemmas
+pub use Rattle.settling_laws.proofs.ChangeLemmas
+pub use Rattle.settling_laws.proofs.OrderLemmas
+pub use Rattle.settling_laws.proofs.SymbolOrderLemmas

@@ -8,7 +8,7 @@ use Rattle.soar_sym.specs.Equality.{mark_eq}
 use Rattle.soar_sym.specs.declared.symbol.Triple.{Triple}
 use Rattle.soar_sym.specs.contracts.symbol.TripleOrd.TheImpl.{ghosts}
 use Rattle.defs_soar.specs.Values.{has_triple_among, triple_eq}
-use Rattle.level_laws.proofs.SymbolLemmas.{symbol_turned}
+use Rattle.level_graph.proofs.SymbolLemmas.{symbol_turned}
 use Rattle.level_graph.proofs.KeyLemmas.{sym_cmp, cmp_same}
 
 abbrev pub triple_cmp : Triple → Triple → Ordering

@@ -10,7 +10,7 @@ use Rattle.soar_sym.specs.declared.symbol.Triple.{Triple}
 use Rattle.defs_soar.specs.declared.goal.Goal.{Goal}
 use Rattle.defs_soar.specs.Settling.{new_triples, stays}
 use Rattle.defs_soar.specs.Values.{has_triple_among, triple_eq}
-use Rattle.level_laws.proofs.SymbolLemmas.{symbol_self}
+use Rattle.level_graph.proofs.SymbolLemmas.{symbol_self}
 use Rattle.soar_settle.specs.Marks.{HasTripleAt, StandsAt, is_flagged, no_element, stands, unmet}
 use Rattle.soar_settle.proofs.KeyLemmas.{triple_turned}
 use Rattle.soar_settle.proofs.TripleOrderLemmas.{no_triple, triple_same}

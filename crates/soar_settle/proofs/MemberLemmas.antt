@@ -3,7 +3,7 @@ use Rattle.std.proofs.Common.{◌≡◌, ◌∙◌, refl, sym, ap, Bool, true, f
 use Rattle.soar_sym.specs.declared.symbol.Triple.{Triple}
 use Rattle.defs_soar.specs.Laws.{IsIn}
 use Rattle.defs_soar.specs.Values.{has_triple_among, triple_eq}
-use Rattle.settling_laws.proofs.SlotLemmas.{triple_itself}
+use Rattle.soar_prefs.proofs.SlotLemmas.{triple_itself}
 use Rattle.soar_settle.proofs.TripleOrderLemmas.{triple_same}
 
 pub has_member : (triples : List Triple) (t : Triple) → has_triple_among triples t ≡ true → IsIn t triples

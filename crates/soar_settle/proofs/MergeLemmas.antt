@@ -7,8 +7,8 @@ use Rattle.soar_sym.specs.Words.{IsTable, Texts}
 use Rattle.soar_sym.specs.declared.symbol.Triple.{Triple}
 use Rattle.defs_soar.specs.Sorted.{in_order, with_triple_at}
 use Rattle.defs_soar.specs.Values.{has_triple_among, triple_eq}
-use Rattle.settling_laws.proofs.ChangeLemmas.{table_tells_apart}
-use Rattle.settling_laws.proofs.OrderLemmas.{order_is_of_members}
+use Rattle.soar_prefs.proofs.ChangeLemmas.{table_tells_apart}
+use Rattle.soar_prefs.proofs.OrderLemmas.{order_is_of_members}
 use Rattle.soar_settle.specs.Known.{AreTriplesKnown}
 use Rattle.soar_settle.specs.Merging.{IsFirst, IsSorting, Rises, is_rising, left, merged, moved}
 use Rattle.soar_settle.specs.Tagging.{IsTripleKnown}

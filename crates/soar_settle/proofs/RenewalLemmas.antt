@@ -8,7 +8,7 @@ use Rattle.defs_soar.specs.declared.preference.Preference.{Preference}
 use Rattle.defs_soar.specs.Preferences.{is_kept_already, with_row, with_rows, is_of_gone, without_firings, is_reject_now, is_rejected_by}
 use Rattle.defs_soar.specs.Values.{same_triple}
 use Rattle.soar_prefs.specs.Memory.{PreferenceMemory, is_of_triple, without_triple}
-use Rattle.level_laws.proofs.SymbolLemmas.{symbol_turned}
+use Rattle.level_graph.proofs.SymbolLemmas.{symbol_turned}
 use Rattle.soar_settle.specs.Renewal.{not_rejected, triple_in, AddsAll}
 use Rattle.soar_settle.specs.declared.stop.Stop.{Stop}
 use Rattle.soar_settle.specs.declared.stop.Stop.TheVariants as stop

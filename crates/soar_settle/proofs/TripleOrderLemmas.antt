@@ -14,7 +14,7 @@ use Rattle.defs_soar.specs.Values.{triple_eq}
 use Rattle.soar_settle.specs.Known.{AreTriplesKnown}
 use Rattle.soar_settle.specs.Merging.{IsFirst, Rises, is_rising, rises_after}
 use Rattle.soar_settle.specs.Tagging.{IsTripleKnown}
-use Rattle.settling_laws.proofs.SymbolOrderLemmas.{symbol_same, symbols_total}
+use Rattle.soar_prefs.proofs.SymbolOrderLemmas.{symbol_same, symbols_total}
 
 abbrev pub no_triple : Triple
 no_triple = record { id = Ident 0 0; attr = Ident 0 0; value = Ident 0 0; accept = false }

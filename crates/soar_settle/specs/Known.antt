@@ -2,10 +2,10 @@
 use Rattle.std.specs.Prelude.{List, [], ◌∷◌}
 use Rattle.soar_sym.specs.Words.{Texts, IsKnown}
 use Rattle.soar_sym.specs.declared.symbol.Triple.{Triple}
-use Rattle.soar_rule.specs.Symbols.{AreKnown, symbols_of}
+use Rattle.defs_soar.specs.Symbols.{AreKnown, symbols_of}
 use Rattle.soar_wm.specs.declared.element.Element.{Element}
-use Rattle.defs_match.specs.Rules.{RuleOf}
-use Rattle.defs_match.specs.declared.instance.Instance.{Instance}
+use Rattle.defs_soar.specs.Rules.{RuleOf}
+use Rattle.defs_soar.specs.Instance.{Instance}
 use Rattle.defs_soar.specs.declared.preference.Preference.{Preference}
 use Rattle.defs_soar.specs.Dependencies.{symbols_of_wish}
 

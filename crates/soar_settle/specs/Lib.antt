@@ -5,3 +5,4 @@ pub mod Plans
 pub mod Renewal
 pub mod Settles
 pub mod Tagging
+pub use Rattle.soar_prefs.specs.Memory

@@ -14,3 +14,4 @@ pub use renewal::renew;
 pub use stop::Stop;
 pub use tagging::{in_order, limit_passed, replace};
 pub use triples::TripleSet;
+pub use soar_prefs::Prefs;

@@ -3,7 +3,7 @@ ghost use Rattle.soar_sym.specs.Words.{IsKnown};
 ghost use Rattle.defs_text.specs.Symbols.{instance_text, tags_text};
 
 use crate::symbol::symbol_text;
-use defs_match::Instance;
+use defs_soar::Instance;
 use itoa::Buffer;
 use soar_sym::{NoMemory, Sym, SymTable, Text};
 use std::alloc::AllocError;

@@ -6,7 +6,7 @@ use Rattle.soar_wm.specs.declared.element.Element.{Element}
 use Rattle.defs_soar.specs.declared.firing.DropCause.TheVariants as drop_cause
 use Rattle.defs_soar.specs.declared.firing.Dropped.{Dropped}
 use Rattle.defs_soar.specs.declared.preference.PrefKind.TheVariants as kind
-use Rattle.trace_details.specs.declared.wish.HeldBy.TheVariants as held_by
+use Rattle.wave_entries.specs.HeldByVariants as held_by
 use Rattle.wave_entries.specs.declared.entry.HeldWish.{HeldWish}
 use Rattle.step_report.specs.declared.settled.Removed.{Removed}
 

@@ -7,7 +7,7 @@ use Rattle.soar_sym.specs.Words.{Texts}
 use Rattle.defs_soar.specs.Events.{Event}
 use Rattle.defs_soar.specs.Trace.{Written, followed_by, is_mid_after, pieces_of, rendered}
 use Rattle.defs_soar.specs.Waves.{text_events}
-use Rattle.trace_details.specs.Details.{SaysAt}
+use Rattle.wave_entries.specs.Details.{SaysAt}
 use Rattle.trace_laws.proofs.EventLemmas.{pieces_in_turn}
 use Rattle.trace_laws.proofs.LevelLemmas.{written_in_turn}
 use Rattle.step_report.specs.Saying.{SaysEvents, SaysInTurn}

@@ -1,2 +1,3 @@
 pub mod Reports
 pub mod Saying
+pub use Rattle.wave_entries.specs.Details

@@ -4,7 +4,7 @@ use Rattle.defs_soar.specs.Events.{Event, comes, goes}
 use Rattle.defs_soar.specs.Resettling.{removal_events}
 use Rattle.defs_soar.specs.Trimming.{RemovedGoal}
 use Rattle.defs_soar.specs.Waves.{retract_event}
-use Rattle.live_firings.specs.Living.{live_seen}
+use Rattle.wave_entries.specs.Living.{live_seen}
 use Rattle.wave_entries.specs.Entries.{told_events}
 use Rattle.step_report.specs.declared.report.Report.{Report}
 use Rattle.step_report.specs.declared.settled.Removed.{Removed}

@@ -16,3 +16,4 @@ pub use phase::{begin_part, say_cut_at, say_halt_at};
 pub use report::{Report, say_report};
 pub use settled::{Removed, Settled, say_changes, say_removals, say_settled};
 pub use turns::says_in_turn;
+pub use wave_entries::CyclePart;

@@ -2,11 +2,11 @@
 ghost use Rattle.std.specs.Prelude.{[], ◌∷◌, OnOk};
 ghost use Rattle.defs_soar.specs.Events.{begins, halts, is_cut};
 ghost use Rattle.trace_lines.specs.Saying as lines;
-ghost use Rattle.trace_details.specs.Details as details;
+ghost use Rattle.wave_entries.specs.Details as details;
 ghost use Rattle.step_report.specs.Saying.{SaysEvents};
 
 use soar_sym::{NoMemory, SymTable, Text};
-use trace_details::{CyclePart, say_part};
+use wave_entries::{CyclePart, say_part};
 use trace_lines::{Phase, say_cut, say_halt};
 
 /// The watch level from which the lines of `trace_lines` are shown.

@@ -1,7 +1,7 @@
 // What a wave tells: the firings that it took back, those that it made with what it learned, and what it settled to.
 ghost use Rattle.std.specs.Prelude.{◌++◌, flat_map, map, OnOk};
 ghost use Rattle.defs_soar.specs.Waves.{retract_event};
-ghost use Rattle.live_firings.specs.Living.{live_seen};
+ghost use Rattle.wave_entries.specs.Living.{live_seen};
 ghost use Rattle.trace_laws.specs.Events.{AreEventsKnown};
 ghost use Rattle.wave_entries.specs.Entries.{told_events};
 ghost use Rattle.step_report.specs.Reports.{report_events};
@@ -9,9 +9,9 @@ ghost use Rattle.step_report.specs.Saying.{SaysEvents};
 
 use crate::fired::say_fired;
 use crate::settled::{Settled, say_settled};
-use live_firings::Live;
+use wave_entries::Live;
 use soar_sym::{List, NoMemory, SymTable, Text};
-use trace_details::say_retraction;
+use wave_entries::say_retraction;
 use wave_entries::Told;
 
 /// What a wave did that can be told. What learning told is among the firings, in its place.

@@ -1,1 +1,2 @@
 pub mod SetLemmas
+pub use Rattle.level_graph.proofs.KeyLemmas

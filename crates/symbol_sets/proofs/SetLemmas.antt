@@ -5,7 +5,7 @@ use Rattle.std.specs.Ordering.{is_eq}
 use Rattle.soar_sym.specs.Equality.{symbol_eq}
 use Rattle.soar_sym.specs.declared.symbol.Sym.{Sym}
 use Rattle.defs_soar.specs.Sorted.{has_symbol}
-use Rattle.level_laws.proofs.SymbolLemmas.{symbol_turned}
+use Rattle.level_graph.proofs.SymbolLemmas.{symbol_turned}
 use Rattle.level_graph.proofs.KeyLemmas.{sym_cmp, cmp_same}
 
 -- whether the set's order finds a key

@@ -3,10 +3,10 @@ ghost use Rattle.std.specs.Prelude.{◌≡◌, ◌++◌, decimal, string_bytes, 
 ghost use Rattle.soar_sym.specs.Words.{IsKnown};
 ghost use Rattle.defs_soar.specs.Trace.{cause_text};
 ghost use Rattle.defs_soar.specs.declared.learning.Cause.TheVariants as cause;
-ghost use Rattle.trace_laws.specs.Events.{IsCauseKnown};
+ghost use Rattle.chain_texts.specs.Events.{IsCauseKnown};
 
 use defs_soar::Cause;
-use soar_show::symbol_text;
+use trace_lines::symbol_text;
 use soar_sym::{NoMemory, Sym, SymTable};
 use std::alloc::{AllocError, Global};
 

@@ -3,13 +3,13 @@ ghost use Rattle.std.specs.Prelude.{◌≡◌, ◌++◌, IfOk, OnErr, OnOk};
 ghost use Rattle.soar_wm.specs.WorkingMemory.{triple_of};
 ghost use Rattle.defs_soar.specs.Events.{comes, goes};
 ghost use Rattle.defs_soar.specs.Texts.{tagged_text};
-ghost use Rattle.trace_laws.specs.Events.{IsTripleKnown};
+ghost use Rattle.chain_texts.specs.Events.{IsTripleKnown};
 ghost use Rattle.trace_lines.specs.Saying.{SaysNothing};
 ghost use Rattle.trace_details.specs.Details.{SaysAt};
 
 use crate::level::{ELEMENTS, is_shown};
 use crate::line::say_line;
-use soar_show::show_element;
+use trace_lines::show_element;
 use soar_sym::{NoMemory, SymTable, Text};
 use soar_wm::Element;
 use std::alloc::Global;

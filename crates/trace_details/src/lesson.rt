@@ -4,7 +4,7 @@ ghost use Rattle.soar_sym.specs.Words.{IsKnown};
 ghost use Rattle.defs_text.specs.Symbols.{tags_text};
 ghost use Rattle.defs_soar.specs.Events.{has_lost, has_no_grounds, is_blocked, justifies, learning, learns, reuses};
 ghost use Rattle.defs_soar.specs.Trace.{learned_text, learning_text};
-ghost use Rattle.trace_laws.specs.Events.{IsCauseKnown, IsLearningKnown};
+ghost use Rattle.chain_texts.specs.Events.{IsCauseKnown, IsLearningKnown};
 ghost use Rattle.trace_lines.specs.Saying.{SaysNothing};
 ghost use Rattle.trace_details.specs.Details.{SaysAt};
 ghost use Rattle.trace_details.specs.Lessons.{lesson_seen};
@@ -13,7 +13,7 @@ use crate::cause::cause_text;
 use crate::level::{LESSONS, is_shown};
 use crate::line::say_line;
 use defs_soar::Cause;
-use soar_show::{push_tags, symbol_text};
+use trace_lines::{push_tags, symbol_text};
 use soar_sym::{List, NoMemory, Sym, SymTable, Text};
 use std::alloc::{AllocError, Global};
 

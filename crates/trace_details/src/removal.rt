@@ -8,7 +8,7 @@ ghost use Rattle.trace_details.specs.Details.{SaysAt};
 
 use crate::level::{REMOVALS, is_shown};
 use crate::line::say_line;
-use soar_show::show_symbol;
+use trace_lines::show_symbol;
 use soar_sym::{NoMemory, Sym, SymTable, Text};
 use std::alloc::Global;
 

@@ -2,7 +2,7 @@
 ghost use Rattle.std.specs.Prelude.{◌≡◌, IfOk, OnErr, OnOk};
 ghost use Rattle.defs_soar.specs.Events.{makes_wish};
 ghost use Rattle.defs_soar.specs.Trace.{piece_of, support_text};
-ghost use Rattle.trace_laws.specs.Events.{IsWishKnown};
+ghost use Rattle.chain_texts.specs.Events.{IsWishKnown};
 ghost use Rattle.trace_lines.specs.Saying.{SaysNothing, text_of_line};
 ghost use Rattle.trace_details.specs.Details.{SaysAt, support_of};
 

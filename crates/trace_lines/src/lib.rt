@@ -14,3 +14,4 @@ pub use impasse::{NewGoal, say_goal_limit, say_substate};
 pub use name::operator_name;
 pub use output::{say_output, say_outputs};
 pub use selection::{Selected, say_selection};
+pub use soar_show::{push_tags, show_element, show_symbol, symbol_text};

@@ -14,7 +14,7 @@ use Rattle.defs_soar.specs.Support.{has_operator_support}
 use Rattle.defs_soar.specs.WaveAtHand.{Fresh as FreshOf, SupportedWish, supported_wish}
 use Rattle.firing_records.specs.Recorded.{RecordedAs, Standing, recorded_as, recorded_seen}
 use Rattle.firing_records.specs.declared.outcome.Recorded.{Recorded}
-use Rattle.trace_details.specs.declared.wish.HeldBy.TheVariants as held_by
+use Rattle.wave_entries.specs.HeldByVariants as held_by
 use Rattle.wave_entries.specs.Entries.{heading_event, held_seen}
 use Rattle.wave_entries.specs.declared.entry.HeldWish.{HeldWish}
 use Rattle.wave_entries.specs.declared.entry.Told.{Told}

@@ -15,7 +15,7 @@ use Rattle.defs_soar.specs.Support.{goal_at_depth, has_operator_support}
 use Rattle.defs_soar.specs.Uses.{all_uses, elements_matched}
 use Rattle.defs_soar.specs.WaveAtHand.{Fresh, supported_wish}
 use Rattle.firing_records.specs.Recorded.{Standing, reach_of}
-use Rattle.trace_details.specs.declared.wish.HeldBy.TheVariants as held_by
+use Rattle.wave_entries.specs.HeldByVariants as held_by
 use Rattle.wave_entries.specs.declared.entry.Heading.TheVariants as heading
 use Rattle.wave_entries.specs.declared.entry.HeldWish.{HeldWish}
 use Rattle.wave_entries.specs.declared.entry.Told.{Told}

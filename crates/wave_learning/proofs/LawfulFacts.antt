@@ -7,7 +7,7 @@ use Rattle.soar_wm.specs.declared.element.Element.{Element}
 use Rattle.defs_match.specs.Conflict.{instances_of}
 use Rattle.chunk_back.specs.Makers.{MakersAreEarlier}
 use Rattle.chunk_learn.specs.Candidates.{depth_of_last}
-use Rattle.chunk_results.specs.Reached.{AreRowsKnown, AreWishesKnown}
+use Rattle.explained_firings.specs.Reached.{AreRowsKnown, AreWishesKnown}
 use Rattle.condition_order.specs.Orders.{AreElementsKnown}
 use Rattle.defs_soar.specs.declared.firing.How.{How}
 use Rattle.defs_soar.specs.declared.firing.How.TheVariants as how

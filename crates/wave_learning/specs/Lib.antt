@@ -5,3 +5,7 @@ pub mod Held
 pub mod Lawful
 pub mod Rising
 pub mod Seen
+pub use Rattle.wave_entries.specs.Entries
+pub use Rattle.wave_entries.specs.declared.ending.WaveMade
+pub use Rattle.wave_entries.specs.declared.entry.Told
+pub use Rattle.wave_entries.specs.declared.entry.Entry

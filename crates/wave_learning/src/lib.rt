@@ -18,3 +18,4 @@ mod teaching;
 pub use hand::AtHand;
 pub use learning::learn;
 pub use program::{LearnedRule, Program};
+pub use wave_entries::{Entry, Told, WaveMade, made_of};

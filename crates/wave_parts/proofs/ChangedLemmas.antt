@@ -37,8 +37,8 @@ use Rattle.pending_work.specs.declared.work.Work.{Work}
 use Rattle.program_laws.specs.Knowing.{AreNamed}
 use Rattle.step_report.specs.Reports.{report_events, settled_events}
 use Rattle.step_report.specs.declared.settled.Settled.{Settled}
-use Rattle.wave_entries.specs.Entries.{entry_seen, told_events}
-use Rattle.wave_entries.specs.declared.ending.WaveMade.{WaveMade}
+use Rattle.wave_learning.specs.Entries.{entry_seen, told_events}
+use Rattle.wave_learning.specs.WaveMade.{WaveMade}
 use Rattle.wave_firings.specs.Listed.{events_in, recorded_in, rows_in}
 use Rattle.wave_firings.specs.Numbered.{AreGoalsOf, AreMakersUpTo, AreOfFirings, AreRecordedUpTo}
 use Rattle.wave_parts.specs.Carrying.{Carried}

@@ -43,8 +43,8 @@ use Rattle.step_report.specs.Reports.{report_events, settled_events}
 use Rattle.step_report.specs.declared.report.Report.{Report}
 use Rattle.step_report.specs.declared.settled.Settled.{Settled}
 use Rattle.trace_laws.specs.Events.{AreEventsKnown}
-use Rattle.wave_entries.specs.Entries.{told_events}
-use Rattle.wave_entries.specs.declared.entry.Told.{Told}
+use Rattle.wave_learning.specs.Entries.{told_events}
+use Rattle.wave_learning.specs.Told.{Told}
 use Rattle.wave_firings.specs.Numbered.{AreGoalsOf, AreMakersUpTo, AreRecordedUpTo}
 use Rattle.wave_parts.specs.Carrying.{Carried, IsPendingIn}
 use Rattle.wave_parts.specs.Changing.{StopsAs}

@@ -23,7 +23,7 @@ use Rattle.program_laws.specs.Knowing.{AreChainsKnown, AreNamed, IsKnownWave}
 use Rattle.firing_records.specs.Recorded.{fresh_seen}
 use Rattle.pending_work.specs.Firables.{IsPending, firables_for, rules_of}
 use Rattle.pending_work.specs.declared.work.Work.{Work}
-use Rattle.wave_entries.specs.Entries.{entry_seen}
+use Rattle.wave_learning.specs.Entries.{entry_seen}
 use Rattle.soar_record.specs.Recorded.{recorded}
 use Rattle.wave_firings.specs.FiresAll.{FiresAll, HasFired}
 use Rattle.wave_firings.specs.Listed.{events_in, recorded_in}

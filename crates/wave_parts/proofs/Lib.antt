@@ -31,3 +31,7 @@ pub mod StandsLemmas
 pub mod TeachingLemmas
 pub mod WorkedLemmas
 pub mod WorkedSoundLemmas
+pub use Rattle.wave_firings.proofs.FiringKnown
+pub use Rattle.goal_trimming.proofs.LostLemmas
+pub use Rattle.goal_trimming.proofs.TagLemmas
+pub use Rattle.record_laws.proofs.WalkingLaws

@@ -35,8 +35,8 @@ use Rattle.program_laws.specs.Matching.{LearnedCanBeMatched}
 use Rattle.program_laws.specs.Taught.{AreNext, IsTaught, LearningTeaches, MakersAreBefore}
 use Rattle.firing_records.specs.Recorded.{RecordedAs, fresh_seen}
 use Rattle.pending_work.specs.Firables.{AreNumbered, IsBelowRules}
-use Rattle.wave_entries.specs.Entries.{entry_seen}
-use Rattle.wave_entries.specs.declared.entry.Entry.{Entry as EntryKept}
+use Rattle.wave_learning.specs.Entries.{entry_seen}
+use Rattle.wave_learning.specs.Entry.{Entry as EntryKept}
 use Rattle.wave_firings.specs.Listed.{events_in, rows_in}
 use Rattle.wave_firings.proofs.FiringKnown.{are_known_grown, are_rows_grown, known_grown}
 use Rattle.wave_parts.specs.Programs.{AreExplained}

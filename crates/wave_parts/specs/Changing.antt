@@ -19,8 +19,8 @@ use Rattle.pending_work.specs.declared.work.Work.{Work}
 use Rattle.soar_settle.specs.Renewal.{RenewsRows}
 use Rattle.soar_settle.specs.declared.stop.Stop.{Stop}
 use Rattle.soar_settle.specs.declared.stop.Stop.TheVariants as stop
-use Rattle.wave_entries.specs.Entries.{entry_seen, told_events}
-use Rattle.wave_entries.specs.declared.entry.Entry.{Entry}
+use Rattle.wave_learning.specs.Entries.{entry_seen, told_events}
+use Rattle.wave_learning.specs.Entry.{Entry}
 use Rattle.wave_firings.specs.Listed.{events_in, recorded_in, rows_in}
 use Rattle.wave_parts.specs.Carrying.{IsPendingIn}
 use Rattle.wave_parts.specs.Living.{still_live}

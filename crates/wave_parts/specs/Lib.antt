@@ -19,3 +19,12 @@ pub mod Teaching
 pub mod WaveParts
 pub mod Working
 pub use Rattle.wave_learning.specs.Hands
+pub use Rattle.wave_firings.specs.Numbered
+pub use Rattle.goal_trimming.specs.Doubted
+pub use Rattle.row_laws.specs.Kept
+pub use Rattle.live_firings.specs.Living as LiveFiringsLiving
+pub use Rattle.wave_learning.specs.declared.program.LearnedRule
+pub use Rattle.program_laws.specs.Taught
+pub use Rattle.program_laws.specs.Knowing
+pub use Rattle.step_report.specs.Details
+pub use Rattle.firing_records.specs.Levels

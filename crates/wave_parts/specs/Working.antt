@@ -20,8 +20,8 @@ use Rattle.program_laws.specs.Taught.{AreNext}
 use Rattle.firing_records.specs.Recorded.{Standing}
 use Rattle.pending_work.specs.Firables.{IsPending}
 use Rattle.pending_work.specs.declared.work.Work.{Work}
-use Rattle.wave_entries.specs.Entries.{entry_seen}
-use Rattle.wave_entries.specs.declared.entry.Entry.{Entry}
+use Rattle.wave_learning.specs.Entries.{entry_seen}
+use Rattle.wave_learning.specs.Entry.{Entry}
 use Rattle.wave_firings.specs.Listed.{events_in, recorded_in, rows_in}
 use Rattle.wave_firings.specs.Numbered.{AreGoalsOf, AreMakersUpTo, AreOfFirings, AreRecordedUpTo}
 use Rattle.wave_parts.specs.Programs.{program_of}

@@ -18,7 +18,7 @@ use pending_work::Work;
 use soar_settle::Stop;
 use soar_sym::List;
 use std::alloc::Global;
-use wave_entries::{Told, WaveMade, made_of};
+use wave_learning::{Told, WaveMade, made_of};
 
 /// What a wave did: its firings as they are recorded and told, the rows that it added, the numbers of the justifications
 /// that went, and whether a firing halts.

@@ -27,3 +27,8 @@ pub use pending_work::Work;
 pub use removing::{at_depths, behind};
 pub use settings::Settings;
 pub use soar_settle::{Changes, Stop};
+pub use step_report::CyclePart;
+pub use row_laws::rows_fit_decisions;
+pub use input_queue::drop_word;
+pub use wave_learning::LearnedRule;
+pub use kept_triples::Kept;

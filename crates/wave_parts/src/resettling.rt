@@ -19,7 +19,7 @@ use soar_settle::Stop;
 use soar_sym::List;
 use std::alloc::Global;
 use step_report::Settled;
-use touched_tags::retag_touched;
+use goal_trimming::retag_touched;
 
 impl Parts {
     /// Settles what is held, without the goals that lost something on which they depend, and makes working memory of

@@ -3,7 +3,7 @@ ghost use Rattle.std.specs.Prelude.{◌≡◌, map, IfOk};
 ghost use Rattle.defs_match.specs.Rules.{rule_seen};
 ghost use Rattle.pending_work.specs.Firables.{AreBound};
 ghost use Rattle.soar_settle.specs.Known.{AreInstancesKnown};
-ghost use Rattle.wave_entries.specs.Entries.{entry_seen};
+ghost use Rattle.wave_learning.specs.Entries.{entry_seen};
 ghost use Rattle.wave_parts.specs.Carrying.{IsPendingIn};
 ghost use Rattle.wave_parts.specs.Lawful.{IsOfLawful};
 ghost use Rattle.wave_parts.specs.Seen.{IsSound};
@@ -21,7 +21,7 @@ use soar_settle::Stop;
 use soar_sym::List;
 use std::alloc::Global;
 use std::mem::replace;
-use wave_entries::Entry;
+use wave_learning::Entry;
 use wave_firings::{Fired, fire_all};
 use wave_learning::{AtHand, LearnedRule, Program, learn};
 

@@ -1,6 +1,6 @@
 use Rattle.std.proofs.Common.{◌∙◌, map, sym}
 use Rattle.defs_match.specs.Rules.{rule_seen}
-use Rattle.wave_learning.specs.Hands.{learned_rule_seen}
+use Rattle.decision_parts.specs.Hands.{learned_rule_seen}
 use Rattle.cycle_parts.proofs.NamedLemmas.{all_stay}
 use Rattle.cycle_parts.proofs.dropping.drop_chains.Goals as goal
 

@@ -2,8 +2,8 @@ use Rattle.std.proofs.Common.{◌<◌, ◌++◌, Bool, length, map, filter, not,
 use Rattle.std.proofs.lemmas.List.Edits.{length-remove}
 use Rattle.defs_match.specs.Rules.{rule_seen}
 use Rattle.defs_soar.specs.Agents.{Learnt}
-use Rattle.wave_learning.specs.Hands.{learned_rule_seen}
-use Rattle.wave_learning.specs.declared.program.LearnedRule.{LearnedRule}
+use Rattle.decision_parts.specs.Hands.{learned_rule_seen}
+use Rattle.decision_parts.specs.LearnedRule.{LearnedRule}
 use Rattle.cycle_parts.specs.Dropping.{is_of_name}
 use Rattle.cycle_parts.proofs.ListLemmas.{removed_next}
 use Rattle.cycle_parts.proofs.dropping.drop_chains_of.Goals as goal

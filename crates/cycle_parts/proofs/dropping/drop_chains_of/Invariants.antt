@@ -1,6 +1,6 @@
 use Rattle.std.proofs.Common.{◌≡◌, ◌++◌, ◌-◌, ◌≤◌, map, filter, not, take, drop, length}
 use Rattle.defs_match.specs.Rules.{rule_seen}
-use Rattle.wave_learning.specs.Hands.{learned_rule_seen}
+use Rattle.decision_parts.specs.Hands.{learned_rule_seen}
 use Rattle.cycle_parts.specs.Dropping.{is_of_name}
 use Rattle.cycle_parts.proofs.dropping.drop_chains_of.Given as goal
 

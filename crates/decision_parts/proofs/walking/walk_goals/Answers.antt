@@ -3,7 +3,7 @@ use Rattle.defs_soar.specs.Agents.{Agent}
 use Rattle.defs_soar.specs.Decision.{view_of}
 use Rattle.defs_soar.specs.Laws.{IsIn}
 use Rattle.defs_soar.specs.Walk.{walked}
-use Rattle.record_laws.proofs.WalkingLaws.{walks_name_roots}
+use Rattle.wave_parts.proofs.WalkingLaws.{walks_name_roots}
 use Rattle.decision_walk.specs.Ends.{decided_seen}
 use Rattle.decision_walk.specs.Known.{AreSelectionsKnown, IsDecidedKnown}
 use Rattle.decision_walk.specs.Makers.{AreMakersUpTo}

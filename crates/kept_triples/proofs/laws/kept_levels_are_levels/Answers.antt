@@ -1,6 +1,6 @@
 use Rattle.std.proofs.Common.{◌∙◌, ap, sym, option_map}
 use Rattle.defs_soar.specs.Held.{held}
-use Rattle.level_laws.specs.Labels.{as_told}
+use Rattle.level_change.specs.Labels.{as_told}
 use Rattle.kept_triples.proofs.HeldLemmas.{same_links}
 use Rattle.kept_triples.proofs.laws.kept_levels_are_levels.Goals as goal
 

@@ -2,7 +2,7 @@ use Rattle.std.proofs.Common.{◌+◌, ◌∙◌, ◌∷◌, Bool, cond, drop, g
 use Rattle.std.proofs.lemmas.List.{drop_more}
 use Rattle.soar_sym.specs.declared.symbol.Triple.{Triple}
 use Rattle.defs_soar.specs.Values.{has_triple_among}
-use Rattle.soar_prefs.specs.Memory.{has_plain}
+use Rattle.soar_settle.specs.Memory.{has_plain}
 use Rattle.kept_triples.specs.Looking.{is_held_now}
 use Rattle.kept_triples.proofs.BalanceLemmas.{balance_then}
 use Rattle.kept_triples.proofs.LookLemmas.{IsLooked, one_looked}

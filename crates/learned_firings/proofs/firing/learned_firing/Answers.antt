@@ -4,7 +4,7 @@ use Rattle.soar_rule.specs.Variables.{bound_variables}
 use Rattle.defs_match.specs.Conflict.{paired}
 use Rattle.defs_match.specs.Rules.{rule_seen}
 use Rattle.defs_soar.specs.Support.{operator_kind as kind_of}
-use Rattle.firing_records.specs.Recorded.{RecordedAs, recorded_as, recorded_seen, standing}
+use Rattle.wave_entries.specs.Recorded.{RecordedAs, recorded_as, recorded_seen, standing}
 use Rattle.learned_firings.proofs.FiringLemmas.{as_recorded, kind_kept, kind_left, learned_is}
 use Rattle.learned_firings.proofs.firing.learned_firing.Goals as goal
 use Rattle.learned_firings.proofs.firing.learned_firing.Goals.{then-deref-explained, else-deref-explained}

@@ -1,5 +1,5 @@
 use Rattle.std.proofs.Common.{◌≡◌, ◌++◌, drop, map, take}
-use Rattle.trace_details.specs.Details.{support_of}
+use Rattle.wave_entries.specs.Details.{support_of}
 use Rattle.wave_entries.specs.Entries.{held_seen}
 use Rattle.learned_firings.specs.Flags.{flagged}
 use Rattle.learned_firings.proofs.flags.held_wishes.Given as goal

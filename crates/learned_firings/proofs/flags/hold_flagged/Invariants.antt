@@ -1,5 +1,5 @@
 use Rattle.std.proofs.Common.{◌≡◌, map}
-use Rattle.trace_details.specs.Details.{support_of}
+use Rattle.wave_entries.specs.Details.{support_of}
 use Rattle.wave_entries.specs.Entries.{entry_seen}
 use Rattle.learned_firings.specs.Flags.{with_flags}
 use Rattle.learned_firings.proofs.flags.hold_flagged.Given as goal

@@ -1,6 +1,6 @@
 use Rattle.std.proofs.Common.{◌∙◌, List, ap, ap₂}
 use Rattle.defs_match.specs.declared.instance.Instance.{Instance}
-use Rattle.live_firings.specs.declared.live.Live.{Live}
+use Rattle.outstanding.specs.Live.{Live}
 use Rattle.pending_work.specs.declared.work.Work.{Work}
 use Rattle.pending_work.specs.Active.{at_level, level_of}
 use Rattle.pending_work.proofs.active.of_active_level.Goals as goal

@@ -3,8 +3,8 @@ use Rattle.std.proofs.lemmas.Result.{IfOk-weaker}
 use Rattle.defs_match.specs.Conflict.{conflict}
 use Rattle.defs_match.specs.Rules.{rule_seen}
 use Rattle.defs_soar.specs.Pending.{is_listed}
-use Rattle.live_firings.specs.Living.{live_seen}
-use Rattle.live_firings.specs.declared.live.Live.{Live}
+use Rattle.outstanding.specs.Living.{live_seen}
+use Rattle.outstanding.specs.Live.{Live}
 use Rattle.pending_work.specs.Active.{active_of}
 use Rattle.pending_work.specs.Firables.{AreBound}
 use Rattle.pending_work.specs.Open.{IsOpen, can_fire_now}

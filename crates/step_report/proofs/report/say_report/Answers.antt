@@ -1,6 +1,6 @@
 use Rattle.std.proofs.Common.{◌++◌, flat_map, map}
 use Rattle.defs_soar.specs.Waves.{retract_event}
-use Rattle.live_firings.specs.Living.{live_seen}
+use Rattle.wave_entries.specs.Living.{live_seen}
 use Rattle.wave_entries.specs.Entries.{told_events}
 use Rattle.step_report.specs.Reports.{settled_events}
 use Rattle.step_report.proofs.KnownLemmas.{known_first, known_second}

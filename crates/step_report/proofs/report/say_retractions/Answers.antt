@@ -1,5 +1,5 @@
 use Rattle.defs_soar.specs.Waves.{retract_event}
-use Rattle.live_firings.specs.Living.{live_seen}
+use Rattle.wave_entries.specs.Living.{live_seen}
 use Rattle.step_report.proofs.SayingLemmas.{says_mapped_twice, says_none, says_one}
 use Rattle.step_report.proofs.KnownLemmas.{known_in_maps}
 use Rattle.step_report.proofs.report.say_retractions.Goals as goal

@@ -1,6 +1,6 @@
 use Rattle.std.proofs.Common.{map, take}
 use Rattle.defs_soar.specs.Waves.{retract_event}
-use Rattle.live_firings.specs.Living.{live_seen}
+use Rattle.wave_entries.specs.Living.{live_seen}
 use Rattle.step_report.specs.Saying.{SaysEvents}
 use Rattle.step_report.proofs.report.say_retractions.Given as goal
 

@@ -4,7 +4,7 @@ use Rattle.defs_run.specs.Whole.{whole_stage}
 use Rattle.defs_run.specs.WholeReading.{read_whole}
 use Rattle.defs_run.specs.Runs.{after_reading, obeyed}
 use Rattle.defs_run.specs.Sessions.{Session, refused_by}
-use Rattle.soar_cmd.specs.Answers.{refusal_of}
+use Rattle.session_parts.specs.Answers.{refusal_of}
 use Rattle.command_orders.specs.Asked.{order_seen}
 use Rattle.soar_settle.specs.declared.stop.Stop.TheVariants as stop
 use Rattle.defs_soar.specs.declared.limit.Which.TheVariants as which

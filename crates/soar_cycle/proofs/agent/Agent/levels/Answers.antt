@@ -1,6 +1,6 @@
 use Rattle.std.proofs.Common.{map, subst, sym}
 use Rattle.soar_wm.specs.WorkingMemory.{triple_of}
-use Rattle.firing_records.specs.Levels.{TellsLevels}
+use Rattle.cycle_phases.specs.Levels.{TellsLevels}
 use Rattle.cycle_phases.specs.Seen.{IsSound}
 use Rattle.cycle_phases.proofs.PartsSoundLemmas.{levels_told}
 use Rattle.soar_cycle.specs.Agents.{AgentSeen}

@@ -4,7 +4,7 @@ use Rattle.defs_soar.specs.Trimming.{numbers_of}
 use Rattle.live_firings.specs.Living.{live_seen}
 use Rattle.live_firings.specs.declared.live.Live.{Live}
 use Rattle.soar_settle.specs.Renewal.{Renews}
-use Rattle.wave_entries.specs.Entries.{entry_seen}
+use Rattle.wave_learning.specs.Entries.{entry_seen}
 use Rattle.wave_parts.specs.Leaving.{HasLeft, IsMadeFit}
 use Rattle.wave_parts.specs.declared.parts.Parts.{Parts as PartsKept}
 use Rattle.wave_parts.proofs.CarryingLemmas.{counted_sound}

@@ -8,7 +8,7 @@ use Rattle.soar_fire.proofs.GrowthLemmas.{grown_twice}
 use Rattle.firing_records.specs.Levels.{TellsLevels}
 use Rattle.soar_rule.specs.Symbols.{AreKnown}
 use Rattle.soar_wm.specs.WorkingMemory.{triple_of}
-use Rattle.wave_entries.specs.Entries.{entry_seen}
+use Rattle.wave_learning.specs.Entries.{entry_seen}
 use Rattle.wave_firings.specs.Listed.{recorded_in}
 use Rattle.wave_firings.specs.Numbered.{AreGoalsOf}
 use Rattle.wave_learning.specs.Hands.{program_seen}
