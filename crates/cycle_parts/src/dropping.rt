@@ -7,11 +7,10 @@ ghost use Rattle.cycle_parts.specs.Dropping.{AreDropped, is_of_name, unnamed, un
 ghost use Rattle.pending_work.specs.Firables.{AreNumbered};
 ghost use Rattle.decision_parts.specs.Hands.{learned_rule_seen};
 
-use decision_parts::Parts;
+use decision_parts::{LearnedRule, Parts};
 use outstanding::Outstanding;
 use rule_shelf::Rules;
 use soar_sym::{List, Sym, is_symbol};
-use decision_parts::LearnedRule;
 
 /// Takes the rules of a name away, and their explanations.
 pub fn drop_named<M: Outstanding>(parts: &mut Parts, matcher: &mut M, name: Sym)

@@ -15,13 +15,12 @@ ghost use Rattle.decision_parts.specs.Stands.{Stands};
 
 use crate::engine::Engine;
 use crate::triples::note_queued;
-use decision_parts::{Stop, count_more};
+use decision_parts::{CyclePart, Stop, count_more};
 use input_queue::make_changes;
 use outstanding::Outstanding;
 use soar_sym::{List, NoMemory, SymTable, Text};
 use std::alloc::Global;
 use step_report::{Settled, begin_part, say_settled, says_in_turn};
-use decision_parts::CyclePart;
 
 impl<M: Outstanding> Engine<M> {
     /// Runs the input phase: one cycle more, and the queued changes of the inputs in order (Soar manual, chapter 2,

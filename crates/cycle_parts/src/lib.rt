@@ -21,9 +21,8 @@ mod telling;
 mod triples;
 mod waving;
 
-pub use decision_parts::{CyclePart, Kept, Parts, Settings, Stop};
+pub use decision_parts::{CyclePart, Kept, LearnedRule, Parts, Settings, Stop};
 pub use engine::Engine;
-pub use decision_parts::LearnedRule;
-pub use waving::Waved;
-pub use step_report::{begin_part, say_cut_at};
 pub use outstanding::Outstanding;
+pub use step_report::{begin_part, say_cut_at};
+pub use waving::Waved;

@@ -12,13 +12,12 @@ ghost use Rattle.decision_parts.specs.Seen.{IsSound};
 ghost use Rattle.decision_parts.specs.Stands.{Stands};
 
 use crate::engine::Engine;
-use decision_parts::Stop;
+use decision_parts::{CyclePart, Stop};
 use output_link::{OutputChanges, output_changes, output_of};
 use outstanding::Outstanding;
 use soar_sym::{NoMemory, SymTable, Text};
 use std::alloc::Global;
 use step_report::{begin_part, say_halt_at, say_outputs_at, says_in_turn};
-use decision_parts::CyclePart;
 
 impl<M: Outstanding> Engine<M> {
     /// Runs the output phase: what the output link shows no longer, then what is new there, and a halt (Soar manual,

@@ -12,8 +12,7 @@ ghost use Rattle.cycle_parts.specs.Seen.{IsSound};
 ghost use Rattle.cycle_parts.specs.Stands.{Stands};
 
 use crate::phase::run_phase;
-use cycle_parts::{Engine, Stop};
-use cycle_parts::Outstanding;
+use cycle_parts::{Engine, Outstanding, Stop};
 use soar_sym::Text;
 use std::alloc::Global;
 use trace_lines::Phase;

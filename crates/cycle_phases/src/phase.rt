@@ -12,12 +12,9 @@ ghost use Rattle.cycle_parts.specs.Lawful.{IsOfLawful};
 ghost use Rattle.cycle_parts.specs.Seen.{IsSound};
 ghost use Rattle.cycle_parts.specs.Stands.{Stands};
 
-use cycle_parts::{Engine, Parts, Stop, Waved};
-use cycle_parts::Outstanding;
+use cycle_parts::{CyclePart, Engine, Outstanding, Parts, Stop, Waved, begin_part, say_cut_at};
 use soar_sym::{NoMemory, Text};
 use std::alloc::Global;
-use cycle_parts::{begin_part, say_cut_at};
-use cycle_parts::CyclePart;
 use trace_lines::Phase;
 
 /// How a phase ended: nothing was pending, or it was cut with work still pending, or the agent is halted.

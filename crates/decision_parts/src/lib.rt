@@ -14,4 +14,6 @@ mod walking;
 
 pub use deciding::decide;
 pub use decision::Decision;
-pub use wave_parts::{Changes, CyclePart, Done, Kept, LearnedRule, Parts, Settings, Stop, Work, count_more};
+pub use wave_parts::{
+    Changes, CyclePart, Done, Kept, LearnedRule, Parts, Settings, Stop, Work, count_more,
+};

@@ -10,8 +10,8 @@ use step_report::{
     Settled, begin_part, say_changes, say_goal_limit_at, say_removals, say_selection_at,
     say_substate_at, says_in_turn,
 };
-use wave_parts::CyclePart;
 use trace_lines::{NewGoal, Selected};
+use wave_parts::CyclePart;
 
 /// The line of a decision.
 #[derive(Clone, Copy)]

@@ -17,12 +17,11 @@ use crate::ending::end_decision;
 use crate::pushing::push_goal;
 use crate::saying::DecisionLine;
 use defs_soar::{Impasse, Item};
-use wave_parts::drop_word;
 use soar_sym::{List, Sym, Text};
 use std::alloc::Global;
 use step_report::Removed;
 use trace_lines::{NewGoal, Selected, operator_name};
-use wave_parts::{Parts, Stop};
+use wave_parts::{Parts, Stop, drop_word};
 
 /// Settles once the last goal has an operator selected, and tells it by the name that it had before.
 pub fn select(

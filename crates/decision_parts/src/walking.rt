@@ -8,12 +8,10 @@ ghost use Rattle.wave_parts.specs.Lawful.{IsOfLawful};
 ghost use Rattle.wave_parts.specs.Seen.{IsSound, IsToSettle};
 ghost use Rattle.wave_parts.specs.Stands.{Stands};
 
-use decision_walk::{Decided, walk, walks_keep_goals};
-use wave_parts::rows_fit_decisions;
-use decision_walk::View;
+use decision_walk::{Decided, View, walk, walks_keep_goals};
 use soar_sym::NoMemory;
 use std::alloc::Global;
-use wave_parts::Parts;
+use wave_parts::{Parts, rows_fit_decisions};
 
 /// Goes over the goals from the top down, and leaves those that stay. With the others go their firings and what these
 /// hold up.

@@ -8,5 +8,5 @@ mod walking;
 
 pub use decided::Decided;
 pub use laws::walks_keep_goals;
-pub use walking::walk;
 pub use soar_decide::View;
+pub use walking::walk;

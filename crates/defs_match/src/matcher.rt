@@ -7,8 +7,7 @@ ghost use Rattle.defs_match.specs.Rules.{RuleOf, rule_seen};
 
 use crate::instance::Instance;
 use crate::rule::Rule;
-use soar_wm::{List, NoMemory};
-use soar_wm::Element;
+use soar_wm::{Element, List, NoMemory};
 use std::alloc::Global;
 
 /// What matches rules against working memory.

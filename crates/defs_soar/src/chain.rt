@@ -1,7 +1,7 @@
 use crate::firing::Firing;
 use crate::preference::Wish;
-use soar_sym::List;
 use defs_match::Element;
+use soar_sym::List;
 
 /// A step of an explanation.
 #[derive(Drop)]

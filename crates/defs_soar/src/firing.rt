@@ -5,9 +5,8 @@ ghost use Rattle.defs_soar.specs.Explanation.{firing_of};
 ghost use Rattle.defs_soar.specs.History.{FiringOf, firing_seen};
 
 use crate::preference::Wish;
-use defs_match::{Instance, Rule};
+use defs_match::{Element, Instance, Rule};
 use soar_sym::{List, Sym, Text};
-use defs_match::Element;
 
 /// In which way a firing used an element of its instance (Soar manual, chapter 4, backtracing).
 #[derive(Clone, Copy, PartialEq, Eq)]

@@ -6,9 +6,7 @@ ghost use Rattle.firing_records.specs.Own.{HasSame};
 
 use crate::own::own_triples;
 use defs_soar::Goal;
-use kept_triples::Kept;
-use kept_triples::Prefs;
-use kept_triples::TripleSet;
+use kept_triples::{Kept, Prefs, TripleSet};
 use soar_sym::{List, NoMemory, Triple};
 use soar_wm::{Element, Memory};
 use std::alloc::Global;

@@ -13,7 +13,7 @@ mod ways;
 
 pub use among::goals_of;
 pub use before::Before;
+pub use kept_triples::Kept;
 pub use outcome::Recorded;
 pub use recording::recorded;
-pub use kept_triples::Kept;
 pub use soar_levels::operator_kind;

@@ -4,5 +4,5 @@
 mod broken;
 mod trimming;
 
-pub use trimming::trim;
 pub use touched_tags::retag_touched;
+pub use trimming::trim;

@@ -10,12 +10,11 @@ ghost use Rattle.learned_firings.specs.Deciding.{AreThere, deciding, tags_if, te
 
 use chain_identifiers::is_among;
 use defs_match::{Instance, Rule};
-use wave_entries::Before;
-use wave_entries::operator_kind;
 use soar_sym::architecture::OPERATOR;
 use soar_sym::{List, Sym, is_symbol};
 use soar_wm::Element;
 use std::alloc::{AllocError, Global};
+use wave_entries::{Before, operator_kind};
 
 /// The kind of the firing, for elements in this order.
 pub(crate) fn learned_kind(

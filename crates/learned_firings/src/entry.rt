@@ -7,11 +7,9 @@ ghost use Rattle.wave_entries.specs.Recorded.{recorded_seen};
 ghost use Rattle.learned_firings.specs.Firings.{told_as_learned};
 
 use defs_soar::{Goal, Wish, is_operator_slot};
-use wave_entries::Recorded;
 use soar_sym::{List, Text};
 use std::alloc::{AllocError, Global};
-use wave_entries::{HeldBy, Lesson};
-use wave_entries::{Entry, Fresh, Heading, HeldWish, Told};
+use wave_entries::{Entry, Fresh, Heading, HeldBy, HeldWish, Lesson, Recorded, Told};
 
 /// A firing of a learned rule, under what was learned, with the preferences that it takes over.
 pub fn learned_entry(

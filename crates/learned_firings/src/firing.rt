@@ -11,10 +11,10 @@ ghost use Rattle.learned_firings.specs.Firings.{learned_as};
 use crate::deciding::learned_kind;
 use defs_match::{Instance, Rule};
 use defs_soar::Wish;
-use wave_entries::{Before, Recorded, goals_of, recorded};
 use soar_sym::{List, NoMemory, Sym, SymTable};
 use soar_wm::Element;
 use std::alloc::{AllocError, Global};
+use wave_entries::{Before, Recorded, goals_of, recorded};
 
 /// The firing of a learned rule under a number, at the elements of its conditions, which takes over preferences of a
 /// firing whose match goal is of the depth `explained` (Soar manual, chapter 4, chunking). Its support is that of its

@@ -6,8 +6,7 @@ ghost use Rattle.learned_firings.specs.Flags.{flagged, held_if, first_flag, flag
 
 use soar_sym::List;
 use std::alloc::{AllocError, Global};
-use wave_entries::HeldBy;
-use wave_entries::{Entry, Fresh, HeldWish, Told};
+use wave_entries::{Entry, Fresh, HeldBy, HeldWish, Told};
 
 /// The entries, with the flagged preferences of the firing of a number held in this way.
 pub fn hold_flagged(

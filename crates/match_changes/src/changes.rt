@@ -6,9 +6,8 @@ ghost use Rattle.defs_match.specs.Rules.{rule_seen};
 ghost use Rattle.match_changes.specs.Told.{AreTold, IsTheOne, of_rule};
 
 use crate::key::MatchKey;
-use defs_match::{Instance, Matcher, Rule};
+use defs_match::{Element, Instance, Matcher, Rule};
 use soar_sym::{List, NoMemory};
-use defs_match::Element;
 use std::alloc::Global;
 
 /// A matcher that tells what its calls change of the conflict set.

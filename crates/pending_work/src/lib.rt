@@ -5,5 +5,5 @@ mod active;
 mod candidates;
 mod work;
 
-pub use work::{Work, pending};
 pub use outstanding::Open;
+pub use work::{Work, pending};

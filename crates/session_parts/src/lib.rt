@@ -23,5 +23,5 @@ pub use reasons::Reason;
 pub use refusing::say_refusal;
 pub use said::{say_elements_of, say_matches, say_production};
 pub use slot::Slot;
-pub use stopping::say_stop;
 pub use soar_cmd::{CmdFault, read_command};
+pub use stopping::say_stop;

@@ -8,8 +8,7 @@ ghost use Rattle.step_report.specs.Saying.{SaysEvents};
 use crate::text::say_text;
 use defs_soar::Dropped;
 use soar_sym::{NoMemory, SymTable, Text};
-use wave_entries::{say_drop, say_firing, say_lesson, say_wish};
-use wave_entries::{Heading, HeldWish, Told};
+use wave_entries::{Heading, HeldWish, Told, say_drop, say_firing, say_lesson, say_wish};
 
 /// Appends what is told of a firing: its line (level 3), its preferences and dropped actions (level 5), and its text at
 /// every level. Of what learning told without a firing that is its line alone.

@@ -6,8 +6,8 @@ ghost use Rattle.wave_entries.specs.Details as details;
 ghost use Rattle.step_report.specs.Saying.{SaysEvents};
 
 use soar_sym::{NoMemory, SymTable, Text};
-use wave_entries::{CyclePart, say_part};
 use trace_lines::{Phase, say_cut, say_halt};
+use wave_entries::{CyclePart, say_part};
 
 /// The watch level from which the lines of `trace_lines` are shown.
 pub const LINES: u8 = 1;

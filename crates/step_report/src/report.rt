@@ -9,10 +9,8 @@ ghost use Rattle.step_report.specs.Saying.{SaysEvents};
 
 use crate::fired::say_fired;
 use crate::settled::{Settled, say_settled};
-use wave_entries::Live;
 use soar_sym::{List, NoMemory, SymTable, Text};
-use wave_entries::say_retraction;
-use wave_entries::Told;
+use wave_entries::{Live, Told, say_retraction};
 
 /// What a wave did that can be told. What learning told is among the firings, in its place.
 #[derive(Drop)]

@@ -6,10 +6,9 @@ ghost use Rattle.trace_laws.specs.Events.{AreEventsKnown};
 ghost use Rattle.step_report.specs.Reports.{removed_seen, settled_events};
 ghost use Rattle.step_report.specs.Saying.{SaysEvents};
 
-use wave_entries::Changes;
 use soar_sym::{List, NoMemory, Sym, SymTable, Text};
 use soar_wm::Element;
-use wave_entries::{say_gone, say_new, say_removal};
+use wave_entries::{Changes, say_gone, say_new, say_removal};
 
 /// What settling did that can be told: the goals that went, each with its depth, and what went from working memory and
 /// what came.

@@ -6,9 +6,9 @@ ghost use Rattle.defs_soar.specs.declared.learning.Cause.TheVariants as cause;
 ghost use Rattle.chain_texts.specs.Events.{IsCauseKnown};
 
 use defs_soar::Cause;
-use trace_lines::symbol_text;
 use soar_sym::{NoMemory, Sym, SymTable};
 use std::alloc::{AllocError, Global};
+use trace_lines::symbol_text;
 
 /// A cause, as `local negation in 7`.
 pub fn cause_text(alloc: Global, table: &SymTable, cause: Cause) -> Result<String, NoMemory>

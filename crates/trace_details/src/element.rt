@@ -9,10 +9,10 @@ ghost use Rattle.trace_details.specs.Details.{SaysAt};
 
 use crate::level::{ELEMENTS, is_shown};
 use crate::line::say_line;
-use trace_lines::show_element;
 use soar_sym::{NoMemory, SymTable, Text};
 use soar_wm::Element;
 use std::alloc::Global;
+use trace_lines::show_element;
 
 /// Appends the line of an element that went, as `- 6: (S1 ^a b)`.
 pub fn say_gone(

@@ -13,9 +13,9 @@ use crate::cause::cause_text;
 use crate::level::{LESSONS, is_shown};
 use crate::line::say_line;
 use defs_soar::Cause;
-use trace_lines::{push_tags, symbol_text};
 use soar_sym::{List, NoMemory, Sym, SymTable, Text};
 use std::alloc::{AllocError, Global};
+use trace_lines::{push_tags, symbol_text};
 
 /// The firing of a rule that was learned: its number, the name of the rule, the number of the firing that the rule
 /// explains, and the tags of its instance.

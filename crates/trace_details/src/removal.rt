@@ -8,9 +8,9 @@ ghost use Rattle.trace_details.specs.Details.{SaysAt};
 
 use crate::level::{REMOVALS, is_shown};
 use crate::line::say_line;
-use trace_lines::show_symbol;
 use soar_sym::{NoMemory, Sym, SymTable, Text};
 use std::alloc::Global;
+use trace_lines::show_symbol;
 
 /// Appends the line of a goal that went, as `remove S2`.
 pub fn say_removal(

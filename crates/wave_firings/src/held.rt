@@ -5,8 +5,7 @@ ghost use Rattle.wave_firings.specs.Held.{held_as};
 use defs_soar::{Goal, Wish, is_operator_slot};
 use soar_sym::List;
 use std::alloc::{AllocError, Global};
-use wave_entries::HeldBy;
-use wave_entries::HeldWish;
+use wave_entries::{HeldBy, HeldWish};
 
 /// The preferences of a firing of a kind, with how each is held.
 pub fn held_of(

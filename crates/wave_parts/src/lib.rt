@@ -21,14 +21,14 @@ mod working;
 
 pub use carrying::Done;
 pub use counting::count_more;
+pub use input_queue::drop_word;
+pub use kept_triples::Kept;
 pub use live_firings::Live;
 pub use parts::Parts;
 pub use pending_work::Work;
 pub use removing::{at_depths, behind};
+pub use row_laws::rows_fit_decisions;
 pub use settings::Settings;
 pub use soar_settle::{Changes, Stop};
 pub use step_report::CyclePart;
-pub use row_laws::rows_fit_decisions;
-pub use input_queue::drop_word;
 pub use wave_learning::LearnedRule;
-pub use kept_triples::Kept;

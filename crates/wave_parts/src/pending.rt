@@ -10,8 +10,7 @@ ghost use Rattle.soar_settle.specs.Known.{AreInstancesKnown};
 ghost use Rattle.wave_parts.specs.Seen.{AreLiveKnown, IsSound, pending_of};
 
 use crate::parts::Parts;
-use pending_work::Open;
-use pending_work::{Work, pending};
+use pending_work::{Open, Work, pending};
 use soar_sym::NoMemory;
 use std::alloc::Global;
 

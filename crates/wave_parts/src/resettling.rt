@@ -11,7 +11,7 @@ ghost use Rattle.wave_parts.specs.Stands.{Stands};
 use crate::doubting::tags_of;
 use crate::parts::Parts;
 use crate::removing::{at_depths, behind};
-use goal_trimming::trim;
+use goal_trimming::{retag_touched, trim};
 use matching_laws::changes_are_told;
 use removal_laws::{removals_alone, removals_are_nested};
 use settle_changes::rest_is_kept;
@@ -19,7 +19,6 @@ use soar_settle::Stop;
 use soar_sym::List;
 use std::alloc::Global;
 use step_report::Settled;
-use goal_trimming::retag_touched;
 
 impl Parts {
     /// Settles what is held, without the goals that lost something on which they depend, and makes working memory of

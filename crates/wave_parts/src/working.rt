@@ -21,9 +21,8 @@ use soar_settle::Stop;
 use soar_sym::List;
 use std::alloc::Global;
 use std::mem::replace;
-use wave_learning::Entry;
 use wave_firings::{Fired, fire_all};
-use wave_learning::{AtHand, LearnedRule, Program, learn};
+use wave_learning::{AtHand, Entry, LearnedRule, Program, learn};
 
 /// What a wave came to: its entries, and whether a firing halts.
 #[derive(Drop)]
