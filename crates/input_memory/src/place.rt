@@ -2,7 +2,7 @@
 ghost use Rattle.std.specs.Prelude.{◌≡◌, Some, refl};
 ghost use Rattle.std.specs.Cmp.{eq_by_cmp_equiv, partial_equiv_from_equiv, partial_order_from_agreeing_total};
 ghost use Rattle.std.specs.Ordering.{eq_by_cmp};
-ghost use Rattle.input_memory.specs.Order.{attr_cmp, id_cmp, place_cmp, place_total, rest_cmp, value_cmp};
+ghost use Rattle.input_memory.specs.Order.{attr_cmp, place_cmp, place_total, rest_cmp, value_cmp};
 ghost use Rattle.input_memory.specs.Place.{edge, kind_at, kind_number, place_of, triple_of, IsTold, IsToldSymbol};
 
 use packed_triples::{Kind, kind_of, number_of, symbol_at};
@@ -24,14 +24,6 @@ pub struct Place {
 const _: () = prove!(size_of::<(Place, u64)>() == 40);
 
 impl Place {
-    fn cmp_id(&self, other: &Place) -> Ordering
-        ensures { result ≡ id_cmp self.now other.now }
-    {
-        self.id
-            .cmp(&other.id)
-            .then(self.id_kind.cmp(&other.id_kind))
-    }
-
     fn cmp_attr(&self, other: &Place) -> Ordering
         ensures { result ≡ attr_cmp self.now other.now }
     {
@@ -50,10 +42,13 @@ impl Place {
             .then(self.accept.cmp(&other.accept))
     }
 
-    /// How places of one identifier compare.
+    /// How places of one identifier compare: at once by the numbers of attributes of one kind, where these differ.
     fn cmp_rest(&self, other: &Place) -> Ordering
         ensures { result ≡ rest_cmp self.now other.now }
     {
+        if self.attr_kind == other.attr_kind && self.attr != other.attr {
+            return self.attr.cmp(&other.attr);
+        }
         match self.cmp_attr(other) {
             Ordering::Equal => self.cmp_value(other),
             order => order,
@@ -86,7 +81,7 @@ impl PartialOrd for Place {
 }
 
 /// The identifier comes first, so that its triples stand side by side, and the mark last, so that a triple stands beside that with
-/// the other mark.
+/// the other mark. Where the numbers of the identifiers differ, no more than these is compared.
 impl Ord for Place {
     ghost cmp = { λ x y. place_cmp x y };
 
@@ -97,7 +92,10 @@ impl Ord for Place {
     ghost matches_eq = { λ x y. refl };
 
     fn cmp(&self, other: &Place) -> Ordering {
-        match self.cmp_id(other) {
+        if self.id != other.id {
+            return self.id.cmp(&other.id);
+        }
+        match self.id_kind.cmp(&other.id_kind) {
             Ordering::Equal => self.cmp_rest(other),
             order => order,
         }
