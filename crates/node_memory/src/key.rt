@@ -102,10 +102,13 @@ impl PackedKey {
         }
     }
 
-    /// How keys of one identifier compare.
+    /// How keys of one identifier compare: at once by the numbers of attributes of one kind, where these differ.
     fn cmp_attributes(&self, other: &PackedKey) -> Ordering
         ensures { result ≡ attributes_cmp self.now other.now }
     {
+        if rank_of(self.attr_kind) == rank_of(other.attr_kind) && self.attr != other.attr {
+            return self.attr.cmp(&other.attr);
+        }
         match cmp_symbols(self.attr_kind, self.attr, other.attr_kind, other.attr) {
             Ordering::Equal => self.cmp_values(other),
             order => order,
@@ -147,6 +150,7 @@ impl PartialOrd for PackedKey {
     }
 }
 
+/// Where the identifiers are of one kind and differ in number, no more than these numbers is compared.
 impl Ord for PackedKey {
     ghost cmp = { λ x y. key_cmp x y };
 
@@ -157,6 +161,9 @@ impl Ord for PackedKey {
     ghost matches_eq = { λ x y. refl };
 
     fn cmp(&self, other: &PackedKey) -> Ordering {
+        if rank_of(self.id_kind) == rank_of(other.id_kind) && self.id != other.id {
+            return self.id.cmp(&other.id);
+        }
         match cmp_symbols(self.id_kind, self.id, other.id_kind, other.id) {
             Ordering::Equal => self.cmp_attributes(other),
             order => order,

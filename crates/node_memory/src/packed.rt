@@ -136,6 +136,19 @@ impl PackedSymbolKey {
     {
         self.id == other.id && self.value == other.value
     }
+
+    /// How keys compare: by the sides, and those of the same sides by tags.
+    fn cmp_sides(&self, other: &PackedSymbolKey) -> Ordering
+        ensures { result ≡ symbol_cmp self.now other.now }
+    {
+        match self.id.cmp(&other.id) {
+            Ordering::Equal => match self.value.cmp(&other.value) {
+                Ordering::Equal => self.tags.cmp(&other.tags),
+                order => order,
+            },
+            order => order,
+        }
+    }
 }
 
 impl PartialEq for PackedSymbolKey {
@@ -163,6 +176,7 @@ impl PartialOrd for PackedSymbolKey {
 }
 
 /// By the sides, and those of the same sides by tags, so that the rows in which variables stand for the same stand side by side.
+/// Where the numbers of the first sides differ, no more than these is compared.
 impl Ord for PackedSymbolKey {
     ghost cmp = { λ x y. symbol_cmp x y };
 
@@ -173,12 +187,9 @@ impl Ord for PackedSymbolKey {
     ghost matches_eq = { λ x y. refl };
 
     fn cmp(&self, other: &PackedSymbolKey) -> Ordering {
-        match self.id.cmp(&other.id) {
-            Ordering::Equal => match self.value.cmp(&other.value) {
-                Ordering::Equal => self.tags.cmp(&other.tags),
-                order => order,
-            },
-            order => order,
+        if self.id.number != other.id.number {
+            return self.id.number.cmp(&other.id.number);
         }
+        self.cmp_sides(other)
     }
 }

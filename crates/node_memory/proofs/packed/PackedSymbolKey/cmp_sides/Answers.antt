@@ -4,7 +4,7 @@ use Rattle.std.specs.Ordering.{nat_cmp, ordering_then}
 use Rattle.std.specs.declared.cmp.Ordering.TheVariants.{Equal}
 use Rattle.node_memory.specs.Sides.{side_cmp}
 use Rattle.node_memory.proofs.SideLemmas.{keys_by_sides}
-use Rattle.node_memory.proofs.packed.PackedSymbolKeyOrd.cmp.Goals as goal
+use Rattle.node_memory.proofs.packed.PackedSymbolKey.cmp_sides.Goals as goal
 
 pub returns-in-Equal-cmp : goal.returns-in-Equal-cmp
 returns-in-Equal-cmp c =
