@@ -110,6 +110,7 @@ impl PartialOrd for RowTags {
     }
 }
 
+/// Where the first tags differ, no more than these is compared.
 impl Ord for RowTags {
     ghost cmp = { λ x y. slice_cmp nat_cmp x y };
 
@@ -121,9 +122,9 @@ impl Ord for RowTags {
 
     #[tactic(auto, using(crate::proofs::TagLemmas::told_by_two))]
     fn cmp(&self, other: &RowTags) -> Ordering {
-        match self.first.cmp(&other.first) {
-            Ordering::Equal => self.cmp_later(other),
-            order => order,
+        if self.first != other.first {
+            return self.first.cmp(&other.first);
         }
+        self.cmp_later(other)
     }
 }
