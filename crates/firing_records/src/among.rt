@@ -56,7 +56,7 @@ fn in_order(alloc: Global, table: &SymTable, symbols: &[Sym]) -> Result<List<Sym
     requires { AreKnown table.now symbols.now }
     ensures { IfOk result (λ ordered. ordered ≡ in_order table.now symbols.now) }
 {
-    let mut ordered = Vec::new(alloc);
+    let mut ordered = Vec::with_capacity(alloc, symbols.len())?;
     'symbols: for at in (0..symbols.len()).rev() {
         add_symbol(table, &mut ordered, symbols[at])?;
     }

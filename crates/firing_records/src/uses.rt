@@ -16,7 +16,7 @@ pub fn all_uses(before: &Before<'_>, depth: usize, tags: &[u32]) -> Result<List<
     requires few { depth ≤ 100 }
     ensures { IfOk result (λ used. used ≡ all_uses_before (standing before.now) depth tags.now) }
 {
-    let mut used = List::new(before.alloc);
+    let mut used = List::from_vec(Vec::with_capacity(before.alloc, tags.len())?);
     'tags: for tag in tags {
         add_uses_of_tag(before, depth, *tag, &mut used)?;
     }

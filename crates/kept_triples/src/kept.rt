@@ -11,7 +11,7 @@ ghost use Rattle.kept_triples.specs.Kept.{level_in_kept, HoldsTriples, IsCovered
 
 use crate::looking::{Difference, look_at_all};
 use crate::own::Own;
-use crate::triples::TripleSet;
+use crate::held::HeldTriples;
 use defs_soar::Goal;
 use input_memory::Inputs;
 use level_change::LevelGraph;
@@ -23,7 +23,7 @@ use std::marker::Model;
 /// The triples that are held, each once, and the levels over them (Soar manual, chapter 2, support, substates and levels).
 #[derive(Drop)]
 pub struct Kept {
-    held: TripleSet,
+    held: HeldTriples,
     graph: LevelGraph,
     own: Own,
 }
@@ -43,7 +43,7 @@ impl Kept {
         ensures own { IfOk result (λ kept. OwnIs [] kept) }
     {
         Ok(Kept {
-            held: TripleSet::new(alloc),
+            held: HeldTriples::new(alloc),
             graph: LevelGraph::new(alloc)?,
             own: Own::new(alloc, &[])?,
         })

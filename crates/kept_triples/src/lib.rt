@@ -1,6 +1,7 @@
 //! The triples that are held, kept up under changes, with the levels over them.
 #![tactic(auto)]
 
+mod held;
 mod kept;
 mod laws;
 mod looking;

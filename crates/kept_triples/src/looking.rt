@@ -7,7 +7,7 @@ ghost use Rattle.soar_settle.specs.Memory.{has_plain};
 ghost use Rattle.kept_triples.specs.Looking.{Balances, is_held_now, with_mark};
 
 use crate::own::Own;
-use crate::triples::TripleSet;
+use crate::held::HeldTriples;
 use defs_soar::{Goal, is_operator_slot};
 use input_memory::Inputs;
 use soar_settle::Prefs;
@@ -41,7 +41,7 @@ pub fn look_at_all(
     prefs: &Prefs,
     inputs: &Inputs,
     changed: &[Triple],
-    held: &mut TripleSet,
+    held: &mut HeldTriples,
     difference: &mut Difference,
 ) -> Result<(), NoMemory>
     ensures members { OnOk result ((t : TripleOf) → has_triple_among held.new t ≡ cond (has_plain changed.now t) (is_held_now own.now.triples goals.now prefs.now.rows inputs.now t) (has_triple_among held.old t)) }
@@ -60,7 +60,7 @@ fn look_at(
     prefs: &Prefs,
     inputs: &Inputs,
     triple: Triple,
-    held: &mut TripleSet,
+    held: &mut HeldTriples,
     difference: &mut Difference,
 ) -> Result<(), NoMemory>
     ensures members { OnOk result ((t : TripleOf) → has_triple_among held.new t ≡ cond (has_value t.id t.attr t.value triple) (is_held_now own.now.triples goals.now prefs.now.rows inputs.now t) (has_triple_among held.old t)) }
@@ -100,7 +100,7 @@ fn do_rows_hold(goals: &[Goal], prefs: &Prefs, triple: Triple) -> bool
 
 /// Puts a triple among those that are held, or takes it away.
 fn renew(
-    held: &mut TripleSet,
+    held: &mut HeldTriples,
     difference: &mut Difference,
     triple: Triple,
     is_held: bool,
@@ -115,7 +115,7 @@ fn renew(
     }
 }
 
-fn come(held: &mut TripleSet, difference: &mut Difference, triple: Triple) -> Result<(), NoMemory>
+fn come(held: &mut HeldTriples, difference: &mut Difference, triple: Triple) -> Result<(), NoMemory>
     ensures members { OnOk result ((t : TripleOf) → has_triple_among held.new t ≡ (triple_eq t triple || has_triple_among held.old t)) }
     ensures counts { OnOk result (Balances held.old difference.old held.new difference.new) }
 {
@@ -127,7 +127,7 @@ fn come(held: &mut TripleSet, difference: &mut Difference, triple: Triple) -> Re
     Ok(())
 }
 
-fn go(held: &mut TripleSet, difference: &mut Difference, triple: Triple) -> Result<(), NoMemory>
+fn go(held: &mut HeldTriples, difference: &mut Difference, triple: Triple) -> Result<(), NoMemory>
     ensures members { OnOk result ((t : TripleOf) → has_triple_among held.new t ≡ (not (triple_eq t triple) && has_triple_among held.old t)) }
     ensures counts { OnOk result (Balances held.old difference.old held.new difference.new) }
 {

@@ -1,5 +1,5 @@
 // Triples in a set.
-ghost use Rattle.std.specs.Prelude.{◌≡◌, ◌||◌, ◌&&◌, not, cond, Bool, [], ◌∷◌, IfOk, OnOk};
+ghost use Rattle.std.specs.Prelude.{◌≡◌, ◌||◌, ◌&&◌, not, cond, Bool, [], ◌∷◌, IfOk, OnOk, OnErr};
 ghost use Rattle.soar_sym.specs.declared.symbol.Triple.{Triple as TripleOf};
 ghost use Rattle.defs_soar.specs.Values.{has_triple_among, triple_eq};
 ghost use Rattle.kept_triples.specs.Counts.{how_many};
@@ -58,6 +58,7 @@ impl TripleSet {
         ensures new { IfOk result (λ is_new. is_new ≡ not (has_triple_among self.old triple)) }
         ensures has { OnOk result ((t : TripleOf) → has_triple_among self.new t ≡ (triple_eq t triple || has_triple_among self.old t)) }
         ensures once { IfOk result (λ is_new. (p : TripleOf → Bool) → how_many p self.new ≡ how_many p (cond is_new (triple ∷ self.old) self.old)) }
+        ensures err { OnErr result (self.new ≡ self.old) }
     {
         let is_new = self.table.insert(PackedTriple::new(triple))?;
         Ok(is_new)

@@ -16,7 +16,7 @@ pub fn held_of(
 ) -> Result<List<HeldWish>, AllocError>
     ensures { IfOk result (λ held. held ≡ map (held_as goals.now operator_kind) wishes.now) }
 {
-    let mut held = List::new(alloc);
+    let mut held = List::from_vec(Vec::with_capacity(alloc, wishes.len())?);
     'wishes: for wish in wishes {
         held.push(held_wish(goals, operator_kind, *wish))?;
     }
