@@ -1,4 +1,4 @@
-ghost use Rattle.std.specs.Prelude.{◌≡◌, ◌==◌, ℕ, false, true, Some, OnOk, OnErr, IfOk, if◌then◌else◌};
+ghost use Rattle.std.specs.Prelude.{◌≡◌, ◌==◌, ◌<◌, ℕ, false, true, Some, OnOk, OnErr, IfOk, if◌then◌else◌};
 ghost use Rattle.std.specs.List.{list_any};
 ghost use Rattle.slab.specs.Slab.{get};
 ghost use Rattle.soar_wm.specs.WorkingMemory.{IsRising, element_of, has_tag, without_tag};
@@ -8,11 +8,11 @@ ghost use Rattle.rete_alpha.specs.Members.{HasMembers, SameAsked, asked_slot, Is
 ghost use Rattle.rete_alpha.specs.Numbers.{IsIncreasing, with_found, found_numbers};
 ghost use Rattle.rete_alpha.specs.Shapes.{number_at};
 ghost use Rattle.rete_alpha.specs.Slots.{IsSound};
-ghost use Rattle.rete_alpha.specs.Taking.{tags_taken, masks};
+ghost use Rattle.rete_alpha.specs.Taking.{tags_taken, masks, mask_at};
 
 use crate::elements::Elements;
 use crate::numbers::insert_number;
-use crate::pattern::{ConstPattern, all_masks, masks};
+use crate::pattern::{ConstPattern, mask_count};
 use crate::requests::{ask_again, ask_first, release_at};
 use crate::shapes::PatternNumbers;
 use crate::slots::{Slot, forget_all, note_all};
@@ -77,33 +77,35 @@ fn ask(
     ask_first(numbers, slots, slot)
 }
 
-/// Puts the number of a pattern at its place, where it has one.
+/// Puts the number of the mask of an element at a place among those found, where it has one.
 fn add_found(
     numbers: &PatternNumbers,
-    p: &ConstPattern,
+    e: &Element,
+    place: usize,
     found: &mut List<usize>,
 ) -> Result<(), NoMemory>
-    requires { IsIncreasing found.old }
-    ensures found { OnOk result (found.new ≡ with_found (number_at numbers.now p.now) found.old) }
+    requires rising { IsIncreasing found.old }
+    requires place { place < 16 }
+    ensures found { OnOk result (found.new ≡ with_found (number_at numbers.now (mask_at e.now place)) found.old) }
     ensures rising { OnOk result (IsIncreasing found.new) }
 {
-    if let Some(n) = numbers.get(p) {
+    if !numbers.has_shape(e, place) {
+        return Ok(());
+    }
+    if let Some(n) = numbers.get_mask(e, place) {
         insert_number(found, n)?;
     }
     Ok(())
 }
 
-/// The numbers of patterns that have one, in order.
-fn numbers_of(
-    alloc: Global,
-    numbers: &PatternNumbers,
-    patterns: &[ConstPattern],
-) -> Result<List<usize>, NoMemory>
-    ensures { IfOk result (λ found. found ≡ found_numbers (number_at numbers.now) patterns.now) }
+/// The numbers of those masks of an element that have one, in order.
+#[tactic(auto, using(crate::proofs::PlaceLemmas::drop_masks))]
+fn numbers_of(alloc: Global, numbers: &PatternNumbers, e: &Element) -> Result<List<usize>, NoMemory>
+    ensures { IfOk result (λ found. found ≡ found_numbers (number_at numbers.now) (masks e.now)) }
 {
     let mut found = List::new(alloc);
-    'patterns: for p in patterns {
-        add_found(numbers, p, &mut found)?;
+    'places: for place in 0..mask_count(e) {
+        add_found(numbers, e, place, &mut found)?;
     }
     Ok(found)
 }
@@ -124,8 +126,7 @@ fn note_element(
     ensures sound { OnOk result (IsSound (number_at numbers.now) (get slots.new)) }
 {
     elements.insert(e)?;
-    let all = all_masks(&e);
-    note_all(numbers, slots, masks(&e, &all), e.tag)?;
+    note_all(numbers, slots, &e, e.tag)?;
     Ok(())
 }
 
@@ -147,8 +148,7 @@ fn forget_element(
     let Some(e) = elements.remove(tag) else {
         unreachable!();
     };
-    let all = all_masks(&e);
-    forget_all(numbers, slots, masks(&e, &all), tag);
+    forget_all(numbers, slots, &e, tag);
 }
 
 impl Alpha {
@@ -207,8 +207,7 @@ impl Alpha {
         if self.failed {
             return Err(NoMemory);
         }
-        let all = all_masks(e);
-        numbers_of(alloc, &self.numbers, masks(e, &all))
+        numbers_of(alloc, &self.numbers, e)
     }
 
     /// Takes in an element whose tag is new.

@@ -1,5 +1,5 @@
-ghost use Rattle.std.specs.Prelude.{◌≡◌, Some, None, if◌then◌else◌};
-ghost use Rattle.rete_alpha.specs.Taking.{fits, takes, mask, masks, all_masks};
+ghost use Rattle.std.specs.Prelude.{◌≡◌, ◌≤◌, length, Some, None, if◌then◌else◌};
+ghost use Rattle.rete_alpha.specs.Taking.{fits, takes, mask, masks, mask_at};
 
 use soar_sym::{Sym, is_symbol};
 use soar_wm::Element;
@@ -43,36 +43,25 @@ fn mask(e: &Element, state: bool, id: bool, attr: bool, value: bool) -> ConstPat
     }
 }
 
-/// The patterns that may take an element: those that ask for no state, and then those that do.
-pub fn all_masks(e: &Element) -> [ConstPattern; 16]
-    ensures { result ≡ all_masks e.now }
+/// The mask at a place among all masks of an element. The bits of the place say which parts it asks for.
+pub fn mask_at(e: &Element, place: usize) -> ConstPattern
+    ensures { result ≡ mask_at e.now place }
 {
-    [
-        mask(e, false, false, false, false),
-        mask(e, false, false, false, true),
-        mask(e, false, false, true, false),
-        mask(e, false, false, true, true),
-        mask(e, false, true, false, false),
-        mask(e, false, true, false, true),
-        mask(e, false, true, true, false),
-        mask(e, false, true, true, true),
-        mask(e, true, false, false, false),
-        mask(e, true, false, false, true),
-        mask(e, true, false, true, false),
-        mask(e, true, false, true, true),
-        mask(e, true, true, false, false),
-        mask(e, true, true, false, true),
-        mask(e, true, true, true, false),
-        mask(e, true, true, true, true),
-    ]
+    mask(
+        e,
+        place & 8 != 0,
+        place & 4 != 0,
+        place & 2 != 0,
+        place & 1 != 0,
+    )
 }
 
-/// The patterns that take an element, of all its masks.
-pub fn masks<'a>(e: &Element, all: &'a [ConstPattern; 16]) -> &'a [ConstPattern]
-    requires { all.now ≡ all_masks e.now }
-    ensures { result.now ≡ masks e.now }
+/// How many masks an element has: the patterns that take it are among those at the places below.
+pub fn mask_count(e: &Element) -> usize
+    ensures value { result ≡ length (masks e.now) }
+    ensures bound { result ≤ 16 }
 {
-    if e.of_state { &all[..] } else { &all[..8] }
+    if e.of_state { 16 } else { 8 }
 }
 
 /// Whether a field's constant is the symbol, or there is none.

@@ -1,10 +1,12 @@
 // The numbers of patterns. A pattern is sought only where one of its shape was ever put in.
-ghost use Rattle.std.specs.Prelude.{◌≡◌, ◌≤◌, ◌<◌, [], Some, None, OnOk, OnErr, if◌then◌else◌};
+ghost use Rattle.std.specs.Prelude.{◌≡◌, ◌≤◌, ◌<◌, [], Some, None, OnOk, OnErr, false, if◌then◌else◌};
 ghost use Rattle.rete_alpha.specs.Shapes.{PatternOf, number_at, shape, weight};
 ghost use Rattle.rete_alpha.specs.Slots.{pattern_eq};
+ghost use Rattle.rete_alpha.specs.Taking.{mask_at};
 
-use crate::pattern::ConstPattern;
+use crate::pattern::{ConstPattern, mask_at};
 use soar_sym::NoMemory;
+use soar_wm::Element;
 use std::alloc::Global;
 use std::collections::HashMap;
 use std::marker::Model;
@@ -67,6 +69,21 @@ impl PatternNumbers {
         } else {
             None
         }
+    }
+
+    /// Whether a pattern was ever put in of the shape that the mask of an element at a place has. It makes no mask.
+    pub fn has_shape(&self, e: &Element, place: usize) -> bool
+        requires { place < 16 }
+        ensures { result ≡ false → number_at self.now (mask_at e.now place) ≡ None }
+    {
+        self.shapes[weight(16, e.accept) + place]
+    }
+
+    /// The number of the mask of an element at a place. What asks `has_shape` before makes and seeks few masks.
+    pub fn get_mask(&self, e: &Element, place: usize) -> Option<usize>
+        ensures { result ≡ number_at self.now (mask_at e.now place) }
+    {
+        self.by_pattern.get(&mask_at(e, place)).copied()
     }
 
     /// Gives a pattern a number. Want of memory changes nothing.
