@@ -3,6 +3,7 @@ pub mod JournalLemmas
 pub mod KeyLemmas
 pub mod MarkLemmas
 pub mod RangeLemmas
+pub mod RunLemmas
 pub mod StoreLemmas
 pub use Rattle.settling_laws.proofs.SlotLemmas
 pub use Rattle.settling_laws.proofs.ChangeLemmas

@@ -1,6 +1,6 @@
 -- Keys of one kind, each with numbers. No public clause cites this.
-use Rattle.std.specs.Prelude.{◌≡◌, ℕ, ◌-◌, ◌^◌, Bool, cond, List, is_some}
-use Rattle.std.specs.BTreeMap.Range.{entries_between}
+use Rattle.std.specs.Prelude.{◌≡◌, ℕ, ◌-◌, ◌^◌, Bool, cond, List, [], ◌∷◌, is_some}
+use Rattle.std.specs.BTreeMap.Range.{entries_between, range_contains}
 use Rattle.std.specs.Map.{lookup}
 use Rattle.std.specs.Ordering.{is_eq, bool_cmp, nat_cmp, ordering_then}
 use Rattle.std.specs.declared.cmp.Ordering.{Ordering}
@@ -26,6 +26,15 @@ Writes {K} cmp p now old new = (q : K × ℕ) → stands cmp new q ≡ cond (is_
 -- the part of a key
 abbrev pub of_key : {K : Type 0} → (K → K → Ordering) → K → Places K → Places K
 of_key cmp key places = entries_between (place_cmp cmp) (Included (key, 0)) (Included (key, 2 ^ 64 - 1)) places
+
+-- the place is of the key
+abbrev pub is_of_key : {K : Type 0} → (K → K → Ordering) → K → K × ℕ → Bool
+is_of_key cmp key q = range_contains (place_cmp cmp) (Included (key, 0)) (Included (key, 2 ^ 64 - 1)) q
+
+-- the longest front of places of the key
+abbrev pub front_of : {K : Type 0} → (K → K → Ordering) → K → Places K → Places K
+front_of cmp key [] = []
+front_of cmp key (e ∷ es) = cond (is_of_key cmp key e.0) (e ∷ front_of cmp key es) []
 
 -- ---- the kinds of keys
 

@@ -118,7 +118,7 @@ pub fn note(index: &mut Index, row: &Preference, number: u64) -> Result<(), NoMe
     }
 }
 
-/// The rows of a slot, in order of their numbers.
+/// The rows of a slot, in order of their numbers. It goes down the map of slots once.
 pub fn rows_of(
     alloc: Global,
     index: &Index,
@@ -131,7 +131,10 @@ pub fn rows_of(
 {
     let mut found = List::new(alloc);
     let key = (id, attr);
-    'numbers: for (place, _) in index.slots.range((key, 0)..=(key, u64::MAX)) {
+    'numbers: for (place, _) in index.slots.range((key, 0)..) {
+        if !places::is_of(place, key) {
+            break 'numbers;
+        }
         if let Some(row) = rows.get(&place.1) {
             found.push(row.preference())?;
         }
@@ -139,13 +142,16 @@ pub fn rows_of(
     Ok(found)
 }
 
-/// Whether a wish is among those of the operator-supported rows of its triple.
+/// Whether a wish is among those of the operator-supported rows of its triple. It goes down the map of triples once.
 pub fn has_wish(index: &Index, rows: &BTreeMap<u64, PackedPreference>, wish: Wish) -> bool
     ensures found { result ≡ list_any (λ q. q.operator_support && wish_eq q.wish wish) (filter_map (λ e. row_at rows.now.entries e.0.1) (of_key triple_cmp (wish.id, wish.attr, wish.value) index.now.triples.entries)) }
     ensures ordered { IsOrdered (place_cmp triple_cmp) index.now.triples }
 {
     let key = (wish.id, wish.attr, wish.value);
-    'numbers: for (place, _) in index.triples.range((key, 0)..=(key, u64::MAX)) {
+    'numbers: for (place, _) in index.triples.range((key, 0)..) {
+        if !places::is_of(place, key) {
+            return false;
+        }
         if let Some(packed) = rows.get(&place.1) {
             let row = packed.preference();
             if row.operator_support && is_wish(row.wish, wish) {
@@ -156,7 +162,7 @@ pub fn has_wish(index: &Index, rows: &BTreeMap<u64, PackedPreference>, wish: Wis
     false
 }
 
-/// Whether a row of the triple has the kind.
+/// Whether a row of the triple has the kind. It goes down the map of triples once.
 pub fn has_kind(
     index: &Index,
     rows: &BTreeMap<u64, PackedPreference>,
@@ -167,7 +173,10 @@ pub fn has_kind(
     ensures ordered { IsOrdered (place_cmp triple_cmp) index.now.triples }
 {
     let key = (triple.id, triple.attr, triple.value);
-    'numbers: for (place, _) in index.triples.range((key, 0)..=(key, u64::MAX)) {
+    'numbers: for (place, _) in index.triples.range((key, 0)..) {
+        if !places::is_of(place, key) {
+            return false;
+        }
         if let Some(row) = rows.get(&place.1) {
             if row.preference().wish.kind.is(kind) {
                 return true;

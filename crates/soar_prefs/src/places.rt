@@ -1,6 +1,6 @@
 // Keys of one kind, each with numbers.
 ghost use Rattle.std.specs.Prelude.{◌≡◌, ℕ, true, false, OnOk, OnErr, IfSome, IfNone};
-ghost use Rattle.soar_prefs.specs.Places.{stands, Writes};
+ghost use Rattle.soar_prefs.specs.Places.{is_of_key, stands, Writes};
 
 use soar_sym::NoMemory;
 use std::collections::BTreeMap;
@@ -20,6 +20,15 @@ pub fn first<K: Ord + Copy>(places: &BTreeMap<(K, u64), ()>, key: K) -> Option<u
         }
         None => None,
     }
+}
+
+/// Whether a place is of a key.
+#[tactic(auto, using(crate::proofs::RunLemmas::tied_of_key))]
+pub fn is_of<K: Ord + Copy>(place: &(K, u64), key: K) -> bool
+    ensures { result ≡ is_of_key K.cmp key place.now }
+{
+    let _number = place.1;
+    place.0.cmp(&key).is_eq()
 }
 
 /// Puts a number under a key.
