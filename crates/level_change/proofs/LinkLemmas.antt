@@ -1,5 +1,5 @@
 -- What a map of links and a map of levels have after a step.
-use Rattle.std.proofs.Common.{◌≡◌, ℕ, zero, suc, ◌+◌, ◌-◌, ◌≤◌, ◌==◌, ◌&&◌, Bool, true, false, cond, [], ◌∷◌, Option, Some, None, unwrap_or, Result, Ok, Err, IfOk, OnErr, OnOk, refl, sym, ap, ap₂, ◌∙◌, arith}
+use Rattle.std.proofs.Common.{◌≡◌, ℕ, zero, suc, ◌==◌, ◌&&◌, Bool, true, false, cond, [], ◌∷◌, Option, Some, None, unwrap_or, Result, Ok, Err, IfOk, OnErr, OnOk, refl, sym, ap, ap₂, ◌∙◌, arith}
 use Rattle.std.specs.Map.{lookup}
 use Rattle.std.specs.Ordering.{is_eq, nat_cmp, ordering_then}
 use Rattle.std.specs.declared.cmp.Ordering.{Ordering}
@@ -8,7 +8,7 @@ use Rattle.soar_sym.specs.Equality.{symbol_eq}
 use Rattle.soar_sym.specs.declared.symbol.Sym.{Sym}
 use Rattle.soar_sym.specs.declared.symbol.Sym.TheVariants.{Ident, Word, Int}
 use Rattle.level_laws.proofs.SymbolLemmas.{symbol_same}
-use Rattle.level_change.specs.Links.{Id, id_of, symbol_of, id_cmp, link_place, Place, Facts, Late, Levels, LateLevels, placed, value_in, level_at, place_cmp, times, Counts, if_any, IsCounted, raised, lowered}
+use Rattle.level_change.specs.Links.{Id, id_of, symbol_of, id_cmp, link_place, Place, Facts, Late, Levels, LateLevels, placed, value_in, level_at, place_cmp, times, Counts, if_any, IsCounted, PutsLink}
 
 pub then_same : (x y : Ordering) → is_eq (ordering_then x y) ≡ (is_eq x && is_eq y)
 then_same Less y = refl
@@ -62,7 +62,7 @@ put_late base old new p w up q = sym (value_is base new q) ∙ ap (λ o. unwrap_
     by true h = refl
     by false h = h
 
-put_at : (base : Facts) (old new : Late) (from to : Sym) (p : Place) (w : Option ℕ) → link_place (id_of from) (id_of to) ≡ Some p → IsPut base old new p w
+pub put_at : (base : Facts) (old new : Late) (from to : Sym) (p : Place) (w : Option ℕ) → link_place (id_of from) (id_of to) ≡ Some p → IsPut base old new p w
     → (x y : Sym) → times base new x y ≡ cond (symbol_eq from x && symbol_eq to y) w (times base old x y)
 put_at base old new (Ident l n) (Ident k m) p w is up x y = by x y
   where
@@ -83,41 +83,17 @@ put_at base old new (Ident l n) (Int k) p w is up x y = cc
 put_at base old new (Word l) to p w is up x y = cc
 put_at base old new (Int l) to p w is up x y = cc
 
--- the number that stands at the link
-counted_here : (base : Facts) (old : Late) (from to x y : Sym) (counts : Counts) → IsCounted counts base old → (symbol_eq from x && symbol_eq to y) ≡ true → (n : ℕ) → n ≡ unwrap_or (times base old from to) 0 → n ≡ counts x y
-counted_here base old from to x y counts counted same n is =
-    let p = and_parts (symbol_eq from x) (symbol_eq to y) same in
-    is ∙ ap (λ o. unwrap_or o 0) (counted from to) ∙ number_of (counts from to) ∙ ap (λ a. counts a to) (symbol_same from x p.0) ∙ ap (counts x) (symbol_same to y p.1)
-
-pub put_more : (base : Facts) (old new : Late) (from to : Sym) (n : ℕ) (p : Place) → link_place (id_of from) (id_of to) ≡ Some p → n ≡ unwrap_or (times base old from to) 0 → IsPut base old new p (Some (n + 1)) → (counts : Counts) → IsCounted counts base old → IsCounted (raised from to counts) base new
-put_more base old new from to n p at is up counts counted x y = put_at base old new from to p (Some (n + 1)) at up x y ∙ by (symbol_eq from x && symbol_eq to y) refl
+-- a link has another number
+pub put_counted : (base : Facts) (old new : Late) (from to : Sym) (w : Option ℕ) (other : ℕ → ℕ) (counts : Counts) → PutsLink old new from to w → w ≡ if_any (other (counts from to)) → IsCounted counts base old
+    → IsCounted (λ x y. cond (symbol_eq from x && symbol_eq to y) (other (counts x y)) (counts x y)) base new
+put_counted base old new from to w other counts puts is counted x y = puts base x y ∙ by (symbol_eq from x && symbol_eq to y) refl
   where
-    one_more : (n m : ℕ) → n ≡ m → n + 1 ≡ suc m
-    one_more n m e = omega (arith, e)
+    here : (symbol_eq from x && symbol_eq to y) ≡ true → counts from to ≡ counts x y
+    here same = let p = and_parts (symbol_eq from x) (symbol_eq to y) same in ap (λ a. counts a to) (symbol_same from x p.0) ∙ ap (counts x) (symbol_same to y p.1)
 
-    by : (b : Bool) → (symbol_eq from x && symbol_eq to y) ≡ b → cond b (Some (n + 1)) (times base old x y) ≡ if_any (cond b (suc (counts x y)) (counts x y))
-    by true e = ap Some (one_more n (counts x y) (counted_here base old from to x y counts counted e n is))
+    by : (b : Bool) → (symbol_eq from x && symbol_eq to y) ≡ b → cond b w (times base old x y) ≡ if_any (cond b (other (counts x y)) (counts x y))
+    by true e = is ∙ ap (λ n. if_any (other n)) (here e)
     by false e = counted x y
-
-pub put_less : (base : Facts) (old new : Late) (from to : Sym) (n : ℕ) (w : Option ℕ) (p : Place) → link_place (id_of from) (id_of to) ≡ Some p → n ≡ unwrap_or (times base old from to) 0 → w ≡ if_any (n - 1) → IsPut base old new p w → (counts : Counts) → IsCounted counts base old → IsCounted (lowered from to counts) base new
-put_less base old new from to n w p at is less up counts counted x y = put_at base old new from to p w at up x y ∙ by (symbol_eq from x && symbol_eq to y) refl
-  where
-    by : (b : Bool) → (symbol_eq from x && symbol_eq to y) ≡ b → cond b w (times base old x y) ≡ if_any (cond b (counts x y - 1) (counts x y))
-    by true e = less ∙ ap (λ m. if_any (m - 1)) (counted_here base old from to x y counts counted e n is)
-    by false e = counted x y
-
-pub any_less : (n : ℕ) → 2 ≤ n → Some (n - 1) ≡ if_any (n - 1)
-any_less n h = by (n - 1) (omega (arith, h))
-  where
-    by : (m : ℕ) → 1 ≤ m → Some m ≡ if_any m
-    by zero h = absurd (omega (arith, h))
-    by (suc m) h = refl
-
-pub none_less : (n : ℕ) → n ≤ 1 → None ≡ if_any (n - 1)
-none_less n h = ap if_any (zero_is (n - 1) (omega (arith, h)))
-  where
-    zero_is : (m : ℕ) → m ≤ 0 → zero ≡ m
-    zero_is m h = omega (arith, h)
 
 -- an identifier that has a letter and a number is of them
 pub symbol_id : (s : Sym) (i : Id) → id_of s ≡ Some i → symbol_of i ≡ s

@@ -99,6 +99,10 @@ if_any (suc n) = Some (suc n)
 abbrev pub IsCounted : Counts → Facts → Late → Type 0
 IsCounted counts base late = (x y : Sym) → times base late x y ≡ if_any (counts x y)
 
+-- So often one symbol leads to another now, or never, and others as often as before.
+abbrev pub PutsLink : Late → Late → Sym → Sym → Option ℕ → Type 0
+PutsLink old new from to number = (base : Facts) (x y : Sym) → times base new x y ≡ cond (symbol_eq from x && symbol_eq to y) number (times base old x y)
+
 -- one more from a symbol to another
 abbrev pub raised : Sym → Sym → Counts → Counts
 raised from to counts x y = if symbol_eq from x && symbol_eq to y then suc (counts x y) else counts x y

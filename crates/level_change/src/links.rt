@@ -1,10 +1,10 @@
 // Links, each as often as triples lead so.
-ghost use Rattle.std.specs.Prelude.{◌≡◌, ◌++◌, not, OnOk, IfOk, filter, map, is_some, unwrap_or};
+ghost use Rattle.std.specs.Prelude.{◌≡◌, suc, ◌-◌, ◌++◌, not, OnOk, IfOk, filter, map, is_some, unwrap_or};
 ghost use Rattle.std.specs.List.Sorted.{IsStrictlySortedBy};
 ghost use Rattle.std.specs.Map.{keys_of};
 ghost use Rattle.soar_sym.specs.declared.symbol.Sym.{Sym as SymOf};
 ghost use Rattle.defs_soar.specs.Sorted.{has_symbol};
-ghost use Rattle.level_change.specs.Links.{Counts, IsCounted, times, is_linked, raised, lowered, links_from, came_later, end_of, place_cmp};
+ghost use Rattle.level_change.specs.Links.{Counts, IsCounted, PutsLink, times, if_any, is_linked, links_from, came_later, end_of, place_cmp};
 
 use crate::place::{Id, Place, id_of, link_place, symbol_of};
 use crate::store::{Facts, Late, Store, read_if, write};
@@ -26,26 +26,31 @@ pub fn has_link(links: &Store, from: Sym, to: Sym) -> bool
     read_if(&links.base, &links.late, link_place(from, to)).is_some()
 }
 
-/// Once more. More than 2^32 - 1 times counts as want of memory, and so does a symbol that is no identifier.
-pub fn add(base: &Facts, late: &mut Late, from: Sym, to: Sym) -> Result<(), NoMemory>
-    ensures { OnOk result ((counts : Counts) → IsCounted counts base.now.entries late.old.entries → IsCounted (raised from to counts) base.now.entries late.new.entries) }
+/// How often a symbol leads to another once it does so once more. More than 2^32 - 1 times counts as want of memory.
+pub fn one_more(base: &Facts, late: &Late, from: Sym, to: Sym) -> Result<u32, NoMemory>
+    ensures { IfOk result (λ more. (counts : Counts) → IsCounted counts base.now.entries late.now.entries → more ≡ suc (counts from to)) }
 {
     let times = times(base, late, from, to);
     if times == u32::MAX {
         return Err(NoMemory);
     }
-    let place = link_place(from, to).ok_or(NoMemory)?;
-    write(late, place, Some(times + 1))
+    Ok(times + 1)
 }
 
-/// Once less, where there is one. A symbol that is no identifier counts as want of memory.
-pub fn take(base: &Facts, late: &mut Late, from: Sym, to: Sym) -> Result<(), NoMemory>
-    ensures { OnOk result ((counts : Counts) → IsCounted counts base.now.entries late.old.entries → IsCounted (lowered from to counts) base.now.entries late.new.entries) }
+/// How often a symbol leads to another once it does so once less, and none where it does no more.
+pub fn one_less(base: &Facts, late: &Late, from: Sym, to: Sym) -> Option<u32>
+    ensures { (counts : Counts) → IsCounted counts base.now.entries late.now.entries → result ≡ if_any (counts from to - 1) }
 {
     let times = times(base, late, from, to);
-    let rest = if times > 1 { Some(times - 1) } else { None };
+    if times > 1 { Some(times - 1) } else { None }
+}
+
+/// Puts how often a symbol leads to another. A symbol that is no identifier counts as want of memory.
+pub fn put(late: &mut Late, from: Sym, to: Sym, number: Option<u32>) -> Result<(), NoMemory>
+    ensures { OnOk result (PutsLink late.old.entries late.new.entries from to number) }
+{
     let place = link_place(from, to).ok_or(NoMemory)?;
-    write(late, place, rest)
+    write(late, place, number)
 }
 
 /// The symbols to which an identifier leads, some of them twice. Another symbol counts as want of memory.

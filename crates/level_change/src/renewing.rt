@@ -55,14 +55,7 @@ fn renew(
     ensures moved { IfOk result (λ moved. KeptBut (told_in told.old) (told_in told.new) moved) }
     ensures bases { (told.new.base ≡ told.old.base) × (out.new.base ≡ out.old.base) × (into.new.base ≡ into.old.base) }
 {
-    recount(
-        &out.base,
-        &mut out.late,
-        &into.base,
-        &mut into.late,
-        gone,
-        come,
-    )?;
+    recount(&out.base, &mut out.late, &mut into.late, gone, come)?;
     let had = forget_lost(alloc, &told.base, &mut told.late, out, old, gone, new)?;
     let had = had.as_slice();
     spread_anew(alloc, &told.base, &mut told.late, out, into, new, come, had)

@@ -11,7 +11,7 @@ triples-preserved c =
     let i = c.triples.triple-index in
     let lt : i < length triples = search rules in (
       (λ counts h. counted_as _ _ _ _ (λ x y. with_step triples i _ lt counts x y) (c.in_ok-add_triple.ensures.out _ (c.triples.invariant.0 counts h))),
-      (λ counts h. counted_as _ _ _ _ (λ y x. with_step triples i _ lt counts x y) (c.in_ok-add_triple.ensures.into _ (c.triples.invariant.1 counts h))),
+      (λ into counts h k. counted_as _ _ _ _ (λ y x. with_step triples i _ lt counts x y) (c.in_ok-add_triple.ensures.into into _ (c.triples.invariant.0 counts h) (c.triples.invariant.1 into counts h k))),
     )
 
 pub returns-clause-out : goal.returns-clause-out

@@ -7,4 +7,4 @@ pub returns-clause-out : goal.returns-clause-out
 returns-clause-out c = on_ok c.take_triples.result (λ less held after changed h. counted_as _ _ _ _ (recounted held c.args.gone.now c.args.come.now after changed) (less _ (c.in_ok-add_triples.ensures.out _ h))) c.take_triples.ensures.out
 
 pub returns-clause-into : goal.returns-clause-into
-returns-clause-into c = on_ok c.take_triples.result (λ less held after changed h. counted_as _ _ _ _ (λ y x. recounted held c.args.gone.now c.args.come.now after changed x y) (less _ (c.in_ok-add_triples.ensures.into _ h))) c.take_triples.ensures.into
+returns-clause-into c = on_ok c.take_triples.result (λ less into held after changed h k. counted_as _ _ _ _ (λ y x. recounted held c.args.gone.now c.args.come.now after changed x y) (less into _ (c.in_ok-add_triples.ensures.out _ h) (c.in_ok-add_triples.ensures.into into _ h k))) c.take_triples.ensures.into

@@ -22,7 +22,7 @@ returns-clause-holds c =
     let other : Store = record { base = c.args.into.now.base; late = c.recount.new.into_late } in
     let now = level_at c.args.told.now.base.entries c.forget_lost.new.told.entries in
     let out = c.in_ok-recount.ensures.out held after changed before.out_is in
-    let into = c.in_ok-recount.ensures.into held after changed before.into_is in
+    let into = c.in_ok-recount.ensures.into c.args.into.now.base.entries held after changed before.out_is before.into_is in
     let can = can_spread was is c.args.old.now (told_in c.args.told.now) now gone come goals c.in_ok-had.had before.levels (still_or_gone held gone come after was is changed before.out_is out)
     (came_or_was held gone come after was is changed before.out_is out) c.in_ok-had.ensures.forgets c.in_ok-had.ensures.seeds in
     record {
