@@ -9,9 +9,9 @@ ghost use Rattle.defs_soar.specs.Values.{has_triple_among};
 ghost use Rattle.soar_settle.specs.Memory.{has_plain};
 ghost use Rattle.kept_triples.specs.Kept.{level_in_kept, HoldsTriples, IsCovered, OwnIs};
 
+use crate::held::HeldTriples;
 use crate::looking::{Difference, look_at_all};
 use crate::own::Own;
-use crate::held::HeldTriples;
 use defs_soar::Goal;
 use input_memory::Inputs;
 use level_change::LevelGraph;

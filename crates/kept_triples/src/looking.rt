@@ -6,8 +6,8 @@ ghost use Rattle.settling_laws.specs.Changes.{has_value, rows_hold};
 ghost use Rattle.soar_settle.specs.Memory.{has_plain};
 ghost use Rattle.kept_triples.specs.Looking.{Balances, is_held_now, with_mark};
 
-use crate::own::Own;
 use crate::held::HeldTriples;
+use crate::own::Own;
 use defs_soar::{Goal, is_operator_slot};
 use input_memory::Inputs;
 use soar_settle::Prefs;
