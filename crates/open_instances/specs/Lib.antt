@@ -1,3 +1,4 @@
 pub mod Keeping
 pub mod Keys
+pub mod Meeting
 pub mod Noted

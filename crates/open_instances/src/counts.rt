@@ -21,7 +21,7 @@ fn count_of(counts: &HashMap<MatchKey, u64>, key: &MatchKey) -> u64
 }
 
 /// One firing more.
-pub fn raise(counts: &mut HashMap<MatchKey, u64>, key: MatchKey) -> Result<(), NoMemory>
+pub(crate) fn raise(counts: &mut HashMap<MatchKey, u64>, key: MatchKey) -> Result<(), NoMemory>
     ensures { OnOk result ((q : KeyOf) → count_in counts.new q ≡ (if alike key q then count_in counts.old q + 1 else count_in counts.old q)) }
 {
     let Some(count) = count_of(counts, &key).checked_add(1) else {
@@ -31,15 +31,18 @@ pub fn raise(counts: &mut HashMap<MatchKey, u64>, key: MatchKey) -> Result<(), N
     Ok(())
 }
 
-/// One firing less. It takes no memory.
-pub fn lower(counts: &mut HashMap<MatchKey, u64>, key: &MatchKey)
-    ensures { (q : KeyOf) → count_in counts.new q ≡ (if alike key.now q then count_in counts.old q - 1 else count_in counts.old q) }
+/// One firing less. It says whether one is left, and takes no memory.
+pub(crate) fn lower(counts: &mut HashMap<MatchKey, u64>, key: &MatchKey) -> bool
+    ensures left { result ≡ nat_lt 1 (count_in counts.old key.now) }
+    ensures lowered { (q : KeyOf) → count_in counts.new q ≡ (if alike key.now q then count_in counts.old q - 1 else count_in counts.old q) }
 {
     let count = count_of(counts, key);
     if count > 1 {
         set_count(counts, key, count - 1);
+        true
     } else {
         counts.remove(key);
+        false
     }
 }
 

@@ -7,7 +7,7 @@ use match_changes::MatchKey;
 use std::alloc::Global;
 use std::collections::{BTreeMap, BTreeSet, HashMap};
 
-/// What is open and what is gone, by key, as it was when it was last asked for, and what may have changed since.
+/// What is open and what is gone, by key, but for the keys that are to be looked at again.
 #[derive(Drop)]
 pub struct Kept {
     /// The instances that no live firing has.

@@ -40,7 +40,7 @@ pub(crate) fn is_noted(keys: &IndexSet<MatchKey>, key: &MatchKey) -> bool
 }
 
 /// One key more.
-pub fn add_key(keys: &mut IndexSet<MatchKey>, key: MatchKey) -> Result<(), NoMemory>
+pub(crate) fn add_key(keys: &mut IndexSet<MatchKey>, key: MatchKey) -> Result<(), NoMemory>
     ensures { OnOk result ((q : KeyOf) → set.contains key_cmp keys.new q ≡ (alike key q || set.contains key_cmp keys.old q)) }
 {
     keys.insert(key)?;
@@ -48,7 +48,7 @@ pub fn add_key(keys: &mut IndexSet<MatchKey>, key: MatchKey) -> Result<(), NoMem
 }
 
 /// These keys more.
-pub fn add_keys(keys: &mut IndexSet<MatchKey>, more: List<MatchKey>) -> Result<(), NoMemory>
+pub(crate) fn add_keys(keys: &mut IndexSet<MatchKey>, more: List<MatchKey>) -> Result<(), NoMemory>
     ensures { OnOk result ((q : KeyOf) → set.contains key_cmp keys.new q ≡ (list_any (λ k. alike k q) more || set.contains key_cmp keys.old q)) }
 {
     'more: for key in more.into_vec() {

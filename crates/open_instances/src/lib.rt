@@ -6,13 +6,14 @@ mod kept;
 mod keys;
 mod leaving;
 mod looking;
+mod meeting;
 mod reading;
 mod telling;
 
-pub use counts::{lower, raise};
 pub use kept::Kept;
-pub use keys::{add_key, copy_of, key_of};
+pub use keys::{copy_of, key_of};
 pub use leaving::leave_rule;
 pub use looking::look_at;
+pub use meeting::{lose, meet};
 pub use reading::{open_is_ordered, unfired};
 pub use telling::{renew, told};

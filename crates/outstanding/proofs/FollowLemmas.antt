@@ -1,46 +1,14 @@
 -- Following the live firings that come and go keeps what is kept.
-use Rattle.std.proofs.Common.{◌≡◌, refl, sym, ap, ◌∙◌, Bool, true, false, cond, ◌||◌, nat_lt, ℕ, ◌+◌, ◌-◌, List, [], ◌∷◌, ◌++◌, arith}
+use Rattle.std.proofs.Common.{◌≡◌, sym, ap, ◌∙◌, Bool, true, false, cond, ℕ, ◌+◌, ◌-◌, List, [], ◌∷◌, ◌++◌, arith}
 use Rattle.live_firings.specs.declared.live.Live.{Live}
 use Rattle.live_firings.specs.Living.{AreNews, keys_of}
 use Rattle.match_changes.specs.declared.key.MatchKey.{MatchKey}
-use Rattle.open_instances.specs.Keeping.{Counts, IsLookedIn, gone_of, open_of}
-use Rattle.open_instances.specs.Keys.{KeyCounts, alike, count_in, key_cmp, times}
-use Rattle.open_instances.specs.Noted as noted
-use Rattle.open_instances.specs.Noted.{NotedKeys}
+use Rattle.open_instances.specs.Keeping.{Counts}
+use Rattle.open_instances.specs.Keys.{alike, count_in, times}
+use Rattle.open_instances.specs.Meeting.{Loses, Meets}
 use Rattle.open_instances.specs.declared.kept.Kept.{Kept}
 use Rattle.open_instances.proofs.KeyLemmas.{times_append}
-use Rattle.outstanding.specs.Following.{Loses, LosesAll, Meets, MeetsAll, StaysLooked}
-
-neither : (a b : Bool) → (a || b) ≡ false → (a ≡ false) × (b ≡ false)
-neither true b h = absurd (cc)
-neither false b h = (refl, h)
-
--- ---- a key whose count changes is to be looked at again
-
-module _ (old : Kept) (counts : KeyCounts) (touched : NotedKeys) (key : MatchKey) (grown : (q : MatchKey) → noted.contains key_cmp touched q ≡ (alike key q || noted.contains key_cmp old.touched q)) where
-  changed_stays : ((q : MatchKey) → alike key q ≡ false → count_in counts q ≡ count_in old.counts q) → StaysLooked old (record old { counts = counts; touched = touched })
-  changed_stays others instances was q h =
-      let apart = neither (alike key q) (noted.contains key_cmp old.touched q) (sym (grown q) ∙ h) in
-      let w : IsLookedIn instances old q = was q apart.1 in
-      let same = sym (others q apart.0) in
-      record {
-        found = w.found;
-        is = w.is;
-        open_is = w.open_is ∙ ap (λ n. open_of (nat_lt 0 n) w.found) same;
-        gone_is = w.gone_is ∙ ap (λ n. gone_of (nat_lt 0 n) w.found) same;
-      }
-
-  pub loses : ((q : MatchKey) → count_in counts q ≡ cond (alike key q) (count_in old.counts q - 1) (count_in old.counts q)) → Loses key old (record old { counts = counts; touched = touched })
-  loses lowered = record {
-    stays = changed_stays (λ q e. lowered q ∙ ap (λ b. cond b (count_in old.counts q - 1) (count_in old.counts q)) e);
-    counted = lowered;
-  }
-
-  pub meets : ((q : MatchKey) → count_in counts q ≡ cond (alike key q) (count_in old.counts q + 1) (count_in old.counts q)) → Meets key old (record old { counts = counts; touched = touched })
-  meets raised = record {
-    stays = changed_stays (λ q e. raised q ∙ ap (λ b. cond b (count_in old.counts q + 1) (count_in old.counts q)) e);
-    counted = raised;
-  }
+use Rattle.outstanding.specs.Following.{LosesAll, MeetsAll}
 
 -- ---- one after the other
 

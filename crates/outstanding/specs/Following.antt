@@ -1,32 +1,19 @@
 -- What the live firings that come and go make of what is kept.
-use Rattle.std.specs.Prelude.{◌≡◌, ℕ, ◌+◌, ◌-◌, Bool, false, [], List, refl, if◌then◌else◌}
+use Rattle.std.specs.Prelude.{◌≡◌, ℕ, ◌+◌, ◌-◌, Bool, false, [], List, refl}
 use Rattle.std.specs.Coded.{Coded, code_by, coded×, coded_bool, coded_list, coded_ℕ}
 use Rattle.std.specs.Map.{lookup}
 use Rattle.std.specs.Option.{unwrap_or}
-use Rattle.defs_match.specs.declared.instance.Instance.{Instance}
 use Rattle.match_changes.specs.declared.key.MatchKey.{MatchKey}
-use Rattle.open_instances.specs.Keeping.{AreLooked}
 use Rattle.open_instances.specs.Keys.{alike, count_in, times}
+use Rattle.open_instances.specs.Meeting.{StaysLooked}
 use Rattle.open_instances.specs.declared.kept.Kept.{Kept}
 
--- what was looked at stays so
-abbrev pub StaysLooked : Kept → Kept → Type 0
-StaysLooked old new = (instances : List Instance) → AreLooked instances old → AreLooked instances new
-
--- a firing of a key comes
-pub record Meets (key : MatchKey) (old new : Kept) : Type 0 where
-  pub stays : StaysLooked old new
-  pub counted : (q : MatchKey) → count_in new.counts q ≡ (if alike key q then count_in old.counts q + 1 else count_in old.counts q)
-
+-- firings of keys come
 pub record MeetsAll (keys : List MatchKey) (old new : Kept) : Type 0 where
   pub stays : StaysLooked old new
   pub counted : (q : MatchKey) → count_in new.counts q ≡ count_in old.counts q + times q keys
 
--- a firing of a key goes
-pub record Loses (key : MatchKey) (old new : Kept) : Type 0 where
-  pub stays : StaysLooked old new
-  pub counted : (q : MatchKey) → count_in new.counts q ≡ (if alike key q then count_in old.counts q - 1 else count_in old.counts q)
-
+-- firings of keys go
 pub record LosesAll (keys : List MatchKey) (old new : Kept) : Type 0 where
   pub stays : StaysLooked old new
   pub counted : (q : MatchKey) → count_in new.counts q ≡ count_in old.counts q - times q keys

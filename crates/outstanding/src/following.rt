@@ -3,15 +3,16 @@ ghost use Rattle.std.specs.Prelude.{◌≡◌, OnOk, List as ListOf};
 ghost use Rattle.defs_match.specs.declared.instance.Instance.{Instance as InstanceOf};
 ghost use Rattle.open_instances.specs.Keeping.{AreLooked, Counts};
 ghost use Rattle.live_firings.specs.Living.{keys_of};
-ghost use Rattle.outstanding.specs.Following.{Loses, LosesAll, Meets, MeetsAll};
+ghost use Rattle.outstanding.specs.Following.{LosesAll, MeetsAll};
 
 use live_firings::LiveFirings;
 use match_changes::MatchKey;
-use open_instances::{Kept, add_key, copy_of, lower, raise};
+use open_instances::{Kept, lose, meet};
 use soar_sym::{List, NoMemory};
 use std::alloc::Global;
 
-/// Takes up what live firings came and went: what is lost and what is new is to be looked at again.
+/// Takes up what live firings came and went. Where what is kept does not tell what is so of a key now, it is to be looked
+/// at again.
 pub fn follow(alloc: Global, kept: &mut Kept, live: &mut LiveFirings) -> Result<(), NoMemory>
     requires counted { Counts kept.old.counts (keys_of live.old.told) }
     ensures kept { OnOk result ((instances : ListOf InstanceOf) → AreLooked instances kept.old → AreLooked instances kept.new) }
@@ -34,15 +35,6 @@ fn meet_all(alloc: Global, kept: &mut Kept, keys: List<MatchKey>) -> Result<(), 
     Ok(())
 }
 
-/// A firing of the key came.
-fn meet(alloc: Global, kept: &mut Kept, key: MatchKey) -> Result<(), NoMemory>
-    ensures { OnOk result (Meets key kept.old kept.new) }
-{
-    let counted = copy_of(alloc, &key)?;
-    raise(&mut kept.counts, counted)?;
-    add_key(&mut kept.touched, key)
-}
-
 /// Firings of these keys went.
 fn lose_all(kept: &mut Kept, keys: List<MatchKey>) -> Result<(), NoMemory>
     ensures { OnOk result (LosesAll keys kept.old kept.new) }
@@ -51,12 +43,4 @@ fn lose_all(kept: &mut Kept, keys: List<MatchKey>) -> Result<(), NoMemory>
         lose(kept, key)?;
     }
     Ok(())
-}
-
-/// A firing of the key went.
-fn lose(kept: &mut Kept, key: MatchKey) -> Result<(), NoMemory>
-    ensures { OnOk result (Loses key kept.old kept.new) }
-{
-    lower(&mut kept.counts, &key);
-    add_key(&mut kept.touched, key)
 }
