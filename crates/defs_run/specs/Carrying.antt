@@ -89,7 +89,7 @@ lists_elements s id =
 
 -- ---- the order
 
--- `run` is how so many cycles go at the present stage
+-- `run` gives the course of a number of cycles
 abbrev pub carried_out : (ℕ → Agent → Course) → Order → Session → Carried
 carried_out run (load production) s = does (loaded production s)
 carried_out run (excise name) s = if_named s name (λ rule. does (excised name s))

@@ -1,4 +1,4 @@
--- The present stage: all commands but those of learning, and a run learns nothing.
+-- A stage without learning: its commands are refused, and a run learns nothing.
 use Rattle.std.specs.Prelude.{ℕ, Bool, true, false, List, Some, Result, Ok, Err, if◌then◌else◌}
 use Rattle.soar_sym.specs.Words.{Texts}
 use Rattle.soar_edge.specs.Cutting.{cuts_of}

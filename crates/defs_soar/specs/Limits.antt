@@ -1,4 +1,4 @@
--- Limits: a step brings totals to numbers, and the first that is beyond its limit ends the program.
+-- Limits: a step raises totals. The first total above its limit ends the program.
 --
 -- In which order a run meets them, here once for all steps.
 --   A command: the words that it brings.

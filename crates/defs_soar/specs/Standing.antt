@@ -1,11 +1,9 @@
--- What binds the parts that an engine keeps beside the state that it stands for, each bond by itself.
+-- What an engine holds of the state that it stands for, part by part, and of the state's history.
 use Rattle.std.specs.Prelude.{◌≡◌, ℕ, suc, Bool, true, ◌==◌, List, [], ◌∷◌, ◌++◌, map, flat_map, Option, Some, None}
 use Rattle.std.specs.List.{list_any, list_all}
 use Rattle.soar_sym.specs.Words.{Texts}
-use Rattle.soar_sym.specs.declared.symbol.Sym.{Sym}
 use Rattle.soar_sym.specs.declared.symbol.Triple.{Triple}
 use Rattle.defs_match.specs.Element.{Element}
-use Rattle.defs_match.specs.WorkingMemory.{triple_of}
 use Rattle.defs_match.specs.Rules.{RuleOf}
 use Rattle.defs_soar.specs.declared.goal.Goal.{Goal}
 use Rattle.defs_soar.specs.declared.preference.Preference.{Preference}
@@ -13,11 +11,10 @@ use Rattle.defs_soar.specs.Agents.{LiveFiring, Queues, Learnt, Counts, Settings,
 use Rattle.defs_soar.specs.Dependencies.{dependency_set}
 use Rattle.defs_soar.specs.Explanation.{firing_of, explaining}
 use Rattle.defs_soar.specs.History.{RecordedFiring, FiringOf}
-use Rattle.defs_soar.specs.Levels.{level}
 
 -- ---- what an engine holds of the state, part by part
 --
--- An engine stands for a state where each part of the state but its history is in it as it is in the state, and the bonds of this file hold.
+-- An engine stands for a state if it holds each part of the state but the history, and the dependency tags and firings that the history gives.
 
 abbrev pub HoldsWords : Texts → Agent → Type 0
 HoldsWords words a = words ≡ a.names.words
@@ -75,28 +72,12 @@ HoldsOutput output a = output ≡ a.output
 abbrev pub HoldsHalt : Bool → Agent → Type 0
 HoldsHalt halted a = halted ≡ a.halted
 
--- ---- the matcher
-
--- it holds the rules and working memory
-pub record IsMatcherOf (rules : List RuleOf) (elements : List Element) (a : Agent) : Type 0 where
-  pub rules_are : rules ≡ a.program.rules
-  pub elements_are : elements ≡ a.holding.elements
-
--- ---- levels
-
--- it tells the level of each symbol over working memory and the goals
-abbrev pub TellsLevelsOf : (Sym → Option ℕ) → Agent → Type 0
-TellsLevelsOf told a = (s : Sym) → told s ≡ level a.holding.goals (map triple_of a.holding.elements) s
-
 -- ---- dependency tags
 
+-- the tags on which each goal depends, from one of a depth on
 abbrev pub dependencies_from : List RecordedFiring → ℕ → List Goal → List (List ℕ)
 dependencies_from history depth [] = []
 dependencies_from history depth (goal ∷ goals) = dependency_set history goal.id depth ∷ dependencies_from history (suc depth) goals
-
--- the tags on which each goal depends, from the top
-abbrev pub AreDependenciesOf : List (List ℕ) → Agent → Type 0
-AreDependenciesOf tags a = tags ≡ dependencies_from a.history 1 a.holding.goals
 
 -- ---- the record of firings
 
