@@ -1,5 +1,5 @@
 -- The clauses of a whole run.
-use Rattle.std.proofs.Common.{◌≡◌, ℕ, suc, ◌+◌, ◌<◌, ◌≤◌, ◌^◌, false, List, Option, Some, None, Result, Ok, Err, sym, ap, subst, ◌∙◌, ◌⊎◌, inl, inr, arith}
+use Rattle.std.proofs.Common.{◌≡◌, ℕ, suc, ◌<◌, ◌≤◌, false, List, Option, Some, None, Result, Ok, Err, sym, ap, subst, ◌∙◌, ◌⊎◌, inl, inr, arith}
 use Rattle.std.specs.Prelude.{IfSome}
 use Rattle.soar_edge.specs.Outside.{AppendsSome}
 use Rattle.soar_edge.specs.declared.filed.Filed.{Filed}
