@@ -33,7 +33,7 @@ fn add_outcome(report: &mut List<u8>, outcome: &Outcome) -> Result<(), AllocErro
 
 /// Adds a line behind a bar, and a last one without its end behind a colon.
 fn add_line(report: &mut List<u8>, line: &[u8]) -> Result<(), AllocError> {
-    if line.last() == Some(&b'\n') {
+    if line.ends_with(b"\n") {
         report.push(b'|')?;
         report.extend_from_slice(line)
     } else {

@@ -1,5 +1,5 @@
 // A source, a shelf and a sink that count their calls, fail at one of them, and answer at one that memory was refused.
-ghost use Rattle.std.specs.Prelude.{None};
+ghost use Rattle.std.specs.Prelude.{◌≡◌, None};
 
 use crate::tests::only;
 use soar_edge::{
@@ -28,7 +28,10 @@ pub struct CountedSource {
 }
 
 impl CountedSource {
-    pub fn new(rt: &impl Abort, alloc: Global, bytes: List<u8>, trouble: Trouble) -> CountedSource {
+    /// A source that gives nine bytes a call.
+    pub fn new(rt: &impl Abort, alloc: Global, bytes: List<u8>, trouble: Trouble) -> CountedSource
+        ensures { result.inner.faults ≡ 0 }
+    {
         let failing = match trouble {
             Trouble::Read(number) => number,
             _ => 0,
@@ -60,7 +63,9 @@ pub struct CountedShelf {
 }
 
 impl CountedShelf {
-    pub fn new(rt: &impl Abort, alloc: Global, files: List<Filed>, trouble: Trouble) -> CountedShelf {
+    pub fn new(rt: &impl Abort, alloc: Global, files: List<Filed>, trouble: Trouble) -> CountedShelf
+        ensures { result.inner.faults ≡ 0 }
+    {
         let (failing, refused) = match trouble {
             Trouble::Fetch(number) => (number, 0),
             Trouble::FetchMemory(number) => (0, number),
@@ -99,7 +104,10 @@ pub struct CountedSink {
 }
 
 impl CountedSink {
-    pub fn new(rt: &impl Abort, alloc: Global, trouble: Trouble) -> CountedSink {
+    /// A sink that takes each of the texts whole.
+    pub fn new(rt: &impl Abort, alloc: Global, trouble: Trouble) -> CountedSink
+        ensures { result.inner.faults ≡ 0 }
+    {
         let (failing, refused) = match trouble {
             Trouble::Put(number) => (number, 0),
             Trouble::PutMemory(number) => (0, number),

@@ -32,7 +32,14 @@ const SAID: &str = "1: O: O1 (hello-world)\nHello World\nhalt\n";
 const READS: &[(&str, usize, u64, u64, Status, &str)] = &[
     (TWICE, 5, 1, 2, Status::ReadFault, ""),
     (TWICE, 5, 3, 4, Status::ReadFault, "no matches\n"),
-    (TWICE, 5, 5, 5, Status::ReadFault, "no matches\nno matches\n"),
+    (
+        TWICE,
+        5,
+        5,
+        5,
+        Status::ReadFault,
+        "no matches\nno matches\n",
+    ),
     (TWICE, 5, 6, 6, Status::Done, "no matches\nno matches\n"),
     (AGENT, 1, 1, 228, Status::ReadFault, ""),
     (AGENT, 1, 229, 229, Status::ReadFault, SAID),
@@ -62,7 +69,15 @@ fn ends_at_read(
 fn a_run_ends_at_the_read_that_fails(rt: HostRuntime) {
     for (input, piece, first, last, status, text) in READS {
         for failing in *first..=*last {
-            let ends = ends_at_read(&rt, rt.alloc(), input, (*piece).max(1), failing, *status, text);
+            let ends = ends_at_read(
+                &rt,
+                rt.alloc(),
+                input,
+                (*piece).max(1),
+                failing,
+                *status,
+                text,
+            );
             assert!(rt; ends, "read {failing} of {input}");
         }
     }
@@ -108,12 +123,28 @@ fn ends_at_write(
 #[test]
 fn a_run_ends_at_the_write_that_fails(rt: HostRuntime) {
     for (piece, failing, status, written) in WRITES {
-        let ends = ends_at_write(&rt, rt.alloc(), BOTH, (*piece).max(1), *failing, *status, *written);
+        let ends = ends_at_write(
+            &rt,
+            rt.alloc(),
+            BOTH,
+            (*piece).max(1),
+            *failing,
+            *status,
+            *written,
+        );
         assert!(rt; ends, "write {failing}");
     }
     for written in 0..40usize {
         let failing = written as u64 + 1;
-        let ends = ends_at_write(&rt, rt.alloc(), (AGENT, SAID), 1, failing, Status::WriteFault, written);
+        let ends = ends_at_write(
+            &rt,
+            rt.alloc(),
+            (AGENT, SAID),
+            1,
+            failing,
+            Status::WriteFault,
+            written,
+        );
         assert!(rt; ends, "write {failing} of the agent");
     }
     assert!(rt; ends_at_write(&rt, rt.alloc(), (AGENT, SAID), 1, 41, Status::Done, 40));

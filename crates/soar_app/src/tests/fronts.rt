@@ -54,7 +54,10 @@ fn goes(rt: &impl Abort, alloc: Global, front: &[u8]) -> bool {
 fn an_open_production_is_reported_and_nothing_else(rt: HostRuntime) {
     let bytes = OPEN_AGENT.as_bytes();
     for count in 0..bytes.len() {
-        assert!(rt; goes(&rt, rt.alloc(), &bytes[..count]), "the first {count} bytes");
+        assert!(rt;
+            goes(&rt, rt.alloc(), &bytes[..count]),
+            "the first {count} bytes"
+        );
     }
     assert!(rt; goes(&rt, rt.alloc(), bytes), "all bytes");
 }

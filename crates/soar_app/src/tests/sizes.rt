@@ -59,6 +59,9 @@ fn ends(alloc: Global, bytes: List<u8>, status: Status, text: &str) -> bool {
 fn whole_commands_within_64_mib_run(rt: HostRuntime) {
     for (blank, last, status, text) in INPUTS {
         let bytes = lines_before(&rt, rt.alloc(), *blank, last);
-        assert!(rt; ends(rt.alloc(), bytes, *status, text), "{blank} blank lines");
+        assert!(rt;
+            ends(rt.alloc(), bytes, *status, text),
+            "{blank} blank lines"
+        );
     }
 }
