@@ -129,7 +129,7 @@ class Agent(contextlib.AbstractContextManager):
         # The marker: a dot is no command, so it is refused and changes nothing, and no other refusal names its line.
         self.lines_sent += commands.count("\n") + 1
         marker = f"error 10 -:{self.lines_sent}: unknown command\n".encode()
-        threading.Thread(target=self.send, args=(f"{commands}.\n".encode(),)).start()
+        threading.Thread(target=self.send, args=(f"{commands}.\n".encode(),), daemon=True).start()
         written = []
         for line in iter(self.process.stdout.readline, marker):
             if not line:

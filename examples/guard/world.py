@@ -43,7 +43,7 @@ class Castle:
         self.now = 0
         self.guard, self.thief, self.caught = "gate", None, False
         self.shuts = dict.fromkeys(DOORS, 0)
-        self.command = None
+        self.command, self.order, self.due = None, {}, 0
         self.told = set()
 
     def cycle(self):
@@ -101,7 +101,7 @@ class Castle:
 
     def percepts(self):
         """Yields the triples that are true now."""
-        yield from self.map()
+        yield from self.layout()
         yield "I2", "here", label(self.guard)
         if self.thief and (self.thief == self.guard or self.is_open(self.guard, self.thief)):
             yield "I2", "sees", label(self.thief)
@@ -109,7 +109,7 @@ class Castle:
             if start <= self.now < start + NOISE_LASTS:
                 yield "I2", "hears", label(room)
 
-    def map(self):
+    def layout(self):
         for room in ROOMS:
             yield "I2", "room", label(room)
             yield label(room), "name", room
