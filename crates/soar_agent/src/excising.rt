@@ -16,7 +16,12 @@ use soar_sym::{Sym, Text};
 
 impl<M: Outstanding> Session<M> {
     /// Takes the production of a name away, where one is loaded.
-    pub fn excise(&mut self, origin: &Origin<'_>, name: Sym, out: &mut Text) -> Result<Outcome, Stop>
+    pub fn excise(
+        &mut self,
+        origin: &Origin<'_>,
+        name: Sym,
+        out: &mut Text,
+    ) -> Result<Outcome, Stop>
         requires ready { IsReady self.old }
         requires known { IsKnown self.old.agent.parts.table name }
         ensures reply { Carries self.old self.new origin.now.source.now origin.now.line (carried_out run_learning (excise name)) out.old out.new result }

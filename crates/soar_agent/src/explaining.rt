@@ -18,7 +18,12 @@ use soar_sym::{Sym, Text};
 
 impl<M: Outstanding> Session<M> {
     /// Says the explanation of the production of a name, where that was learned.
-    pub fn explain(&mut self, origin: &Origin<'_>, name: Sym, out: &mut Text) -> Result<Outcome, Stop>
+    pub fn explain(
+        &mut self,
+        origin: &Origin<'_>,
+        name: Sym,
+        out: &mut Text,
+    ) -> Result<Outcome, Stop>
         requires ready { IsReady self.old }
         requires known { IsKnown self.old.agent.parts.table name }
         ensures reply { Carries self.old self.new origin.now.source.now origin.now.line (carried_out run_learning (explain name)) out.old out.new result }

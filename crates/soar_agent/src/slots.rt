@@ -41,7 +41,12 @@ impl<M: Outstanding> Session<M> {
     }
 
     /// Says the preferences of a slot whose identifiers there are.
-    fn list_slot_given(&mut self, id: Operand, attr: Operand, out: &mut Text) -> Result<Outcome, Stop>
+    fn list_slot_given(
+        &mut self,
+        id: Operand,
+        attr: Operand,
+        out: &mut Text,
+    ) -> Result<Outcome, Stop>
         requires ready { IsReady self.old }
         requires id { IsOperandKnown self.old.agent.parts.table id }
         requires attr { IsAttributeKnown self.old.agent.parts.table attr }
