@@ -8,21 +8,19 @@ unproved=$out/soar_app.unproved
 # Written by ./prove, with the time at which it began.
 proof_began=$proved.built
 
-# Prints the crates of the program, lowest first. crates.txt lists each crate after those that it stands on.
+# Prints the crates of the program in the order in which rt proves them, each after those that it stands on.
 program_crates() {
     awk -F: '
+        function visit(name,    below, many, i) {
+            if (!(name in uses) || name in seen) return
+            seen[name]
+            many = split(uses[name], below, " ")
+            for (i = 1; i <= many; i++) visit(below[i])
+            print name
+        }
         { sub(/#.*/, "") }
-        NF { split($1, words, " "); names[++count] = words[1]; uses[count] = $2 }
-        END {
-            needed["soar_app"]
-            for (i = count; i > 0; i--)
-                if (names[i] in needed) {
-                    many = split(uses[i], below, " ")
-                    for (j = 1; j <= many; j++) needed[below[j]]
-                }
-            for (i = 1; i <= count; i++)
-                if (names[i] in needed) print names[i]
-        }' "$top/crates.txt"
+        NF { split($1, words, " "); uses[words[1]] = $2 }
+        END { visit("soar_app") }' "$top/crates.txt"
 }
 
 # newer_source FILE PART..: prints a source that is newer than FILE, if there is one. PART is src, specs or proofs.
