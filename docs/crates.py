@@ -29,7 +29,7 @@ GROUPS = [
     ("waves", "what is pending, what fires and is learned, what stays recorded, what a step tells", "soar_fire firing_records record_keeping goal_dependence wave_entries explained_firings learned_firings outstanding pending_work wave_learning wave_firings step_report input_queue wave_parts"),
     ("cycles", "decisions, output and phases, with any matcher", "decision_walk decision_parts output_link cycle_parts cycle_phases soar_cycle"),
     ("sessions", "commands and what they say", "command_orders soar_cmd command_labels session_parts list_parts soar_agent"),
-    ("the program", "streams of commands, files, the words of the command line, `main`", "generator gathered_output command_runs soar_run soar_cases soar_app"),
+    ("the program", "streams of commands, files, the words of the command line, `main`", "generator command_runs soar_run soar_cases soar_app"),
     ("worked runs", "whole runs worked out by hand, as facts that the check computes", "defs_worked"),
 ]
 

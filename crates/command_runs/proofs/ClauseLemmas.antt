@@ -1,5 +1,5 @@
 -- The clauses of a whole run.
-use Rattle.std.proofs.Common.{◌≡◌, ℕ, suc, ◌+◌, ◌<◌, ◌≤◌, ◌^◌, false, List, Option, Some, None, Result, Ok, Err, sym, ap, subst, ◌∙◌, ◌⊎◌, inl, inr, arith}
+use Rattle.std.proofs.Common.{◌≡◌, ℕ, suc, ◌<◌, ◌≤◌, false, List, Option, Some, None, Result, Ok, Err, sym, ap, subst, ◌∙◌, ◌⊎◌, inl, inr, arith}
 use Rattle.std.specs.Prelude.{IfSome}
 use Rattle.soar_edge.specs.Outside.{AppendsSome}
 use Rattle.soar_edge.specs.declared.filed.Filed.{Filed}
@@ -10,7 +10,7 @@ use Rattle.defs_run.specs.Runs.{Run}
 use Rattle.defs_run.specs.Sessions.{Session}
 use Rattle.defs_run.specs.Transcripts.{first_run}
 use Rattle.command_runs.specs.Answers.{Answers, EndsAtFetch, EndsAtRead, IsComplete, IsLeft, IsTranscript, LeavesBy, StopsAtRead, told_status}
-use Rattle.command_runs.specs.Causes.{Caused, Faults, Fetched}
+use Rattle.command_runs.specs.Causes.{Caused, Faults, Fetched, counted_on}
 use Rattle.command_runs.specs.Following.{IsAt}
 use Rattle.command_runs.specs.Lengths.{IsTooLong}
 use Rattle.command_runs.specs.Whole.{IsAsked, asked_run, front_run, level_of, whole_transcript}
@@ -26,9 +26,6 @@ below_next n = omega arith
 
 few : (n : ℕ) → n ≡ 0 → n ≤ 1000
 few n is = omega (arith, is)
-
-from_none : (n m : ℕ) → m ≡ 0 → n ≡ n + m
-from_none n m is = omega (arith, is)
 
 pub headline_told : {C : Type 0} (stands held : Session → Type 0) (p q : Progress C) (old now : Option (List ℕ)) (files : Option (List Filed)) (left : Option (List ℕ)) (generate : Option ℕ) (names : List (List ℕ)) (how : Result Flow Broken) (answer : Status) (before after : Faults) → p.refused ≡ false → p.fetched ≡ 0 → answer ≡ told_status how q.refused → Below before → Caused before after how → IfSome left (Told stands held p q old now files generate names how)
     → IfSome left (λ bytes. (stock : List Filed) → files ≡ Some stock → (o : Options) → IsAsked stands o generate names → after.source ≡ before.source → after.shelf ≡ before.shelf → after.sink ≡ before.sink
@@ -60,12 +57,13 @@ complete_told stands held p q old now files left generate names how answer befor
     (complete_of held q old now before after (asked_run None stock bytes o) (whole_transcript None stock bytes o) how (transcript_is None stock bytes o) below cause (source, shelf, sink) (runs_asked stands held p q old now files generate names how bytes none no_fetch tells stock told o asked None tt) free short))
 
 pub fetch_told : {C : Type 0} (stands held : Session → Type 0) (p q : Progress C) (old now : Option (List ℕ)) (files : Option (List Filed)) (left : Option (List ℕ)) (generate : Option ℕ) (names : List (List ℕ)) (how : Result Flow Broken) (answer : Status) (first_fetched last_fetched : Option ℕ) → p.refused ≡ false → p.fetched ≡ 0 → answer ≡ told_status how q.refused → Fetched p.fetched q.fetched first_fetched last_fetched → IfSome left (Told stands held p q old now files generate names how)
-    → IfSome left (λ bytes. (stock : List Filed) → files ≡ Some stock → (o : Options) → IsAsked stands o generate names → (n : ℕ) → n < 2 ^ 63 → first_fetched ≡ Some n → answer ≡ status.FileFault
+    → IfSome left (λ bytes. (stock : List Filed) → files ≡ Some stock → (o : Options) → IsAsked stands o generate names → (n : ℕ) → first_fetched ≡ Some n → answer ≡ status.FileFault
     → EndsAtFetch old now n last_fetched (λ number. whole_transcript (Some number) stock bytes o))
 fetch_told stands held p q old now files left generate names how answer first_fetched last_fetched none no_fetch is fetched =
-    for_each left (Told stands held p q old now files generate names how) _ (λ bytes tells stock told o asked n small counts fault. record {
+    for_each left (Told stands held p q old now files generate names how) _ (λ bytes tells stock told o asked n counts fault. record {
       count = q.fetched;
-      counted = fetched.told n small (few p.fetched no_fetch) (counts ∙ ap Some (from_none n p.fetched no_fetch));
+      few = fetched.most (few p.fetched no_fetch);
+      counted = fetched.counted n (counts ∙ ap (counted_on n) (sym no_fetch));
       written = over_fetch held q old now (asked_run (Some (suc q.fetched)) stock bytes o) (whole_transcript (Some (suc q.fetched)) stock bytes o) how (transcript_is (Some (suc q.fetched)) stock bytes o)
           (runs_asked stands held p q old now files generate names how bytes none no_fetch tells stock told o asked (Some (suc q.fetched)) (below_next q.fetched)) (sym is ∙ fault);
     })

@@ -169,11 +169,11 @@ pub fetched_then : (a b c : ℕ) (first mid last : Option ℕ) → Fetched a b f
 fetched_then a b c first mid last before after = record {
   later = omega (arith, before.later, after.later);
   most = λ few. after.most (before.most few);
-  told = λ n small few is. after.told n small (before.most few) (before.told n small few is);
+  counted = λ n is. after.counted n (before.counted n is);
 }
 
 pub none_fetched : (a : ℕ) (shelf : Option ℕ) → Fetched a a shelf shelf
-none_fetched a shelf = record { later = omega arith; most = λ few. few; told = λ n small few is. is }
+none_fetched a shelf = record { later = omega arith; most = λ few. few; counted = λ n is. is }
 
 -- ---- what is told
 

@@ -5,10 +5,8 @@ pub mod FlowLemmas
 pub mod InputLemmas
 pub mod LengthLemmas
 pub mod OpeningLemmas
-pub mod PassingLemmas
 pub mod ReadingLemmas
 pub mod RunLemmas
 pub mod StepLemmas
 pub mod StreamLemmas
 pub mod WholeLemmas
-pub mod WholeRunLemmas

@@ -1,9 +1,9 @@
 -- A file that is asked for.
 use Rattle.std.proofs.Common.{◌≡◌, ℕ, zero, suc, ◌+◌, ◌<◌, ◌≤◌, ◌^◌, ◌==◌, true, false, nat_lt, nat_le, List, [], ◌∷◌, length, Option, Some, None, Result, Ok, Err, refl, sym, ap, subst, ◌∙◌, arith}
 use Rattle.std.proofs.lemmas.Grind.{common_steps}
-use Rattle.std.specs.Prelude.{if◌then◌else◌}
+use Rattle.std.specs.Prelude.{◌-◌, Bool, IfSome, if◌then◌else◌}
 use Rattle.std.specs.Str.{bytes_eq}
-use Rattle.soar_edge.specs.Files.{FetchCause, Fetches, file_of}
+use Rattle.soar_edge.specs.Files.{FetchCause, Fetches, file_of, told}
 use Rattle.soar_edge.specs.declared.fault.Fetch.{Fetch}
 use Rattle.soar_edge.specs.declared.fault.Fetch.TheVariants as fetch
 use Rattle.soar_edge.specs.declared.filed.Filed.{Filed}
@@ -13,14 +13,14 @@ use Rattle.defs_run.specs.Whole.{whole_stage}
 use Rattle.defs_run.specs.Runs.{Run, Ran, ran, ended_as}
 use Rattle.defs_run.specs.Sessions.{Session}
 use Rattle.defs_run.specs.Sources.{Obeying, fetched, file_named, file_run, is_failing, obeying, refused_run, sourced}
-use Rattle.command_runs.specs.Causes.{ShelfCause}
+use Rattle.command_runs.specs.Causes.{Fetched, ShelfCause, counted_on}
 use Rattle.command_runs.specs.Following.{Comes, IsAt, IsCut, IsOver, OpensFile, OpensWithin, Steps, inner_of}
 use Rattle.command_runs.specs.declared.ends.Opened.{Opened}
 use Rattle.command_runs.specs.declared.ends.Step.{Step}
 use Rattle.command_runs.specs.declared.ends.Step.TheVariants as step
 use Rattle.command_runs.specs.declared.fault.Fault.{Fault}
 use Rattle.command_runs.specs.declared.progress.Progress.{Progress}
-use Rattle.command_runs.proofs.FlowLemmas.{none_of, nothing_written}
+use Rattle.command_runs.proofs.FlowLemmas.{none_of, nothing_written, of_some}
 
 -- ---- what a fetch gives
 
@@ -141,6 +141,40 @@ missing_calm T before now e is cause = subst (λ f. FetchCause {T = T} before no
 
 pub same_shelf : {T : Type 0} (before now : ℕ) (result : Result T Fault) → now ≡ before → ((count : ℕ) → ShelfCause count count result) → ShelfCause before now result
 same_shelf before now result same none = subst (λ n. ShelfCause before n result) (sym same) (none before)
+
+-- ---- as the shelf counts
+
+-- a number that is not below another is not below it after one more
+still_not : (n m : ℕ) → nat_lt n m ≡ false → nat_lt (suc n) m ≡ false
+still_not n m h = grind (arith, common_steps)
+
+-- the shelf tells one more, as long as it tells
+tells_more : (n : ℕ) (last : Option ℕ) → (b : Bool) → nat_lt n (2 ^ 64 - 1) ≡ b → IfSome (if b then Some n else None) (λ k. last ≡ told (k + 1)) → ((if b then Some n else None) ≡ None → last ≡ None) → last ≡ told (suc n)
+tells_more n last true below counts silent = counts ∙ ap told (plus_one n)
+  where
+    plus_one : (m : ℕ) → m + 1 ≡ suc m
+    plus_one m = omega arith
+tells_more n last false above counts silent = silent refl ∙ sym (ap (λ b. if b then Some (suc n) else None) (still_not n (2 ^ 64 - 1) above))
+
+counts_more : (n a : ℕ) (first last : Option ℕ) → IfSome first (λ k. last ≡ told (k + 1)) → (first ≡ None → last ≡ None) → first ≡ counted_on n a → last ≡ counted_on n (suc a)
+counts_more n zero first last counts silent is = of_some (λ k. last ≡ told (k + 1)) first n is counts
+counts_more n (suc a) first last counts silent is =
+    let more : n + suc (suc a) ≡ suc (n + suc a) = omega arith in
+    tells_more (n + suc a) last (nat_lt (n + suc a) (2 ^ 64 - 1)) refl (subst (λ o. IfSome o (λ k. last ≡ told (k + 1))) is counts) (subst (λ o. o ≡ None → last ≡ None) is silent)
+    ∙ ap told (sym more)
+
+pub one_fetched : (a : ℕ) (first last : Option ℕ) → a < 1000 → IfSome first (λ k. last ≡ told (k + 1)) → (first ≡ None → last ≡ None) → Fetched a (a + 1) first last
+one_fetched a first last few counts silent =
+    let more : suc a ≡ a + 1 = omega arith in
+    subst (λ b. Fetched a b first last) more
+    (record { later = omega arith; most = λ most. omega (arith, few); counted = λ n is. counts_more n a first last counts silent is })
+
+pub same_fetched : (a : ℕ) (first last : Option ℕ) → IfSome first (λ k. last ≡ Some k) → (first ≡ None → last ≡ None) → Fetched a a first last
+same_fetched a first last same silent = record { later = omega arith; most = λ few. few; counted = λ n is. stays first same silent ∙ is }
+  where
+    stays : (o : Option ℕ) → IfSome o (λ k. last ≡ Some k) → (o ≡ None → last ≡ None) → last ≡ o
+    stays None same silent = silent refl
+    stays (Some k) same silent = same
 
 -- ---- where a file may not be read
 

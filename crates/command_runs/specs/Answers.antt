@@ -1,5 +1,5 @@
 -- Each answer of a run, and when it comes.
-use Rattle.std.specs.Prelude.{◌≡◌, ◌⊎◌, ℕ, suc, ◌+◌, ◌^◌, ◌≤◌, Bool, true, false, List, [], ◌++◌, length, Option, Some, None, Result, Ok, Err}
+use Rattle.std.specs.Prelude.{◌≡◌, ◌⊎◌, ℕ, suc, ◌^◌, ◌≤◌, Bool, true, false, List, [], ◌++◌, length, Option, Some, None, Result, Ok, Err}
 use Rattle.soar_edge.specs.Outside.{Appends, Rose}
 use Rattle.soar_edge.specs.declared.status.Status.{Status}
 use Rattle.soar_edge.specs.declared.status.Status.TheVariants as status
@@ -7,7 +7,7 @@ use Rattle.soar_edge.specs.declared.filed.Filed.{Filed}
 use Rattle.defs_run.specs.CommandLine.{Options}
 use Rattle.defs_run.specs.Runs.{Ran}
 use Rattle.defs_run.specs.Transcripts.{Transcript}
-use Rattle.command_runs.specs.Causes.{Faults}
+use Rattle.command_runs.specs.Causes.{Faults, counted_on}
 use Rattle.command_runs.specs.Following.{ended_by, status_of_end}
 use Rattle.command_runs.specs.Whole.{asked_run, comes_to_input, front_run, is_open}
 use Rattle.command_runs.specs.declared.ends.End.TheVariants as end
@@ -56,10 +56,11 @@ Answers before now bytes left kept old new said status.FileFault = Rose before.s
 Answers before now bytes left kept old new said status.TooLong = Whole before now old new said status.TooLong
 Answers before now bytes left kept old new said status.Limit = Whole before now old new said status.Limit
 
--- what was written before a fetch that failed, behind so many that did not: the transcript that ends there; the shelf counted along
+-- what was written before a fetch that failed, after `count` that did not: the transcript that ends there; the shelf counted along
 pub record EndsAtFetch (old new : Option (List ℕ)) (first : ℕ) (fetched : Option ℕ) (failing : ℕ → Transcript) : Type 0 where
   pub count : ℕ
-  pub counted : fetched ≡ Some (first + count)
+  pub few : count ≤ 1000
+  pub counted : fetched ≡ counted_on first count
   pub written : IsTranscript old new status.FileFault (failing (suc count))
 
 -- what was written before a read that failed: all that the run writes over what was taken until then, at most 64 MiB, behind which it would go on

@@ -1,5 +1,6 @@
 -- What failed, where something did, and how many files were asked for.
-use Rattle.std.specs.Prelude.{◌≡◌, ℕ, ◌+◌, ◌^◌, ◌<◌, ◌≤◌, Option, Some, Result, Ok, Err}
+use Rattle.std.specs.Prelude.{◌≡◌, ℕ, zero, suc, ◌+◌, ◌≤◌, Option, Some, Result, Ok, Err}
+use Rattle.soar_edge.specs.Files.{told}
 use Rattle.soar_edge.specs.Outside.{Rose}
 use Rattle.command_runs.specs.declared.fault.Broken.{Broken}
 use Rattle.command_runs.specs.declared.fault.Broken.TheVariants as broken
@@ -29,8 +30,13 @@ Caused before now (Err (broken.Run fault.Shelf)) = Rose before.shelf now.shelf �
 Caused before now (Err (broken.Run fault.Sink)) = Rose before.sink now.sink × (now.source ≡ before.source) × (now.shelf ≡ before.shelf)
 Caused before now (Err (broken.Run fault.NoMemory)) = now ≡ before
 
--- a part of a run asked for so many files that there were as many after it as this; the shelf counted along
+-- what a shelf that told `first` tells after `more` further fetches
+abbrev pub counted_on : ℕ → ℕ → Option ℕ
+counted_on first zero = Some first
+counted_on first (suc more) = told (first + suc more)
+
+-- a part of a run raised the number of fetches from `before` to `now`, and the shelf counted along
 pub record Fetched (before now : ℕ) (shelf_before shelf_now : Option ℕ) : Type 0 where
   pub later : before ≤ now
   pub most : before ≤ 1000 → now ≤ 1000
-  pub told : (n : ℕ) → n < 2 ^ 63 → before ≤ 1000 → shelf_before ≡ Some (n + before) → shelf_now ≡ Some (n + now)
+  pub counted : (first : ℕ) → shelf_before ≡ counted_on first before → shelf_now ≡ counted_on first now

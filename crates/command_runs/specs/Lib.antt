@@ -2,9 +2,7 @@ pub mod Answers
 pub mod Carrying
 pub mod Causes
 pub mod Following
-pub mod Holding
 pub mod Lengths
 pub mod Reading
 pub mod Turning
 pub mod Whole
-pub mod WholeRuns

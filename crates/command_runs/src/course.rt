@@ -1,26 +1,24 @@
-// A whole run, over a sink that may hold some of the output back.
+// A whole run: a script, or files and then standard input.
 ghost use Rattle.std.specs.Prelude.{◌≡◌, ◌-◌, ◌^◌, ◌<◌, false, List as ListOf, ℕ, Option, Some, None, IfSome};
 ghost use Rattle.soar_edge.specs.declared.filed.Filed.{Filed};
 ghost use Rattle.defs_run.specs.Runs.{Run, then_run};
 ghost use Rattle.command_runs.specs.Answers.{IsLeftAs, LeavesBy, StopsAtRead};
 ghost use Rattle.command_runs.specs.Causes.{Caused, Fetched};
 ghost use Rattle.command_runs.specs.Following.{Comes, IsAt, RunsWhole};
-ghost use Rattle.command_runs.specs.Holding.{IsQuietWhole};
 ghost use Rattle.command_runs.specs.Whole.{comes_along, commands_of, files_of, input_of, is_open, whole_run};
 
 use crate::carrier::Carrier;
 use crate::ends::Flow;
 use crate::fault::Broken;
-use crate::files::finish_files;
+use crate::files::obey_files;
 use crate::input::{obey_input, obey_script};
 use crate::progress::Progress;
-use gathered_output::Gather;
-use soar_edge::{Shelf, Source};
+use soar_edge::{Shelf, Sink, Source};
 use soar_sym::Text;
 use std::alloc::Global;
 
 /// Carries out a script of so many items, or else files and then standard input.
-pub fn obey_whole<C: Carrier + Drop, I: Source, F: Shelf, O: Gather>(
+pub fn obey_whole<C: Carrier + Drop, I: Source, F: Shelf, O: Sink>(
     alloc: Global,
     generate: Option<u32>,
     names: &[Text],
@@ -42,7 +40,6 @@ pub fn obey_whole<C: Carrier + Drop, I: Source, F: Shelf, O: Gather>(
     ensures fetched { Fetched progress.old.fetched progress.new.fetched (F.fetched files.old) (F.fetched files.new) }
     ensures cause { Caused (record { source = I.faults input.old; shelf = F.faults files.old; sink = O.faults out.old })
         (record { source = I.faults input.new; shelf = F.faults files.new; sink = O.faults out.new }) result }
-    ensures quiet { IsQuietWhole (O.held out.new) result }
 {
     match generate {
         Some(items) => match obey_script(alloc, items, progress, files, out) {
@@ -54,7 +51,7 @@ pub fn obey_whole<C: Carrier + Drop, I: Source, F: Shelf, O: Gather>(
 }
 
 /// Carries out the commands of files, and then those of standard input.
-fn obey_all<C: Carrier + Drop, I: Source, F: Shelf, O: Gather>(
+fn obey_all<C: Carrier + Drop, I: Source, F: Shelf, O: Sink>(
     alloc: Global,
     names: &[Text],
     progress: &mut Progress<C>,
@@ -75,9 +72,8 @@ fn obey_all<C: Carrier + Drop, I: Source, F: Shelf, O: Gather>(
     ensures fetched { Fetched progress.old.fetched progress.new.fetched (F.fetched files.old) (F.fetched files.new) }
     ensures cause { Caused (record { source = I.faults input.old; shelf = F.faults files.old; sink = O.faults out.old })
         (record { source = I.faults input.new; shelf = F.faults files.new; sink = O.faults out.new }) result }
-    ensures quiet { IsQuietWhole (O.held out.new) result }
 {
-    match finish_files(alloc, names, progress, files, out) {
+    match obey_files(alloc, names, progress, files, out) {
         Ok(Flow::Goes) => obey_input(alloc, progress, input, files, out),
         Ok(Flow::Ends(end)) => Ok(Flow::Ends(end)),
         Err(fault) => Err(Broken::Run(fault)),

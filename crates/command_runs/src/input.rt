@@ -6,7 +6,6 @@ ghost use Rattle.defs_run.specs.Runs.{Run};
 ghost use Rattle.command_runs.specs.Answers.{IsLeftAs, LeavesBy, StopsAtRead};
 ghost use Rattle.command_runs.specs.Causes.{Caused, Fetched, ShelfCause, SinkCause};
 ghost use Rattle.command_runs.specs.Following.{Comes, Flows, IsAt, RunsWhole};
-ghost use Rattle.command_runs.specs.Holding.{IsQuiet, IsQuietWhole};
 ghost use Rattle.command_runs.specs.Whole.{commands_of, input_of, is_open};
 
 use crate::carrier::Carrier;
@@ -15,15 +14,14 @@ use crate::fault::{Broken, Fault};
 use crate::files::{DEPTH, STANDARD_INPUT};
 use crate::progress::Progress;
 use crate::reading::{Came, InputFault, feed_more};
-use crate::stream::{finish_fed, obey_stream};
-use gathered_output::Gather;
+use crate::stream::{obey_fed, obey_stream};
 use generator::script;
-use soar_edge::{Cutter, Shelf, Source};
+use soar_edge::{Cutter, Shelf, Sink, Source};
 use std::alloc::Global;
 
 /// Reads standard input, and carries each of its commands out as soon as it is whole: those within its first 64 MiB,
-/// where it is longer. Before each read all that was said is passed on.
-pub fn obey_input<C: Carrier + Drop, I: Source, F: Shelf, O: Gather>(
+/// where it is longer.
+pub fn obey_input<C: Carrier + Drop, I: Source, F: Shelf, O: Sink>(
     alloc: Global,
     progress: &mut Progress<C>,
     input: &mut I,
@@ -34,7 +32,6 @@ pub fn obey_input<C: Carrier + Drop, I: Source, F: Shelf, O: Gather>(
     requires source { I.faults input.old < 2 ^ 64 - 1 }
     requires shelf { F.faults files.old < 2 ^ 64 - 1 }
     requires sink { O.faults out.old < 2 ^ 64 - 1 }
-    requires held { O.held out.old ≡ [] }
     ensures flow { IfSome (I.left input.old) (λ bytes. (stock : ListOf Filed) → F.files files.old ≡ Some stock → (fails : Option ℕ) → Comes fails progress.new.fetched → (r : Run) → IsAt (C.stands progress.old.carrier) progress.old r →
         RunsWhole (C.stands progress.new.carrier) progress.new (O.written out.old) (O.written out.new) fails (input_of fails stock bytes r) result) }
     ensures before_read { IfSome (I.left input.old) (λ bytes. (stock : ListOf Filed) → F.files files.old ≡ Some stock → (r : Run) → IsAt (C.stands progress.old.carrier) progress.old r →
@@ -44,7 +41,6 @@ pub fn obey_input<C: Carrier + Drop, I: Source, F: Shelf, O: Gather>(
     ensures fetched { Fetched progress.old.fetched progress.new.fetched (F.fetched files.old) (F.fetched files.new) }
     ensures cause { Caused (record { source = I.faults input.old; shelf = F.faults files.old; sink = O.faults out.old })
         (record { source = I.faults input.new; shelf = F.faults files.new; sink = O.faults out.new }) result }
-    ensures quiet { IsQuietWhole (O.held out.new) result }
 {
     let mut cutter = match Cutter::new(alloc) {
         Ok(cutter) => cutter,
@@ -57,7 +53,7 @@ pub fn obey_input<C: Carrier + Drop, I: Source, F: Shelf, O: Gather>(
             Err(InputFault::Failed) => return Err(Broken::Source),
             Err(InputFault::NoMemory) => return Err(Broken::Run(Fault::NoMemory)),
         };
-        match finish_fed(
+        match obey_fed(
             alloc,
             DEPTH,
             STANDARD_INPUT,
@@ -78,7 +74,7 @@ pub fn obey_input<C: Carrier + Drop, I: Source, F: Shelf, O: Gather>(
 }
 
 /// Carries out the commands of the script of so many items.
-pub fn obey_script<C: Carrier + Drop, F: Shelf, O: Gather>(
+pub fn obey_script<C: Carrier + Drop, F: Shelf, O: Sink>(
     alloc: Global,
     items: u32,
     progress: &mut Progress<C>,
@@ -93,7 +89,6 @@ pub fn obey_script<C: Carrier + Drop, F: Shelf, O: Gather>(
     ensures fetched { Fetched progress.old.fetched progress.new.fetched (F.fetched files.old) (F.fetched files.new) }
     ensures shelf { ShelfCause (F.faults files.old) (F.faults files.new) result }
     ensures sink { SinkCause (O.faults out.old) (O.faults out.new) result }
-    ensures quiet { IsQuiet (O.held out.new) result }
 {
     match script(alloc, items) {
         Ok(text) => obey_stream(

@@ -5,16 +5,13 @@ ghost use Rattle.defs_run.specs.Runs.{Run};
 ghost use Rattle.defs_run.specs.Sources.{Obeying, fetched, refused_run, sourced};
 ghost use Rattle.command_runs.specs.Carrying.{refusal_of};
 ghost use Rattle.command_runs.specs.Causes.{Fetched, ShelfCause, SinkCause};
-ghost use Rattle.command_runs.specs.Holding.{IsQuiet};
 ghost use Rattle.command_runs.specs.Following.{Comes, IsAt, IsReadyStep, OpensWithin, Passes, Steps, inner_of};
 
 use crate::carrier::{Carrier, Unread};
 use crate::ends::{End, Opened, Step};
 use crate::fault::{Fault, fault_of};
-use crate::passing::pass_held;
 use crate::progress::Progress;
-use gathered_output::Gather;
-use soar_edge::{Fetch, Shelf};
+use soar_edge::{Fetch, Shelf, Sink};
 use soar_sym::Text;
 use std::alloc::Global;
 
@@ -22,7 +19,7 @@ use std::alloc::Global;
 const MOST_FETCHES: u32 = 1000;
 
 /// Reads a file that a source asks for on a line, inside which files may be read so many deep with it.
-pub fn open_file<C: Carrier + Drop, F: Shelf, O: Gather>(
+pub fn open_file<C: Carrier + Drop, F: Shelf, O: Sink>(
     alloc: Global,
     depth: u32,
     name: Text,
@@ -43,7 +40,6 @@ pub fn open_file<C: Carrier + Drop, F: Shelf, O: Gather>(
     ensures stock { F.files files.new ≡ F.files files.old }
     ensures shelf { ShelfCause (F.faults files.old) (F.faults files.new) result }
     ensures sink { SinkCause (O.faults out.old) (O.faults out.new) result }
-    ensures quiet { IsQuiet (O.held out.new) result }
 {
     if progress.fetched >= MOST_FETCHES {
         return refuse_step(alloc, Unread::TooMany, &name, source, line, progress, out);
@@ -54,8 +50,8 @@ pub fn open_file<C: Carrier + Drop, F: Shelf, O: Gather>(
     fetch_file(alloc, name, source, line, progress, files, out)
 }
 
-/// Fetches a file, or refuses a name of none, once all that was said before is passed on.
-fn fetch_file<C: Carrier + Drop, F: Shelf, O: Gather>(
+/// Fetches a file, or refuses a name of none.
+fn fetch_file<C: Carrier + Drop, F: Shelf, O: Sink>(
     alloc: Global,
     name: Text,
     source: &str,
@@ -75,37 +71,6 @@ fn fetch_file<C: Carrier + Drop, F: Shelf, O: Gather>(
     ensures stock { F.files files.new ≡ F.files files.old }
     ensures shelf { ShelfCause (F.faults files.old) (F.faults files.new) result }
     ensures sink { SinkCause (O.faults out.old) (O.faults out.new) result }
-    ensures quiet { IsQuiet (O.held out.new) result }
-{
-    match pass_held(out) {
-        Ok(()) => fetch_quietly(alloc, name, source, line, progress, files, out),
-        Err(fault) => Err(fault),
-    }
-}
-
-/// Fetches a file, or refuses a name of none, with nothing held back of the output.
-fn fetch_quietly<C: Carrier + Drop, F: Shelf, O: Gather>(
-    alloc: Global,
-    name: Text,
-    source: &str,
-    line: u64,
-    progress: &mut Progress<C>,
-    files: &mut F,
-    out: &mut O,
-) -> Result<Step, Fault>
-    requires count { progress.old.fetched < 1000 }
-    requires ready { C.ready progress.old.carrier }
-    requires shelf { F.faults files.old < 2 ^ 64 - 1 }
-    requires sink { O.faults out.old < 2 ^ 64 - 1 }
-    requires held { O.held out.old ≡ [] }
-    ensures step { (stock : ListOf Filed) → F.files files.old ≡ Some stock → (fails : Option ℕ) → Comes fails progress.new.fetched → (r : Run) → IsAt (C.stands progress.old.carrier) progress.old r → (obeying : Obeying) →
-        Steps (C.stands progress.new.carrier) progress.new (O.written out.old) (O.written out.new) fails (Some obeying) (fetched obeying fails stock source.now line name r) result }
-    ensures ready { IsReadyStep (C.ready progress.new.carrier) result }
-    ensures fetched { Fetched progress.old.fetched progress.new.fetched (F.fetched files.old) (F.fetched files.new) }
-    ensures stock { F.files files.new ≡ F.files files.old }
-    ensures shelf { ShelfCause (F.faults files.old) (F.faults files.new) result }
-    ensures sink { SinkCause (O.faults out.old) (O.faults out.new) result }
-    ensures quiet { IsQuiet (O.held out.new) result }
 {
     match files.fetch(alloc, name.as_str()) {
         Ok(bytes) => {
@@ -126,7 +91,7 @@ fn fetch_quietly<C: Carrier + Drop, F: Shelf, O: Gather>(
 }
 
 /// Refuses on a line of a source what is no command, and goes on.
-fn refuse_step<C: Carrier + Drop, O: Gather>(
+fn refuse_step<C: Carrier + Drop, O: Sink>(
     alloc: Global,
     why: Unread,
     name: &Text,
@@ -144,7 +109,6 @@ fn refuse_step<C: Carrier + Drop, O: Gather>(
     ensures ready { IsReadyStep (C.ready progress.new.carrier) result }
     ensures shelf { (count : ℕ) → ShelfCause count count result }
     ensures sink { SinkCause (O.faults out.old) (O.faults out.new) result }
-    ensures quiet { IsQuiet (O.held out.new) result }
 {
     match refuse(alloc, why, name, source, line, progress, out) {
         Ok(()) => Ok(Step::Goes),
@@ -153,7 +117,7 @@ fn refuse_step<C: Carrier + Drop, O: Gather>(
 }
 
 /// Refuses on a line of a source what is no command.
-pub fn refuse<C: Carrier + Drop, O: Gather>(
+pub fn refuse<C: Carrier + Drop, O: Sink>(
     alloc: Global,
     why: Unread,
     name: &Text,
@@ -170,7 +134,6 @@ pub fn refuse<C: Carrier + Drop, O: Gather>(
     ensures ready { IfOk result (λ _. C.ready progress.new.carrier) }
     ensures shelf { (count : ℕ) → ShelfCause count count result }
     ensures sink { SinkCause (O.faults out.old) (O.faults out.new) result }
-    ensures quiet { IsQuiet (O.held out.new) result }
 {
     let refusal = progress
         .carrier

@@ -7,20 +7,18 @@ ghost use Rattle.defs_run.specs.Sources.{after_sequel, command_run};
 ghost use Rattle.command_runs.specs.Carrying.{sequel_of};
 ghost use Rattle.command_runs.specs.Causes.{Fetched, ShelfCause, SinkCause};
 ghost use Rattle.command_runs.specs.Following.{CarriesOut, Comes, IsAt, IsReadyCarried, IsReadyStep, OpensWithin, Steps, inner_of};
-ghost use Rattle.command_runs.specs.Holding.{IsQuiet};
 
 use crate::carrier::{Answered, Carrier, Next};
 use crate::ends::{End, Step, ended_by};
 use crate::fault::{Fault, fault_of};
 use crate::opening::open_file;
 use crate::progress::Progress;
-use gathered_output::Gather;
-use soar_edge::{Command, Shelf};
+use soar_edge::{Command, Shelf, Sink};
 use std::alloc::Global;
 
 /// Carries a command of a source out, inside which files may be read so many deep; the commands of a file that it asks
 /// for are left to the caller.
-pub fn obey_command<C: Carrier + Drop, F: Shelf, O: Gather>(
+pub fn obey_command<C: Carrier + Drop, F: Shelf, O: Sink>(
     alloc: Global,
     depth: u32,
     command: &Command,
@@ -42,7 +40,6 @@ pub fn obey_command<C: Carrier + Drop, F: Shelf, O: Gather>(
     ensures stock { F.files files.new ≡ F.files files.old }
     ensures shelf { ShelfCause (F.faults files.old) (F.faults files.new) result }
     ensures sink { SinkCause (O.faults out.old) (O.faults out.new) result }
-    ensures quiet { IsQuiet (O.held out.new) result }
 {
     match carry_out(alloc, command, source, progress, out) {
         Ok(Some(next)) => follow(
@@ -61,7 +58,7 @@ pub fn obey_command<C: Carrier + Drop, F: Shelf, O: Gather>(
 }
 
 /// Carries a command out, and gives what follows it. None where it passes a limit.
-fn carry_out<C: Carrier + Drop, O: Gather>(
+fn carry_out<C: Carrier + Drop, O: Sink>(
     alloc: Global,
     command: &Command,
     source: &str,
@@ -77,7 +74,6 @@ fn carry_out<C: Carrier + Drop, O: Gather>(
     ensures ready { IsReadyCarried (C.ready progress.new.carrier) result }
     ensures shelf { (count : ℕ) → ShelfCause count count result }
     ensures sink { SinkCause (O.faults out.old) (O.faults out.new) result }
-    ensures quiet { IsQuiet (O.held out.new) result }
 {
     let answer = progress.carrier.answer(alloc, command, source, out);
     match answer {
@@ -97,7 +93,7 @@ fn either(a: bool, b: bool) -> bool
 }
 
 /// What follows a command on a line of a source.
-fn follow<C: Carrier + Drop, F: Shelf, O: Gather>(
+fn follow<C: Carrier + Drop, F: Shelf, O: Sink>(
     alloc: Global,
     depth: u32,
     next: Next,
@@ -119,7 +115,6 @@ fn follow<C: Carrier + Drop, F: Shelf, O: Gather>(
     ensures stock { F.files files.new ≡ F.files files.old }
     ensures shelf { ShelfCause (F.faults files.old) (F.faults files.new) result }
     ensures sink { SinkCause (O.faults out.old) (O.faults out.new) result }
-    ensures quiet { IsQuiet (O.held out.new) result }
 {
     match next {
         Next::Command => Ok(Step::Goes),

@@ -8,22 +8,19 @@ ghost use Rattle.defs_run.specs.Runs.{Run};
 ghost use Rattle.defs_run.specs.Sources.{cuts_run, obeying};
 ghost use Rattle.command_runs.specs.Causes.{Fetched, ShelfCause, SinkCause};
 ghost use Rattle.command_runs.specs.Following.{Comes, Flows, FlowsTo, IsAt, IsReadyFlow, inner_of};
-ghost use Rattle.command_runs.specs.Holding.{IsPassedOn, IsQuiet};
 ghost use Rattle.command_runs.specs.Turning.{Waits, left_behind};
 
 use crate::carrier::Carrier;
 use crate::ends::{Flow, Step};
 use crate::fault::Fault;
-use crate::passing::pass_behind;
 use crate::progress::Progress;
 use crate::turn::{Turn, next_turn};
-use gathered_output::Gather;
-use soar_edge::{Cutter, Shelf};
+use soar_edge::{Cutter, Shelf, Sink};
 use soar_sym::NoMemory;
 use std::alloc::Global;
 
 /// Carries out the commands of a source that ends behind these bytes, inside which files may be read so many deep.
-pub fn obey_stream<C: Carrier + Drop, F: Shelf, O: Gather>(
+pub fn obey_stream<C: Carrier + Drop, F: Shelf, O: Sink>(
     alloc: Global,
     depth: u32,
     source: &str,
@@ -43,7 +40,6 @@ pub fn obey_stream<C: Carrier + Drop, F: Shelf, O: Gather>(
     ensures stock { F.files files.new ≡ F.files files.old }
     ensures shelf { ShelfCause (F.faults files.old) (F.faults files.new) result }
     ensures sink { SinkCause (O.faults out.old) (O.faults out.new) result }
-    ensures quiet { IsQuiet (O.held out.new) result }
 {
     match fed_cutter(alloc, bytes) {
         Ok(mut cutter) => obey_fed(alloc, depth, source, &mut cutter, progress, files, out),
@@ -51,39 +47,8 @@ pub fn obey_stream<C: Carrier + Drop, F: Shelf, O: Gather>(
     }
 }
 
-/// Carries out the commands of a source that are whole in what a cutter was fed, and passes on all that they say.
-pub fn finish_fed<C: Carrier + Drop, F: Shelf, O: Gather>(
-    alloc: Global,
-    depth: u32,
-    source: &str,
-    cutter: &mut Cutter,
-    progress: &mut Progress<C>,
-    files: &mut F,
-    out: &mut O,
-) -> Result<Flow, Fault>
-    requires ready { C.ready progress.old.carrier }
-    requires shelf { F.faults files.old < 2 ^ 64 - 1 }
-    requires sink { O.faults out.old < 2 ^ 64 - 1 }
-    ensures flow { (stock : ListOf Filed) → F.files files.old ≡ Some stock → (fails : Option ℕ) → Comes fails progress.new.fetched → (r : Run) → IsAt (C.stands progress.old.carrier) progress.old r → (ends : Bool) (more : ListOf ℕ) → MayFollow cutter.old.closed ends more →
-        FlowsTo (C.stands progress.new.carrier) progress.new (O.written out.old) (O.written out.new) fails
-        (cuts_run whole_stage (inner_of fails stock depth) fails stock source.now (left_behind cutter.old.closed (cuts_with cutter.new ends more)))
-        (cuts_run whole_stage (inner_of fails stock depth) fails stock source.now (cuts_with cutter.old ends more) r) result }
-    ensures waits { Waits cutter.old.closed (cuts_with cutter.new false []) result }
-    ensures fed { cutter.new.fed ≡ cutter.old.fed }
-    ensures closed { cutter.new.closed ≡ cutter.old.closed }
-    ensures ready { IsReadyFlow (C.ready progress.new.carrier) result }
-    ensures fetched { Fetched progress.old.fetched progress.new.fetched (F.fetched files.old) (F.fetched files.new) }
-    ensures stock { F.files files.new ≡ F.files files.old }
-    ensures shelf { ShelfCause (F.faults files.old) (F.faults files.new) result }
-    ensures sink { SinkCause (O.faults out.old) (O.faults out.new) result }
-    ensures passed { IsPassedOn (O.held out.new) result }
-{
-    let flow = obey_fed(alloc, depth, source, cutter, progress, files, out)?;
-    pass_behind(flow, out)
-}
-
 /// Carries out the commands of a source that are whole in what a cutter was fed.
-pub fn obey_fed<C: Carrier + Drop, F: Shelf, O: Gather>(
+pub fn obey_fed<C: Carrier + Drop, F: Shelf, O: Sink>(
     alloc: Global,
     depth: u32,
     source: &str,
@@ -107,7 +72,6 @@ pub fn obey_fed<C: Carrier + Drop, F: Shelf, O: Gather>(
     ensures stock { F.files files.new ≡ F.files files.old }
     ensures shelf { ShelfCause (F.faults files.old) (F.faults files.new) result }
     ensures sink { SinkCause (O.faults out.old) (O.faults out.new) result }
-    ensures quiet { IsQuiet (O.held out.new) result }
 {
     'commands: loop {
         match next_turn(alloc, depth, cutter, source, progress, files, out) {

@@ -5,7 +5,6 @@ ghost use Rattle.soar_edge.specs.declared.filed.Filed.{Filed};
 ghost use Rattle.defs_run.specs.Runs.{Run};
 ghost use Rattle.command_runs.specs.Causes.{Fetched, ShelfCause, SinkCause};
 ghost use Rattle.command_runs.specs.Following.{Comes, IsAt, inner_of};
-ghost use Rattle.command_runs.specs.Holding.{IsQuiet};
 ghost use Rattle.command_runs.specs.Turning.{IsReadyTurn, IsTurn, TakesCommand, Turns, WaitsBehind};
 
 use crate::carrier::{Carrier, Unread};
@@ -14,8 +13,7 @@ use crate::fault::Fault;
 use crate::opening::refuse;
 use crate::progress::Progress;
 use crate::step::obey_command;
-use gathered_output::Gather;
-use soar_edge::{Cut, Cutter, Shelf};
+use soar_edge::{Cut, Cutter, Shelf, Sink};
 use soar_sym::Text;
 use std::alloc::Global;
 
@@ -27,7 +25,7 @@ pub enum Turn {
 }
 
 /// Takes the next command of a source off and carries it out.
-pub fn next_turn<C: Carrier + Drop, F: Shelf, O: Gather>(
+pub fn next_turn<C: Carrier + Drop, F: Shelf, O: Sink>(
     alloc: Global,
     depth: u32,
     cutter: &mut Cutter,
@@ -52,7 +50,6 @@ pub fn next_turn<C: Carrier + Drop, F: Shelf, O: Gather>(
     ensures stock { F.files files.new ≡ F.files files.old }
     ensures shelf { ShelfCause (F.faults files.old) (F.faults files.new) result }
     ensures sink { SinkCause (O.faults out.old) (O.faults out.new) result }
-    ensures quiet { IsQuiet (O.held out.new) result }
 {
     let cut = cutter.next_command();
     match cut {

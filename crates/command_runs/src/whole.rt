@@ -9,9 +9,9 @@ ghost use Rattle.command_runs.specs.Lengths.{IsTooLong};
 ghost use Rattle.command_runs.specs.Whole.{IsAsked, front_run, whole_transcript};
 
 use crate::carrier::Carrier;
+use crate::course::obey_whole;
 use crate::ends::{End, Flow, ended_by};
 use crate::fault::{Broken, Fault};
-use crate::gathered::run_gathered;
 use crate::progress::Progress;
 use soar_edge::{Shelf, Sink, Source, Status};
 use soar_sym::Text;
@@ -44,7 +44,7 @@ pub fn run_whole<C: Carrier + Drop, I: Source, F: Shelf, O: Sink>(
     ensures prefix { IfSome (I.left input.old) (λ bytes. (stock : ListOf Filed) → F.files files.old ≡ Some stock → (o : Options) → IsAsked (C.stands carrier) o generate names.now
         → AppendsSome (O.written out.old) (O.written out.new) (whole_transcript None stock bytes o).text) }
     ensures before_fetch { IfSome (I.left input.old) (λ bytes. (stock : ListOf Filed) → F.files files.old ≡ Some stock → (o : Options) → IsAsked (C.stands carrier) o generate names.now
-        → (n : ℕ) → n < 2 ^ 63 → F.fetched files.old ≡ Some n → result ≡ Status.FileFault
+        → (n : ℕ) → F.fetched files.old ≡ Some n → result ≡ Status.FileFault
         → EndsAtFetch (O.written out.old) (O.written out.new) n (F.fetched files.new) (λ number. whole_transcript (Some number) stock bytes o)) }
     ensures before_read { IfSome (I.left input.old) (λ bytes. (stock : ListOf Filed) → F.files files.old ≡ Some stock → (o : Options) → IsAsked (C.stands carrier) o generate names.now
         → result ≡ Status.ReadFault → (o.generate ≡ None) × EndsAtRead (O.written out.old) (O.written out.new) bytes (I.left input.new) (λ taken. front_run stock taken o)) }
@@ -69,7 +69,7 @@ pub fn run_whole<C: Carrier + Drop, I: Source, F: Shelf, O: Sink>(
         refused: false,
         fetched: 0,
     };
-    let flow = run_gathered(alloc, generate, names, &mut progress, input, files, out);
+    let flow = obey_whole(alloc, generate, names, &mut progress, input, files, out);
     let status = status_of(flow, progress.refused);
     forget(progress);
     status

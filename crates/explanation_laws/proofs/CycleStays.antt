@@ -46,7 +46,7 @@ unfolding resettled
 work_stays a gone w h = (spent_later gone w.program h, not_grown w.names.words)
 
 -- firings leave the program as it was
-firings_same : (m : BeforeWave) (w : Wave) (xs : List Firable) → (with_firings m w xs).program ≡ w.program
+pub firings_same : (m : BeforeWave) (w : Wave) (xs : List Firable) → (with_firings m w xs).program ≡ w.program
 unfolding with_firings
 firings_same m w [] = refl
 firings_same m w (x ∷ xs) = firings_same m (with_firing m w x) xs
@@ -78,14 +78,14 @@ waves_stay a work h =
 -- ---- phases, decisions and cycles
 
 module _ (p : Program) (words : Texts) where
-  abbrev Goes : Agent → Type 0
+  abbrev pub Goes : Agent → Type 0
   Goes a = Later p a.program × Grown words a.names.words
 
-  abbrev TurnGoes : Turn Course → Type 0
+  abbrev pub TurnGoes : Turn Course → Type 0
   TurnGoes (ends c) = Goes c.agent
   TurnGoes (goes_on c) = Goes c.agent
 
-  turns_go : (step : Course → Turn Course) → ((c : Course) → Goes c.agent → TurnGoes (step c)) → (n : ℕ) (c : Course) → Goes c.agent → TurnGoes (turns n step c)
+  pub turns_go : (step : Course → Turn Course) → ((c : Course) → Goes c.agent → TurnGoes (step c)) → (n : ℕ) (c : Course) → Goes c.agent → TurnGoes (turns n step c)
   turns_go step keeps zero c h = h
   turns_go step keeps (suc n) c h = go (step c) (keeps c h) (turns_go step keeps n)
     where
@@ -99,7 +99,7 @@ module _ (p : Program) (words : Texts) where
       let one = waves_stay a (pending proposing a) h.0.numbered in
       (later_twice p a.program after.program h.0 one.0, grown_twice words a.names.words after.names.words h.1 one.1)
 
-  one_wave_goes : (proposing : Bool) (c : Course) → Goes c.agent → TurnGoes (one_wave with_learning proposing c)
+  pub one_wave_goes : (proposing : Bool) (c : Course) → Goes c.agent → TurnGoes (one_wave with_learning proposing c)
   one_wave_goes proposing c h = go (is_none (pending proposing c.agent))
     where
       turn : (b : Bool) → TurnGoes (turn_by b (then_step c (wave_of with_learning c.agent (pending proposing c.agent))))
@@ -113,7 +113,7 @@ module _ (p : Program) (words : Texts) where
       go true = h
       go false = turn ((wave_of with_learning c.agent (pending proposing c.agent)).halted)
 
-  phase_goes : (proposing : Bool) (a : Agent) → Goes a → Goes (phase with_learning proposing a).course.agent
+  pub phase_goes : (proposing : Bool) (a : Agent) → Goes a → Goes (phase with_learning proposing a).course.agent
   unfolding phase
   phase_goes proposing a h = go (turns a.settings.max_elaborations (one_wave with_learning proposing) (still a)) (turns_go (one_wave with_learning proposing) (one_wave_goes proposing) a.settings.max_elaborations (still a) h)
     where
@@ -121,14 +121,14 @@ module _ (p : Program) (words : Texts) where
       go (ends c) k = k
       go (goes_on c) k = k
 
-  then_phase_goes : (part : Part) (proposing : Bool) (c : Course) → Goes c.agent → Goes (then_phase with_learning part proposing c).agent
+  pub then_phase_goes : (part : Part) (proposing : Bool) (c : Course) → Goes c.agent → Goes (then_phase with_learning part proposing c).agent
   then_phase_goes part proposing c h = go ((phase with_learning proposing c.agent).is_cut)
     where
       go : (b : Bool) → Goes (cut_line part b (then_course (begun part c) (phase with_learning proposing c.agent).course)).agent
       go true = phase_goes proposing c.agent h
       go false = phase_goes proposing c.agent h
 
-  unless_goes : (f : Course → Course) → ((c : Course) → Goes c.agent → Goes (f c).agent) → (c : Course) → Goes c.agent → Goes (unless_halted f c).agent
+  pub unless_goes : (f : Course → Course) → ((c : Course) → Goes c.agent → Goes (f c).agent) → (c : Course) → Goes c.agent → Goes (unless_halted f c).agent
   unless_goes f keeps c h = go (c.agent.halted)
     where
       go : (b : Bool) → Goes (elim b as (λ x. Course) [ true ↦ c | false ↦ f c ]).agent
@@ -144,19 +144,19 @@ module _ (p : Program) (words : Texts) where
       go true = h
       go false = h
 
-  decision_goes : (a : Agent) → Goes a → Goes (decided_by a).agent
+  pub decision_goes : (a : Agent) → Goes a → Goes (decided_by a).agent
   unfolding decided_by
   decision_goes a h = let end = walked (view_of a) None a.holding.goals in walk_goes a end.goals end.decided h
 
-  input_goes : (a : Agent) → Goes a → Goes (after_input a).agent
+  pub input_goes : (a : Agent) → Goes a → Goes (after_input a).agent
   unfolding after_input resettled
   input_goes a h = h
 
-  output_goes : (a : Agent) → Goes a → Goes (after_output a).agent
+  pub output_goes : (a : Agent) → Goes a → Goes (after_output a).agent
   unfolding after_output
   output_goes a h = h
 
-  cycle_goes : (a : Agent) → Goes a → Goes (cycle decided_by with_learning a).agent
+  pub cycle_goes : (a : Agent) → Goes a → Goes (cycle decided_by with_learning a).agent
   unfolding cycle
   cycle_goes a h =
       let input = then_step (still a) (after_input a) in
@@ -168,14 +168,14 @@ module _ (p : Program) (words : Texts) where
       let h4 = unless_goes (then_application with_learning) (λ c k. then_phase_goes application_phase false c k) decided h3 in
       output_goes applied.agent h4
 
-  one_cycle_goes : (c : Course) → Goes c.agent → TurnGoes (one_cycle decided_by with_learning c)
+  pub one_cycle_goes : (c : Course) → Goes c.agent → TurnGoes (one_cycle decided_by with_learning c)
   one_cycle_goes c h = go (c.agent.halted)
     where
       go : (b : Bool) → TurnGoes (elim b [ true ↦ ends c | false ↦ goes_on (then_course c (cycle decided_by with_learning c.agent)) ])
       go true = h
       go false = cycle_goes c.agent h
 
-  run_goes : (n : ℕ) (a : Agent) → Goes a → Goes (run decided_by with_learning n a).agent
+  pub run_goes : (n : ℕ) (a : Agent) → Goes a → Goes (run decided_by with_learning n a).agent
   unfolding run
   run_goes n a h = go (turns n (one_cycle decided_by with_learning) (still a)) (turns_go (one_cycle decided_by with_learning) one_cycle_goes n (still a) h)
     where

@@ -1,3 +1,4 @@
+pub mod Moments
 pub mod Printed
 pub mod Staying
 pub mod Stays

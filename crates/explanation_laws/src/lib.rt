@@ -2,6 +2,7 @@
 //! rule is loaded.
 #![tactic(auto)]
 
+ghost use Rattle.explanation_laws.specs.Moments as moments;
 ghost use Rattle.explanation_laws.specs.Printed as printed;
 ghost use Rattle.explanation_laws.specs.Staying as staying;
 ghost use Rattle.explanation_laws.specs.Stays as stays;
@@ -26,7 +27,19 @@ pub fn agents_keep_explanations()
     ensures runs { stays.WholeRunsStay }
 {}
 
-/// Nor does a command, whether it does something or is refused.
+/// From each wave of a run explanations stay to the end of its phase, of its cycle and of the run; so
+/// the explanation that a wave makes is that of its rule at the end of the run, where the rule is
+/// still loaded.
+pub fn runs_keep_explanations()
+    ensures phases { moments.PhasesLast }
+    ensures cycles { moments.CyclesLast }
+    ensures runs { moments.RunsLast }
+    ensures kept { moments.ExplanationsLast }
+    ensures learned { moments.LearnedLasts }
+{}
+
+/// No command changes the explanation of a rule that is still loaded, whether it does something or
+/// is refused.
 pub fn sessions_keep_explanations()
     ensures orders { stays.OrdersStay }
     ensures commands { stays.CommandsStay }

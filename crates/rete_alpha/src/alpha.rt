@@ -1,4 +1,4 @@
-ghost use Rattle.std.specs.Prelude.{◌≡◌, ◌==◌, ◌<◌, ℕ, false, true, Some, OnOk, OnErr, IfOk, if◌then◌else◌};
+ghost use Rattle.std.specs.Prelude.{◌≡◌, ◌==◌, ◌<◌, ℕ, false, true, Some, None, OnOk, OnErr, IfOk, if◌then◌else◌};
 ghost use Rattle.std.specs.List.{list_any};
 ghost use Rattle.slab.specs.Slab.{get};
 ghost use Rattle.soar_wm.specs.WorkingMemory.{IsRising, element_of, has_tag, without_tag};
@@ -252,10 +252,14 @@ impl Alpha {
         }
     }
 
-    /// The element of a tag. None where memory was refused before.
+    /// Returns the element of a tag.
     pub fn element(&self, tag: u32) -> Option<Element>
-        ensures { self.now.failed ≡ false → result ≡ element_of tag self.now.elements }
+        ensures found { self.now.failed ≡ false → result ≡ element_of tag self.now.elements }
+        ensures silent { self.now.failed ≡ true → result ≡ None }
     {
+        if self.failed {
+            return None;
+        }
         self.elements.get(tag)
     }
 

@@ -30,25 +30,27 @@ pub enum Reason<'a> {
     TooManyFiles,
 }
 
-/// The number of a refusal.
-pub fn number_of(reason: &Reason<'_>) -> u32
-    ensures { (words : Texts) → result ≡ (refusal_by words reason.now).number }
-{
-    match *reason {
-        Reason::Read(number, _) => number,
-        Reason::Unfinished => 11,
-        Reason::UnknownIdentifier(_) => 31,
-        Reason::NoProduction(_) => 32,
-        Reason::NoElement(_) => 33,
-        Reason::NotAnInput(_) => 34,
-        Reason::AlreadyThere(_) => 35,
-        Reason::ReservedAttribute => 36,
-        Reason::Halted => 37,
-        Reason::NotOfTheTopState => 38,
-        Reason::NotALearnedRule(_) => 39,
-        Reason::NoFile(_) => 40,
-        Reason::SourcesTooDeep => 41,
-        Reason::TooManyFiles => 42,
+impl Reason<'_> {
+    /// The number of the refusal.
+    pub fn number(&self) -> u32
+        ensures { (words : Texts) → result ≡ (refusal_by words self.now).number }
+    {
+        match *self {
+            Reason::Read(number, _) => number,
+            Reason::Unfinished => 11,
+            Reason::UnknownIdentifier(_) => 31,
+            Reason::NoProduction(_) => 32,
+            Reason::NoElement(_) => 33,
+            Reason::NotAnInput(_) => 34,
+            Reason::AlreadyThere(_) => 35,
+            Reason::ReservedAttribute => 36,
+            Reason::Halted => 37,
+            Reason::NotOfTheTopState => 38,
+            Reason::NotALearnedRule(_) => 39,
+            Reason::NoFile(_) => 40,
+            Reason::SourcesTooDeep => 41,
+            Reason::TooManyFiles => 42,
+        }
     }
 }
 

@@ -5,7 +5,7 @@ ghost use Rattle.defs_run.specs.Orders.{refusal_text};
 ghost use Rattle.session_parts.specs.Reasons.{IsReasonKnown, refusal_by};
 
 use crate::origin::Origin;
-use crate::reasons::{Reason, number_of, text_of};
+use crate::reasons::{Reason, text_of};
 use crate::said::say_line;
 use soar_sym::{NoMemory, SymTable, Text};
 
@@ -20,7 +20,7 @@ pub fn say_refusal(
     requires { IsReasonKnown table.now reason.now }
     ensures { OnOk result ((out.new ≡ out.old ++ line_text mid_line.old (refusal_text (refusal_by table.now reason.now) origin.now.source.now origin.now.line)) × (mid_line.new ≡ false)) }
 {
-    let number = number_of(reason);
+    let number = reason.number();
     let source = origin.source;
     let line = origin.line;
     let reason = text_of(out.allocator(), table, reason)?;

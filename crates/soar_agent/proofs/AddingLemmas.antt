@@ -11,39 +11,39 @@ use Rattle.soar_wm.specs.declared.element.Element.{Element}
 use Rattle.defs_soar.specs.Goals.{plain_triple}
 use Rattle.defs_soar.specs.History.{RecordedFiring}
 use Rattle.defs_soar.specs.Laws.{IsIn}
-use Rattle.defs_run.specs.Inputs.{Spelled, unless_there, with_inputs}
+use Rattle.defs_run.specs.Inputs.{Spelled, refuses, unless_there, with_inputs}
 use Rattle.defs_run.specs.Orders.{already_there}
-use Rattle.defs_run.specs.Runs.{replied_by}
-use Rattle.defs_run.specs.Sessions.{Session, Reply, Resolved, draws, labelled, refused_by}
+use Rattle.defs_run.specs.Sessions.{Session, Reply, Resolved, draws, labelled}
 use Rattle.soar_settle.specs.declared.stop.Stop.{Stop}
 use Rattle.soar_settle.specs.declared.stop.Stop.TheVariants as stop
 use Rattle.learning_laws.specs.LawfulAgents.{IsNumbered}
 use Rattle.soar_cycle.specs.Lawful.{IsOfLawful}
 use Rattle.soar_cycle.specs.Parts.{Parts as PartsKept}
+use Rattle.soar_agent.specs.Carries.{Obeys, Responds, response_by}
 use Rattle.soar_agent.specs.Adding.{makes_labelled, puts}
 use Rattle.soar_agent.specs.Labels.{Makes}
 use Rattle.soar_agent.specs.States.{session_of}
-use Rattle.soar_agent.specs.Steps.{Obeys}
+use Rattle.soar_agent.specs.declared.outcome.Outcome.{Outcome}
 use Rattle.soar_agent.specs.declared.state.Session.{Session as SessionKept}
 use Rattle.soar_agent.proofs.LabelLemmas.{made_replies}
 use Rattle.soar_agent.proofs.ReadyLemmas.{elements_numbered}
 use Rattle.soar_agent.proofs.SessionLemmas.{obeys_same, drawn_same, drawn_stops, watch_of}
 
 -- what is done where the triple has a tag, and where it has none
-pub there_refused : {M : Type 0} (s new : SessionKept M) (from : List ℕ) (line : ℕ) (t : Spelled) (session : Session) (o : Option ℕ) (tag : ℕ) (before after : List ℕ) (result : Result Bool Stop) → o ≡ Some tag
-    → Obeys (watch_of s) s.agent.mid_line (refused_by (already_there tag) from line session) new before after result
-    → Obeys (watch_of s) s.agent.mid_line (replied_by from line session (unless_there t o)) new before after result
+pub there_refused : {M : Type 0} (s new : SessionKept M) (from : List ℕ) (line : ℕ) (t : Spelled) (session : Session) (o : Option ℕ) (tag : ℕ) (before after : List ℕ) (result : Result Outcome Stop) → o ≡ Some tag
+    → Responds (watch_of s) s.agent.mid_line (response_by from line session (refuses (already_there tag))) new before after result
+    → Responds (watch_of s) s.agent.mid_line (response_by from line session (unless_there t o)) new before after result
 there_refused s new from line t session o tag before after result is obeys =
-    subst (λ (o : Option ℕ). Obeys (watch_of s) s.agent.mid_line (replied_by from line session (unless_there t o)) new before after result) (sym is) obeys
+    subst (λ (o : Option ℕ). Responds (watch_of s) s.agent.mid_line (response_by from line session (unless_there t o)) new before after result) (sym is) obeys
 
-pub missing_put : {M : Type 0} (s new : SessionKept M) (from : List ℕ) (line : ℕ) (t : Spelled) (session : Session) (o : Option ℕ) (before after : List ℕ) (result : Result Bool Stop) → o ≡ None
+pub missing_put : {M : Type 0} (s new : SessionKept M) (from : List ℕ) (line : ℕ) (t : Spelled) (session : Session) (o : Option ℕ) (before after : List ℕ) (result : Result Outcome Stop) → o ≡ None
     → Obeys (watch_of s) s.agent.mid_line (puts t) new before after result
-    → Obeys (watch_of s) s.agent.mid_line (replied_by from line session (unless_there t o)) new before after result
+    → Responds (watch_of s) s.agent.mid_line (response_by from line session (unless_there t o)) new before after result
 missing_put s new from line t session o before after result is obeys =
-    subst (λ (o : Option ℕ). Obeys (watch_of s) s.agent.mid_line (replied_by from line session (unless_there t o)) new before after result) (sym is) obeys
+    subst (λ (o : Option ℕ). Responds (watch_of s) s.agent.mid_line (response_by from line session (unless_there t o)) new before after result) (sym is) obeys
 
 -- a triple of symbols that there are draws nothing
-pub puts_triple : {M : Type 0} (s new : SessionKept M) (triple : Triple) (history : List RecordedFiring) (before after : List ℕ) (result : Result Bool Stop)
+pub puts_triple : {M : Type 0} (s new : SessionKept M) (triple : Triple) (history : List RecordedFiring) (before after : List ℕ) (result : Result Outcome Stop)
     → Obeys (watch_of s) s.agent.mid_line (with_inputs (s.agent.parts.inputs ++ triple ∷ []) (session_of s history)) new before after result
     → Obeys (watch_of s) s.agent.mid_line (puts (record { session = session_of s history; triple = triple; totals = [] })) new before after result
 puts_triple s new triple history before after result obeys =
@@ -51,7 +51,7 @@ puts_triple s new triple history before after result obeys =
     obeys_same (watch_of s) s.agent.mid_line (draws [] reply) reply new before after result (drawn_same (watch_of s) [] reply refl) obeys
 
 -- the label is made, and then the triple is put
-pub puts_labelled : {M : Type 0} (old middle new : SessionKept M) (id attr symbol : Sym) (name : List ℕ) (history : List RecordedFiring) (before after : List ℕ) (result : Result Bool Stop)
+pub puts_labelled : {M : Type 0} (old middle new : SessionKept M) (id attr symbol : Sym) (name : List ℕ) (history : List RecordedFiring) (before after : List ℕ) (result : Result Outcome Stop)
     → middle.agent.mid_line ≡ old.agent.mid_line → Makes middle (labelled (session_of old history) name None) history (Ok symbol)
     → Obeys (watch_of middle) middle.agent.mid_line (with_inputs (middle.agent.parts.inputs ++ plain_triple id attr symbol ∷ []) (session_of middle history)) new before after result
     → Obeys (watch_of old) old.agent.mid_line (makes_labelled id attr name (session_of old history)) new before after result

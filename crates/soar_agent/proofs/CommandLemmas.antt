@@ -1,89 +1,72 @@
 -- The words of a command join the table before it is carried out, and what was said is appended.
-use Rattle.std.proofs.Common.{◌≡◌, ℕ, ◌-◌, ◌^◌, ◌<◌, Bool, true, false, List, [], ◌∷◌, ◌++◌, length, Result, Ok, Err, IfOk, sym, ap, subst, ◌∙◌, append-nil}
+use Rattle.std.proofs.Common.{◌≡◌, ◌≢◌, ℕ, ◌-◌, ◌^◌, ◌<◌, Bool, true, false, List, [], ◌∷◌, ◌++◌, length, Result, Ok, Err, refl, sym, ap, subst, ◌∙◌, append-nil}
 use Rattle.soar_sym.specs.Words.{Texts}
 use Rattle.defs_soar.specs.declared.limit.Which.TheVariants as which
 use Rattle.defs_soar.specs.History.{RecordedFiring}
 use Rattle.defs_soar.specs.Limits.{limit_text, words_to}
 use Rattle.defs_soar.specs.Trace.{Written, line_text}
-use Rattle.defs_run.specs.Inputs.{Carried}
-use Rattle.defs_run.specs.Orders.{Order, Refusal}
+use Rattle.defs_run.specs.Carrying.{carried_out}
+use Rattle.defs_run.specs.Inputs.{Carried, does, refuses}
+use Rattle.defs_run.specs.Orders.{Order, Refusal, quit, run_cycles, source}
 use Rattle.defs_run.specs.Whole.{whole_stage}
 use Rattle.defs_run.specs.Runs.{after_reading, ordered_by, replied_by}
-use Rattle.defs_run.specs.Sessions.{Session, Reply, draws, goes_on}
+use Rattle.defs_run.specs.Sessions.{Session, Reply, draws, refused_by}
 use Rattle.defs_run.specs.Stages.{Reading}
+use Rattle.defs_run.specs.declared.form.Order.{Order as OrderRead}
+use Rattle.defs_run.specs.declared.form.Order.TheVariants as form
+use Rattle.command_orders.specs.Asked.{order_seen}
 use Rattle.soar_settle.specs.declared.stop.Stop.{Stop}
 use Rattle.soar_settle.specs.declared.stop.Stop.TheVariants as stop
-use Rattle.soar_agent.specs.Carries.{Carries, with_table}
+use Rattle.soar_agent.specs.Alone.{IsAlone}
+use Rattle.soar_agent.specs.Carries.{Carries, CarriesOut, HasNoCycles, Responds, Response, response_by, with_table}
 use Rattle.soar_cycle.specs.declared.standing.Standing.{Standing}
 use Rattle.session_parts.specs.Stopping.{SaysStop}
-use Rattle.soar_agent.specs.Commands.{CarriesOut, Commands, IsSame, Outcomes, RefusesTold, outcome_by}
-use Rattle.soar_agent.specs.States.{IsReady, session_of}
-use Rattle.soar_agent.specs.Steps.{Obeys, Replied, Stops, written_of}
+use Rattle.soar_agent.specs.Commands.{Commands, Outcomes, RefusesTold}
+use Rattle.soar_agent.specs.Outcomes.{HasOutcome, outcome_by, command_outcome, outcome_of_order, outcome_read}
+use Rattle.soar_agent.specs.Running.{run_learning}
+use Rattle.soar_agent.specs.States.{session_of}
+use Rattle.soar_agent.specs.Steps.{Replied, Stops, written_of}
 use Rattle.soar_agent.specs.Writing.{limit_line}
 use Rattle.soar_agent.specs.declared.outcome.Outcome.{Outcome}
 use Rattle.soar_agent.specs.declared.outcome.Outcome.TheVariants as outcome
+use Rattle.soar_agent.specs.declared.outcome.Outcome.TheVariants.{Done}
 use Rattle.soar_agent.specs.declared.state.Session.{Session as SessionKept}
-use Rattle.soar_agent.proofs.SessionLemmas.{obeys_same, drawn_same, drawn_stops, watch_of, words_fit, words_spent}
+use Rattle.soar_agent.proofs.SessionLemmas.{drawn_same, outcomes_same, stops_drawn, watch_of, words_fit, words_spent}
 
 -- ---- outcomes
 
-same_then : (watch : ℕ) (first second third : Reply) → IsSame watch first second → IsSame watch second third → IsSame watch first third
-same_then watch first second third one two = record {
-  session = one.session ∙ two.session;
-  refused = one.refused ∙ two.refused;
-  sequel = one.sequel ∙ two.sequel;
-  limit = one.limit ∙ two.limit;
-  front = λ mid. one.front mid ∙ two.front mid;
-}
+pub responds_outcomes : {M : Type 0} (watch : ℕ) (mid : Bool) (r : Response) (new : SessionKept M) (before after : List ℕ) (result : Result Outcome Stop)
+    → Responds watch mid r new before after result → Outcomes watch mid r.reply new before after result
+responds_outcomes watch mid r new before after (Ok answer) responds = responds.1
+responds_outcomes watch mid r new before after (Err (stop.Limit limit)) responds = responds.0
+responds_outcomes watch mid r new before after (Err stop.NoMemory) responds = tt
 
-outcomes_same : {M : Type 0} (watch : ℕ) (mid : Bool) (first second : Reply) (new : SessionKept M) (before after : List ℕ) (result : Result Outcome Stop) → IsSame watch first second
-    → Outcomes watch mid second new before after result → Outcomes watch mid first new before after result
-outcomes_same watch mid first second new before after (Ok outcome.Done) same o = (obeys_same watch mid first second new before after (Ok false) same o.0, same.sequel ∙ o.1)
-outcomes_same watch mid first second new before after (Ok outcome.Refused) same o = (obeys_same watch mid first second new before after (Ok true) same o.0, same.sequel ∙ o.1)
-outcomes_same watch mid first second new before after (Ok (outcome.Run count)) same o = (
-  record {
-    history = o.0.history;
-    remembers = o.0.remembers;
-    comes = same_then watch first second _ same o.0.comes;
-    text = o.0.text;
-    mid_line = o.0.mid_line;
-    settings = o.0.settings;
-    kept = o.0.kept;
-  },
-  same.sequel ∙ o.1,
-)
-outcomes_same watch mid first second new before after (Ok (outcome.Source name)) same o = (obeys_same watch mid first second new before after (Ok false) same o.0, same.sequel ∙ o.1)
-outcomes_same watch mid first second new before after (Ok outcome.Quit) same o = (obeys_same watch mid first second new before after (Ok false) same o.0, same.sequel ∙ o.1)
-outcomes_same watch mid first second new before after (Err why) same o = obeys_same watch mid first second new before after (Err why) same o
+-- to an order that asks nothing of the caller
+alone_done : (order : Order) → IsAlone order → outcome_of_order order ≡ Done
+alone_done (run_cycles n) alone = absurd alone
+alone_done (source name) alone = absurd alone
+alone_done quit alone = absurd alone
+alone_done other alone = refl
 
-outcomes_by : {M : Type 0} (watch : ℕ) (mid : Bool) (reply : Reply) (new : SessionKept M) (before after : List ℕ) (answer : Result Bool Stop) → reply.sequel ≡ goes_on
-    → Obeys watch mid reply new before after answer → Outcomes watch mid reply new before after (outcome_by answer)
-outcomes_by watch mid reply new before after (Ok true) sequel obeys = (obeys, sequel)
-outcomes_by watch mid reply new before after (Ok false) sequel obeys = (obeys, sequel)
-outcomes_by watch mid reply new before after (Err why) sequel obeys = obeys
+response_is : (from : List ℕ) (line : ℕ) (order : Order) (s : Session) (c : Carried) → outcome_of_order order ≡ Done
+    → response_by from line s c ≡ record { reply = replied_by from line s c; outcome = outcome_by order c }
+response_is from line order s (does reply) is = λ k. record { reply = reply; outcome = sym is k }
+response_is from line order s (refuses r) is = refl
 
--- a reply that asks nothing of the caller
-pub comes_as : {M : Type 0} (watch : ℕ) (mid : Bool) (reply : Reply) (new : SessionKept M) (before after : List ℕ) (answer : Result Bool Stop) (result : Result Outcome Stop) → result ≡ outcome_by answer
-    → reply.sequel ≡ goes_on → Obeys watch mid reply new before after answer → Outcomes watch mid reply new before after result
-comes_as watch mid reply new before after answer result is sequel obeys =
-    subst (λ (r : Result Outcome Stop). Outcomes watch mid reply new before after r) (sym is) (outcomes_by watch mid reply new before after answer sequel obeys)
+pub carries_as : {M : Type 0} (old new : SessionKept M) (from : List ℕ) (line : ℕ) (order : Order) (before after : List ℕ) (result : Result Outcome Stop) → IsAlone order
+    → Carries old new from line (carried_out run_learning order) before after result → CarriesOut old new from line order before after result
+carries_as old new from line order before after result alone carries = λ history remembers.
+    let s : Session = session_of old history in
+    subst (λ (r : Response). Responds (watch_of old) old.agent.mid_line r new before after result)
+    (response_is from line order s (carried_out run_learning order s) (alone_done order alone)) (carries history remembers)
 
-pub outcome_ready : {M : Type 0} (new : SessionKept M) (answer : Result Bool Stop) (result : Result Outcome Stop) → result ≡ outcome_by answer → IfOk answer (λ _. IsReady new)
-    → IfOk result (λ _. IsReady new)
-outcome_ready new answer result is ready = subst (λ (r : Result Outcome Stop). IfOk r (λ _. IsReady new)) (sym is) (by answer ready)
-  where
-    by : (a : Result Bool Stop) → IfOk a (λ _. IsReady new) → IfOk (outcome_by a) (λ _. IsReady new)
-    by (Ok true) h = h
-    by (Ok false) h = h
-    by (Err why) h = tt
+-- ---- orders as they are read
 
--- an order that asks nothing of the caller
-pub carries_as : {M : Type 0} (old new : SessionKept M) (from : List ℕ) (line : ℕ) (carried : Session → Carried) (before after : List ℕ) (answer : Result Bool Stop) (result : Result Outcome Stop)
-    → result ≡ outcome_by answer → ((s : Session) → (replied_by from line s (carried s)).sequel ≡ goes_on) → Carries old new from line carried before after answer
-    → CarriesOut old new from line carried before after result
-carries_as old new from line carried before after answer result is sequel carries = λ history remembers.
-    comes_as (watch_of old) old.agent.mid_line (replied_by from line (session_of old history) (carried (session_of old history))) new before after answer result is (sequel (session_of old history))
-    (carries history remembers)
+pub alone_read : (order : OrderRead) → ((count : ℕ) → order ≢ form.Run count) → ((name : List ℕ) → order ≢ form.Source name) → order ≢ form.Quit → IsAlone (order_seen order)
+alone_read (form.Run count) no_run no_source no_quit = absurd (no_run count refl)
+alone_read (form.Source name) no_run no_source no_quit = absurd (no_source name refl)
+alone_read form.Quit no_run no_source no_quit = absurd (no_quit refl)
+alone_read other no_run no_source no_quit = tt
 
 -- ---- what was read, carried out
 
@@ -104,8 +87,26 @@ reads_as s new from line r words order history before after result read is small
 pub reads_spent : {M : Type 0} (s new : SessionKept M) (from : List ℕ) (line : ℕ) (r : Reading) (history : List RecordedFiring) (said : List ℕ) → 2 ^ 32 - 1 < length r.words → new.agent.mid_line ≡ s.agent.mid_line
     → Outcomes (watch_of s) s.agent.mid_line (after_reading whole_stage from line (session_of s history) r) new said said (Err (stop.Limit which.Words))
 reads_spent s new from line r history said many same =
-    drawn_stops (watch_of s) s.agent.mid_line (words_to (length r.words) ∷ []) (ordered_by whole_stage from line (session_of (with_table r.words s) history) r.order)
+    stops_drawn (watch_of s) s.agent.mid_line (words_to (length r.words) ∷ []) (ordered_by whole_stage from line (session_of (with_table r.words s) history) r.order)
     new said which.Words (words_spent (length r.words) many) same
+
+-- the outcome of what was read
+pub reads_outcome : {M : Type 0} (s new : SessionKept M) (r : Reading) (words : Texts) (order : Result Order Refusal) (response : Response) (watch : ℕ) (mid : Bool) (history : List RecordedFiring) (before after : List ℕ)
+    (result : Result Outcome Stop) → r.words ≡ words → r.order ≡ order → length words < 2 ^ 32 → response.outcome ≡ outcome_read (session_of (with_table words s) history) order
+    → Responds watch mid response new before after result → HasOutcome (session_of s history) r result
+reads_outcome s new r words order response watch mid history before after result words_are is small came responds =
+    by result responds
+  where
+    same : command_outcome (session_of s history) r ≡ response.outcome
+    same = (λ k. outcome_read (session_of (with_table (words_are k) s) history) (is k)) ∙ sym came
+
+    by : (result : Result Outcome Stop) → Responds watch mid response new before after result → HasOutcome (session_of s history) r result
+    by (Ok answer) responds = (responds.0 ∙ sym same, words_fit (length r.words) (subst (λ (w : Texts). length w < 2 ^ 32) (sym words_are) small))
+    by (Err (stop.Limit limit)) responds = λ count runs. absurd (subst HasNoCycles (sym same ∙ runs) responds.1)
+    by (Err stop.NoMemory) responds = tt
+
+pub spent_outcome : (s : Session) (r : Reading) → 2 ^ 32 - 1 < length r.words → HasOutcome s r (Err (stop.Limit which.Words))
+spent_outcome s r many = λ count runs. words_spent (length r.words) many
 
 -- ---- what was said, appended
 
@@ -124,7 +125,7 @@ replied_said watch mid reply new first piece before after said answer none r app
 pub said_outcome : {M : Type 0} (watch : ℕ) (mid : Bool) (reply : Reply) (new : SessionKept M) (first piece before after : List ℕ) (answer : Outcome) → first ≡ []
     → Outcomes watch mid reply new first piece (Ok answer) → after ≡ before ++ piece → Outcomes watch mid reply new before after (Ok answer)
 said_outcome watch mid reply new first piece before after outcome.Done none o appended = (replied_said watch mid reply new first piece before after false false none o.0 appended o.0.refused, o.1)
-said_outcome watch mid reply new first piece before after outcome.Refused none o appended = (replied_said watch mid reply new first piece before after true true none o.0 appended o.0.refused, o.1)
+said_outcome watch mid reply new first piece before after (outcome.Refused number) none o appended = (replied_said watch mid reply new first piece before after true true none o.0 appended o.0.refused, o.1)
 said_outcome watch mid reply new first piece before after (outcome.Run count) none o appended = (
   record {
     history = o.0.history;
@@ -141,10 +142,10 @@ said_outcome watch mid reply new first piece before after (outcome.Source name) 
 said_outcome watch mid reply new first piece before after outcome.Quit none o appended = (replied_said watch mid reply new first piece before after false false none o.0 appended o.0.refused, o.1)
 
 pub said_stop : {M : Type 0} (old new : SessionKept M) (history : List RecordedFiring) (reply : Reply) (ends : Bool) (first piece before after : List ℕ) (why result : Stop) → first ≡ []
-    → ends ≡ new.agent.mid_line → Obeys (watch_of old) old.agent.mid_line reply new first piece (Err why) → SaysStop why ends piece before after result
+    → ends ≡ new.agent.mid_line → Outcomes (watch_of old) old.agent.mid_line reply new first piece (Err why) → SaysStop why ends piece before after result
     → Commands (session_of old history) reply new before after (Err result)
 said_stop old new history reply ends first piece before after why (stop.Limit limit) none same obeys says =
-    let stops : Stops (watch_of old) old.agent.mid_line reply new first piece limit = subst (λ (e : Stop). Obeys (watch_of old) old.agent.mid_line reply new first piece (Err e)) says.0 obeys in
+    let stops : Stops (watch_of old) old.agent.mid_line reply new first piece limit = subst (λ (e : Stop). Outcomes (watch_of old) old.agent.mid_line reply new first piece (Err e)) says.0 obeys in
     let front : Written = written_of (watch_of old) old.agent.mid_line reply in (
       stops.passed,
       says.1
@@ -153,6 +154,10 @@ said_stop old new history reply ends first piece before after why (stop.Limit li
           ∙ ap (λ o. before ++ (front.text ++ limit_line front.mid_line o)) (sym stops.passed),
     )
 said_stop old new history reply ends first piece before after why stop.NoMemory none same obeys says = says
+
+pub said_limit : (s : Session) (r : Reading) (ends : Bool) (piece before after : List ℕ) (why result : Stop) → HasOutcome s r (Err why) → SaysStop why ends piece before after result → HasOutcome s r (Err result)
+said_limit s r ends piece before after why (stop.Limit limit) has says = subst (λ (e : Stop). HasOutcome s r (Err e)) says.0 has
+said_limit s r ends piece before after why stop.NoMemory has says = tt
 
 -- ---- what the session answers from then on
 
@@ -168,7 +173,7 @@ replied_left watch mid reply new standing before after answer r =
 outcome_left : {M : Type 0} (watch : ℕ) (mid : Bool) (reply : Reply) (new : SessionKept M) (standing : Standing) (before after : List ℕ) (answer : Outcome)
     → Outcomes watch mid reply new before after (Ok answer) → Outcomes watch mid reply (with_standing standing new) before after (Ok answer)
 outcome_left watch mid reply new standing before after outcome.Done o = (replied_left watch mid reply new standing before after false o.0, o.1)
-outcome_left watch mid reply new standing before after outcome.Refused o = (replied_left watch mid reply new standing before after true o.0, o.1)
+outcome_left watch mid reply new standing before after (outcome.Refused number) o = (replied_left watch mid reply new standing before after true o.0, o.1)
 outcome_left watch mid reply new standing before after (outcome.Run count) o = (
   record { history = o.0.history; remembers = o.0.remembers; comes = o.0.comes; text = o.0.text; mid_line = o.0.mid_line; settings = o.0.settings; kept = o.0.kept },
   o.1,
@@ -191,7 +196,12 @@ refused_left s reply new standing before after (Err (stop.Limit limit)) told = t
 refused_left s reply new standing before after (Err stop.NoMemory) told = told
 
 -- the refusal is that of the number, and its line was appended
-pub told_said : {M : Type 0} (s new : SessionKept M) (first_reply reply : Reply) (piece before after first : List ℕ) (said : Bool) → first ≡ [] → first_reply ≡ reply → reply.refused ≡ true
-    → Replied (watch_of s) s.agent.mid_line first_reply new first piece said → after ≡ before ++ piece → Replied (watch_of s) s.agent.mid_line reply new before after true
-told_said s new first_reply reply piece before after first said none same refused r appended =
-    replied_said (watch_of s) s.agent.mid_line reply new first piece before after said true none (subst (λ (x : Reply). Replied (watch_of s) s.agent.mid_line x new first piece said) same r) appended (sym refused)
+pub told_said : {M : Type 0} (s new : SessionKept M) (from : List ℕ) (line : ℕ) (history : List RecordedFiring) (first_refusal refusal : Refusal) (piece before after first : List ℕ) (said : Outcome) → first ≡ [] → first_refusal ≡ refusal
+    → Responds (watch_of s) s.agent.mid_line (response_by from line (session_of s history) (refuses first_refusal)) new first piece (Ok said) → after ≡ before ++ piece
+    → Replied (watch_of s) s.agent.mid_line (refused_by refusal from line (session_of s history)) new before after true
+told_said s new from line history first_refusal refusal piece before after first said none same responds appended =
+    let session : Session = session_of s history in
+    let refused : Outcomes (watch_of s) s.agent.mid_line (refused_by first_refusal from line session) new first piece (Ok (outcome.Refused first_refusal.number)) =
+    subst (λ (o : Outcome). Outcomes (watch_of s) s.agent.mid_line (refused_by first_refusal from line session) new first piece (Ok o)) responds.0 responds.1 in
+    replied_said (watch_of s) s.agent.mid_line (refused_by refusal from line session) new first piece before after true true none
+    (subst (λ (r : Refusal). Replied (watch_of s) s.agent.mid_line (refused_by r from line session) new first piece true) same refused.0) appended refl

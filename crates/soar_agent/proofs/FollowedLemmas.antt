@@ -1,5 +1,5 @@
 -- What is told of the steps of a course, and the session behind it. Crates above cite this file.
-use Rattle.std.proofs.Common.{◌≡◌, ℕ, Bool, false, List, [], ◌∷◌, ◌++◌, map, Option, Some, None, Ok, Err, refl, sym, ap, ◌∙◌}
+use Rattle.std.proofs.Common.{◌≡◌, ℕ, Bool, false, List, [], ◌∷◌, ◌++◌, map, Option, Some, None, refl, sym, ap, ◌∙◌}
 use Rattle.defs_soar.specs.declared.limit.Which.{Which}
 use Rattle.defs_soar.specs.Agents.{Agent}
 use Rattle.defs_soar.specs.History.{RecordedFiring}
@@ -7,14 +7,12 @@ use Rattle.defs_soar.specs.Limits.{first_passed, or_limit}
 use Rattle.defs_soar.specs.Phases.{Said, Course}
 use Rattle.defs_soar.specs.Trace.{Written, followed_by, pieces_of, rendered}
 use Rattle.defs_run.specs.Carrying.{followed, told_of}
-use Rattle.soar_settle.specs.declared.stop.Stop.{Stop}
-use Rattle.soar_settle.specs.declared.stop.Stop.TheVariants as stop
 use Rattle.soar_cycle.proofs.StandsLemmas.{state_is}
-use Rattle.soar_cycle.specs.Courses.{Goes, Went, front_said, limit_in}
+use Rattle.soar_cycle.specs.Courses.{Went, front_said, limit_in}
 use Rattle.command_labels.specs.Found.{label_seen}
 use Rattle.command_labels.specs.declared.label.Label.{Label}
 use Rattle.soar_agent.specs.States.{IsReady, session_of}
-use Rattle.soar_agent.specs.Steps.{Obeys}
+use Rattle.soar_agent.specs.Steps.{Replied}
 use Rattle.soar_agent.specs.Telling.{front_told, limit_told}
 use Rattle.soar_agent.specs.declared.state.Session.{Session as SessionKept}
 use Rattle.soar_agent.proofs.SessionLemmas.{nothing, watch_of}
@@ -42,7 +40,7 @@ front_of_steps watch mid (s ∷ steps) = by (first_passed s.totals) (λ m. front
 
 pub follows : {M : Type 0} (s new : SessionKept M) (c : Course) (history : List RecordedFiring) (before after : List ℕ)
     → Went (watch_of s) s.agent.mid_line c new.agent.parts new.agent.mid_line before after → new.labels ≡ s.labels → IsReady new
-    → Obeys (watch_of s) s.agent.mid_line (followed (session_of s history) c) new before after (Ok false)
+    → Replied (watch_of s) s.agent.mid_line (followed (session_of s history) c) new before after false
 follows s new c history before after went same ready =
     let front : front_told (watch_of s) s.agent.mid_line (map told_of c.steps) ≡ front_said (watch_of s) s.agent.mid_line c.steps = front_of_steps (watch_of s) s.agent.mid_line c.steps in
     record {
@@ -57,15 +55,3 @@ follows s new c history before after went same ready =
       refused = refl;
       kept = ready;
     }
-
-pub follows_none : {M : Type 0} (s new : SessionKept M) (c : Course) (history : List RecordedFiring) (before after : List ℕ) (why : Stop)
-    → Goes {T = Unit {0}} (watch_of s) s.agent.mid_line c new.agent.parts new.agent.mid_line before after (Err why)
-    → Obeys (watch_of s) s.agent.mid_line (followed (session_of s history) c) new before after (Err why)
-follows_none s new c history before after (stop.Limit limit) passed =
-    let front : front_told (watch_of s) s.agent.mid_line (map told_of c.steps) ≡ front_said (watch_of s) s.agent.mid_line c.steps = front_of_steps (watch_of s) s.agent.mid_line c.steps in
-    record {
-      passed = limit_of_steps c.steps ∙ passed.passed;
-      text = passed.text ∙ ap (λ (w : Written). before ++ w.text) (sym front);
-      mid_line = passed.mid_line ∙ ap (λ (w : Written). w.mid_line) (sym front);
-    }
-follows_none s new c history before after stop.NoMemory free = tt

@@ -13,7 +13,6 @@ use Rattle.defs_soar.specs.History.{RecordedFiring}
 use Rattle.defs_soar.specs.Levels.{level}
 use Rattle.defs_run.specs.Inputs.{Carried, refuses, Spelled, spelled, or_else, added, first_unknown, unreached_in, unreached_label}
 use Rattle.defs_run.specs.Orders.{Operand, is_symbol, is_label, not_of_the_top_state, reserved_attribute}
-use Rattle.defs_run.specs.Runs.{replied_by}
 use Rattle.defs_run.specs.Sessions.{Label, Resolved, Session, is_given, label_in, labelled, resolved, unknown_in}
 use Rattle.defs_run.specs.declared.form.Addition.{Addition}
 use Rattle.defs_run.specs.declared.form.Operand.{Operand as OperandRead}
@@ -22,6 +21,7 @@ use Rattle.learning_laws.specs.LawfulAgents.{IsNumbered}
 use Rattle.letter_laws.specs.Grows.{LettersGrow}
 use Rattle.letter_laws.proofs.GrowthLaws.{given_stay_given}
 use Rattle.soar_settle.specs.declared.stop.Stop.{Stop}
+use Rattle.soar_agent.specs.Carries.{Responds, response_by}
 use Rattle.soar_agent.specs.Adding.{adds_at_top, spelled_by, unless_twice}
 use Rattle.command_orders.specs.Asked.{operand_seen}
 use Rattle.command_orders.specs.Known.{IsAttributeKnown}
@@ -29,7 +29,7 @@ use Rattle.command_labels.specs.Found.{label_seen}
 use Rattle.session_parts.specs.Labels.{symbol_in}
 use Rattle.soar_agent.specs.Numbered.{IsAdditionNumbered, IsOperandNumbered}
 use Rattle.soar_agent.specs.States.{session_of}
-use Rattle.soar_agent.specs.Steps.{Obeys}
+use Rattle.soar_agent.specs.declared.outcome.Outcome.{Outcome}
 use Rattle.soar_agent.specs.declared.state.Session.{Session as SessionKept}
 use Rattle.soar_agent.proofs.LabelLemmas.{resolved_holding}
 
@@ -136,12 +136,12 @@ pub attribute_stands : (words : Texts) (labels : List Label) (o : OperandRead) �
 attribute_stands words labels (operand.Symbol symbol) known = (symbol, refl)
 attribute_stands words labels (operand.Label name) known = absurd known
 
-pub given_adds : {M : Type 0} (old same new : SessionKept M) (from : List ℕ) (line : ℕ) (id attr value : Operand) (i a : Sym) (history : List RecordedFiring) (before after : List ℕ) (result : Result Bool Stop)
+pub given_adds : {M : Type 0} (old same new : SessionKept M) (from : List ℕ) (line : ℕ) (id attr value : Operand) (i a : Sym) (history : List RecordedFiring) (before after : List ℕ) (result : Result Outcome Stop)
     → symbol_in (map label_seen old.labels) id ≡ Some i → symbol_in (map label_seen old.labels) attr ≡ Some a → same ≡ old
-    → Obeys same.agent.parts.settings.watch same.agent.mid_line (replied_by from line (session_of same history) (adds_at_top i a value (session_of same history))) new before after result
-    → Obeys old.agent.parts.settings.watch old.agent.mid_line (replied_by from line (session_of old history) (added (spelled (session_of old history) id attr value))) new before after result
+    → Responds same.agent.parts.settings.watch same.agent.mid_line (response_by from line (session_of same history) (adds_at_top i a value (session_of same history))) new before after result
+    → Responds old.agent.parts.settings.watch old.agent.mid_line (response_by from line (session_of old history) (added (spelled (session_of old history) id attr value))) new before after result
 given_adds {M = M} old same new from line id attr value i a history before after result id_is attr_is is obeys =
     let s : Session = session_of old history in
-    subst (λ (c : Carried). Obeys old.agent.parts.settings.watch old.agent.mid_line (replied_by from line s c) new before after result)
+    subst (λ (c : Carried). Responds old.agent.parts.settings.watch old.agent.mid_line (response_by from line s c) new before after result)
     (sym (adds_given s id attr value i a id_is attr_is))
-    (subst (λ (t : SessionKept M). Obeys t.agent.parts.settings.watch t.agent.mid_line (replied_by from line (session_of t history) (adds_at_top i a value (session_of t history))) new before after result) is obeys)
+    (subst (λ (t : SessionKept M). Responds t.agent.parts.settings.watch t.agent.mid_line (response_by from line (session_of t history) (adds_at_top i a value (session_of t history))) new before after result) is obeys)

@@ -25,9 +25,10 @@ use Rattle.soar_cycle.specs.Agents.{AgentSeen}
 use Rattle.command_labels.specs.Found.{label_seen}
 use Rattle.command_labels.specs.Lettered.{is_lettered}
 use Rattle.command_labels.specs.declared.label.Label.{Label as LabelKept}
+use Rattle.soar_agent.specs.Carries.{Obeys}
 use Rattle.soar_agent.specs.Labels.{Makes}
 use Rattle.soar_agent.specs.States.{session_of}
-use Rattle.soar_agent.specs.Steps.{Obeys}
+use Rattle.soar_agent.specs.declared.outcome.Outcome.{Outcome}
 use Rattle.soar_agent.specs.declared.state.Session.{Session as SessionKept}
 use Rattle.soar_agent.proofs.ReplyLemmas.{goes_on}
 use Rattle.soar_agent.proofs.SessionLemmas.{obeys_same, drawn_same, drawn_stops, watch_of}
@@ -95,7 +96,7 @@ resolved_watch s (is_label name) = labelled_watch s name (label_in s.labels name
 -- ---- once labels stand for symbols
 
 -- what is replied where they do
-pub made_replies : {M : Type 0} (old new last : SessionKept M) (r : Resolved) (reply : Sym → Session → Reply) (symbol : Sym) (history : List RecordedFiring) (before after : List ℕ) (result : Result Bool Stop)
+pub made_replies : {M : Type 0} (old new last : SessionKept M) (r : Resolved) (reply : Sym → Session → Reply) (symbol : Sym) (history : List RecordedFiring) (before after : List ℕ) (result : Result Outcome Stop)
     → new.agent.mid_line ≡ old.agent.mid_line → r.session.agent.settings.watch ≡ watch_of old → Makes new r history (Ok symbol)
     → Obeys (watch_of new) new.agent.mid_line (reply symbol (session_of new history)) last before after result
     → Obeys (watch_of old) old.agent.mid_line (reply r.symbol r.session) last before after result
@@ -109,7 +110,7 @@ made_replies old new last r reply symbol history before after result same level 
 -- ---- listing
 
 -- the elements of an identifier, once a label stands for it
-pub lists_made : {M : Type 0} (old new last : SessionKept M) (id : Operand) (symbol : Sym) (history : List RecordedFiring) (before after : List ℕ) (result : Result Bool Stop)
+pub lists_made : {M : Type 0} (old new last : SessionKept M) (id : Operand) (symbol : Sym) (history : List RecordedFiring) (before after : List ℕ) (result : Result Outcome Stop)
     → new.agent.mid_line ≡ old.agent.mid_line → Makes new (resolved (session_of old history) id) history (Ok symbol)
     → Obeys (watch_of new) new.agent.mid_line (says (session_of new history) (element_lines new.agent.parts.table (elements_of symbol new.agent.parts.memory.elements))) last before after result
     → Obeys (watch_of old) old.agent.mid_line (lists_elements (session_of old history) id) last before after result

@@ -9,7 +9,6 @@ pub mod LabelLemmas
 pub mod NamedLemmas
 pub mod ReadyLemmas
 pub mod ReplyLemmas
-pub mod SequelLemmas
 pub mod SessionLemmas
 pub mod SettingLemmas
 pub mod SlotLemmas

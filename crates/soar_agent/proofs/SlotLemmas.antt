@@ -10,9 +10,10 @@ use Rattle.defs_run.specs.Sessions.{Reply, Resolved, Session, resolved, says}
 use Rattle.soar_settle.specs.declared.stop.Stop.{Stop}
 use Rattle.soar_settle.specs.declared.stop.Stop.TheVariants as stop
 use Rattle.soar_cycle.proofs.LimitLemmas.{passed_behind, passed_front}
+use Rattle.soar_agent.specs.Carries.{Obeys}
 use Rattle.soar_agent.specs.Labels.{Makes}
 use Rattle.soar_agent.specs.States.{session_of}
-use Rattle.soar_agent.specs.Steps.{Obeys}
+use Rattle.soar_agent.specs.declared.outcome.Outcome.{Outcome}
 use Rattle.soar_agent.specs.declared.state.Session.{Session as SessionKept}
 use Rattle.soar_agent.proofs.LabelLemmas.{made_replies, resolved_watch}
 use Rattle.soar_agent.proofs.SessionLemmas.{drawn_same, drawn_stops, obeys_same, watch_of}
@@ -22,7 +23,7 @@ use Rattle.soar_agent.proofs.SpellingLemmas.{behind}
 abbrev says_slot : Sym → Sym → Session → Reply
 says_slot id attr s = says s (preference_lines s.agent id attr)
 
-pub slot_made : {M : Type 0} (old one two last : SessionKept M) (id attr : Operand) (i a : Sym) (history : List RecordedFiring) (before after : List ℕ) (result : Result Bool Stop)
+pub slot_made : {M : Type 0} (old one two last : SessionKept M) (id attr : Operand) (i a : Sym) (history : List RecordedFiring) (before after : List ℕ) (result : Result Outcome Stop)
     → two.agent.mid_line ≡ old.agent.mid_line → Makes one (resolved (session_of old history) id) history (Ok i) → Makes two (resolved (session_of one history) attr) history (Ok a)
     → Obeys (watch_of two) two.agent.mid_line (says_slot i a (session_of two history)) last before after result
     → Obeys (watch_of old) old.agent.mid_line (lists_slot (session_of old history) id attr) last before after result

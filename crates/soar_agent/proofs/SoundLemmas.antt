@@ -21,8 +21,7 @@ use Rattle.soar_cycle.specs.Seen.{IsSound}
 use Rattle.soar_cycle.specs.Parts.{Parts as PartsKept}
 use Rattle.soar_cycle.proofs.StandsLemmas.{remembers_same}
 use Rattle.soar_cycle.specs.Calls.{IsTripleKnown, MayBeLoaded}
-use Rattle.soar_cycle.specs.Agents.{AgentSeen, with_table as agent_with_table}
-use Rattle.soar_cycle.proofs.TableLemmas.{sound_with_table}
+use Rattle.soar_cycle.specs.Agents.{AgentSeen, IsSoundAgent, with_table as agent_with_table}
 use Rattle.soar_agent.specs.Carries.{with_table}
 use Rattle.soar_agent.specs.States.{IsReady}
 use Rattle.soar_agent.specs.declared.state.Session.{Session as SessionKept}
@@ -32,13 +31,15 @@ use Rattle.soar_agent.specs.declared.state.Session.{Session as SessionKept}
 once_there : (p : PartsKept) → IsOfLawful p → EachOnce p.table
 once_there p lawful = subst EachOnce (sym lawful.stands.words) lawful.lawful.founded.symbols.once
 
--- the table is that of a command that was read
-pub ready_read : ReadsLawfully read_whole → {M : Type 0} (s : SessionKept M) (table words : Texts) (text : List ℕ) → table ≡ s.agent.parts.table → (read_whole table text).words ≡ words → IsReady s → IsReady (with_table words s)
-ready_read reads s table words text same is ready =
+-- the table is that of a command that was read, and an agent that is lent it stays sound
+pub ready_read : ReadsLawfully read_whole → {M : Type 0} (s : SessionKept M) (table words : Texts) (text : List ℕ)
+    → ((later : Texts) → Grown s.agent.parts.table later → EachOnce later → IsSoundAgent s.agent → IsSoundAgent (agent_with_table s.agent later)) → table ≡ s.agent.parts.table
+    → (read_whole table text).words ≡ words → IsReady s → IsReady (with_table words s)
+ready_read reads s table words text stays same is ready =
     let old : Texts = s.agent.parts.table in
     let grown : Grown old words = subst (λ t. Grown t words) same (subst (Grown table) is (reads.grown table text)) in
     let once : EachOnce words = subst EachOnce is (reads.once table text (subst EachOnce (sym same) (once_there s.agent.parts ready.2))) in
-    let both = sound_with_table s.agent words grown once (λ stands. (ready.1, ready.2)) ready.0 in (ready.0, both.0, both.1, ready.3)
+    let both = stays words grown once (λ stands. (ready.1, ready.2)) ready.0 in (ready.0, both.0, both.1, ready.3)
 
 -- what is remembered is in no word
 pub remembers_read : (a : AgentSeen) (table : Texts) (history : List RecordedFiring) → Remembers a.parts history → Remembers (agent_with_table a table).parts history

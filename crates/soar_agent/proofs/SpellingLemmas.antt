@@ -10,10 +10,11 @@ use Rattle.defs_run.specs.Sessions.{Session, Resolved, resolved}
 use Rattle.soar_settle.specs.declared.stop.Stop.{Stop}
 use Rattle.soar_settle.specs.declared.stop.Stop.TheVariants as stop
 use Rattle.soar_cycle.proofs.LimitLemmas.{passed_behind, passed_front}
+use Rattle.soar_agent.specs.Carries.{Obeys}
 use Rattle.soar_agent.specs.Labels.{Makes, Spells}
 use Rattle.soar_agent.specs.Queueing.{queues_triple}
 use Rattle.soar_agent.specs.States.{session_of}
-use Rattle.soar_agent.specs.Steps.{Obeys}
+use Rattle.soar_agent.specs.declared.outcome.Outcome.{Outcome}
 use Rattle.soar_agent.specs.declared.state.Session.{Session as SessionKept}
 use Rattle.soar_agent.proofs.LabelLemmas.{resolved_watch}
 use Rattle.soar_agent.proofs.SessionLemmas.{obeys_same, drawn_same, drawn_stops, watch_of}
@@ -74,7 +75,7 @@ spelled_watch s id attr value =
     let q : Resolved = resolved r.session attr in
     resolved_watch q.session value ∙ (resolved_watch r.session attr ∙ resolved_watch s id)
 
-pub queues_spelled : {M : Type 0} (old middle new : SessionKept M) (adds : Bool) (id attr value : Operand) (triple : Triple) (history : List RecordedFiring) (before after : List ℕ) (result : Result Bool Stop)
+pub queues_spelled : {M : Type 0} (old middle new : SessionKept M) (adds : Bool) (id attr value : Operand) (triple : Triple) (history : List RecordedFiring) (before after : List ℕ) (result : Result Outcome Stop)
     → middle.agent.mid_line ≡ old.agent.mid_line → Spells middle (spelled (session_of old history) id attr value) history (Ok triple)
     → Obeys (watch_of middle) middle.agent.mid_line (queues_triple adds triple (session_of middle history)) new before after result
     → Obeys (watch_of old) old.agent.mid_line (with_queued adds (spelled (session_of old history) id attr value)) new before after result

@@ -5,9 +5,7 @@ use Rattle.defs_soar.specs.Limits.{limit_text}
 use Rattle.defs_soar.specs.Phases.{Course}
 use Rattle.defs_soar.specs.Trace.{line_text}
 use Rattle.defs_run.specs.Carrying.{followed}
-use Rattle.defs_run.specs.Inputs.{Carried}
 use Rattle.soar_agent.specs.Running.{run_learning}
-use Rattle.defs_run.specs.Runs.{replied_by}
 use Rattle.defs_run.specs.Orders.{Refusal, unfinished_command, no_file, sources_too_deep, too_many_files}
 use Rattle.defs_run.specs.Sessions.{Session, Reply, goes_on, sources, quits}
 use Rattle.soar_settle.specs.declared.stop.Stop.{Stop}
@@ -17,7 +15,7 @@ use Rattle.soar_cycle.specs.Seen.{agent_of}
 use Rattle.soar_cycle.specs.Agents.{AgentSeen}
 use Rattle.soar_cycle.specs.Courses.{Went, front_said, limit_in}
 use Rattle.soar_agent.specs.States.{IsReady, session_of}
-use Rattle.soar_agent.specs.Steps.{Obeys}
+use Rattle.soar_agent.specs.Steps.{Replied, Stops}
 use Rattle.soar_agent.specs.Telling.{front_told, limit_told}
 use Rattle.soar_agent.specs.Writing.{step_text}
 use Rattle.soar_agent.specs.declared.outcome.Outcome.{Outcome}
@@ -46,23 +44,13 @@ pub record AsksToRun {M : Type 0} (watch : ℕ) (mid : Bool) (reply : Reply) (ne
 
 -- each answer, exactly where it comes, with what follows the command; only want of memory is free
 abbrev pub Outcomes : {M : Type 0} → ℕ → Bool → Reply → SessionKept M → List ℕ → List ℕ → Result Outcome Stop → Type 0
-Outcomes watch mid reply new before after (Ok outcome.Done) = Obeys watch mid reply new before after (Ok false) × (reply.sequel ≡ goes_on)
-Outcomes watch mid reply new before after (Ok outcome.Refused) = Obeys watch mid reply new before after (Ok true) × (reply.sequel ≡ goes_on)
+Outcomes watch mid reply new before after (Ok outcome.Done) = Replied watch mid reply new before after false × (reply.sequel ≡ goes_on)
+Outcomes watch mid reply new before after (Ok (outcome.Refused number)) = Replied watch mid reply new before after true × (reply.sequel ≡ goes_on)
 Outcomes watch mid reply new before after (Ok (outcome.Run count)) = AsksToRun watch mid reply new before after count × (reply.sequel ≡ goes_on)
-Outcomes watch mid reply new before after (Ok (outcome.Source name)) = Obeys watch mid reply new before after (Ok false) × (reply.sequel ≡ sources name)
-Outcomes watch mid reply new before after (Ok outcome.Quit) = Obeys watch mid reply new before after (Ok false) × (reply.sequel ≡ quits)
-Outcomes watch mid reply new before after (Err why) = Obeys watch mid reply new before after (Err why)
-
--- of a command that asks for no cycles, refused or not
-abbrev pub outcome_by : Result Bool Stop → Result Outcome Stop
-outcome_by (Ok true) = Ok outcome.Refused
-outcome_by (Ok false) = Ok outcome.Done
-outcome_by (Err why) = Err why
-
--- an order of a command on the line of a number
-abbrev pub CarriesOut : {M : Type 0} → SessionKept M → SessionKept M → List ℕ → ℕ → (Session → Carried) → List ℕ → List ℕ → Result Outcome Stop → Type 0
-CarriesOut old new from line carried before after result = (history : List RecordedFiring) → Remembers old.agent.parts history → let s = session_of old history in
-    Outcomes old.agent.parts.settings.watch old.agent.mid_line (replied_by from line s (carried s)) new before after result
+Outcomes watch mid reply new before after (Ok (outcome.Source name)) = Replied watch mid reply new before after false × (reply.sequel ≡ sources name)
+Outcomes watch mid reply new before after (Ok outcome.Quit) = Replied watch mid reply new before after false × (reply.sequel ≡ quits)
+Outcomes watch mid reply new before after (Err (stop.Limit limit)) = Stops watch mid reply new before after limit
+Outcomes watch mid reply new before after (Err stop.NoMemory) = Unit {0}
 
 -- at a limit the line of that is appended too, and nothing where there is no memory
 abbrev pub Commands : {M : Type 0} → Session → Reply → SessionKept M → List ℕ → List ℕ → Result Outcome Stop → Type 0
@@ -90,6 +78,6 @@ refusal_told number name = if number == 11 then unfinished_command else if numbe
 
 -- the line was appended; no limit can come, and nothing is appended where there is no memory
 abbrev pub RefusesTold : {M : Type 0} → Session → Reply → SessionKept M → List ℕ → List ℕ → Result (Unit {0}) Stop → Type 0
-RefusesTold s reply new before after (Ok done) = Obeys s.agent.settings.watch s.mid_line reply new before after (Ok true)
+RefusesTold s reply new before after (Ok done) = Replied s.agent.settings.watch s.mid_line reply new before after true
 RefusesTold s reply new before after (Err (stop.Limit limit)) = ⊥
 RefusesTold s reply new before after (Err stop.NoMemory) = after ≡ before

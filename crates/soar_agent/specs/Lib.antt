@@ -6,6 +6,7 @@ pub mod Counting
 pub mod Explaining
 pub mod Labels
 pub mod Numbered
+pub mod Outcomes
 pub mod Queueing
 pub mod Restarting
 pub mod Running

@@ -1,11 +1,9 @@
--- What the answers of the session's calls say.
-use Rattle.std.specs.Prelude.{◌≡◌, ℕ, Bool, List, ◌++◌, Some, None, Result, Ok, Err}
+-- What a step of the session leaves, and what it appends.
+use Rattle.std.specs.Prelude.{◌≡◌, ℕ, Bool, List, ◌++◌, Some, None}
 use Rattle.defs_soar.specs.declared.limit.Which.{Which}
 use Rattle.defs_soar.specs.History.{RecordedFiring}
 use Rattle.defs_soar.specs.Trace.{Written}
 use Rattle.defs_run.specs.Sessions.{Reply}
-use Rattle.soar_settle.specs.declared.stop.Stop.{Stop}
-use Rattle.soar_settle.specs.declared.stop.Stop.TheVariants as stop
 use Rattle.soar_cycle.specs.Remembers.{Remembers}
 use Rattle.soar_agent.specs.States.{IsReady, session_of}
 use Rattle.soar_agent.specs.Telling.{limit_told, front_told}
@@ -30,9 +28,3 @@ pub record Stops {M : Type 0} (watch : ℕ) (mid : Bool) (reply : Reply) (new : 
   pub passed : limit_told reply.told ≡ Some limit
   pub text : after ≡ before ++ (written_of watch mid reply).text
   pub mid_line : new.agent.mid_line ≡ (written_of watch mid reply).mid_line
-
--- each answer, exactly where it comes; only want of memory is free
-abbrev pub Obeys : {M : Type 0} → ℕ → Bool → Reply → SessionKept M → List ℕ → List ℕ → Result Bool Stop → Type 0
-Obeys watch mid reply new before after (Ok answer) = Replied watch mid reply new before after answer
-Obeys watch mid reply new before after (Err (stop.Limit limit)) = Stops watch mid reply new before after limit
-Obeys watch mid reply new before after (Err stop.NoMemory) = Unit {0}

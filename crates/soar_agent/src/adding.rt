@@ -14,6 +14,7 @@ ghost use Rattle.soar_agent.specs.Carries.{Carries, Replies};
 ghost use Rattle.soar_agent.specs.Numbered.{IsOperandNumbered, IsSlotNumbered, IsTripleNumbered};
 ghost use Rattle.soar_agent.specs.States.{IsReady, session_of};
 
+use crate::outcome::Outcome;
 use crate::state::Session;
 use defs_run::{Addition, Operand};
 use defs_soar::is_operator_slot;
@@ -29,7 +30,7 @@ impl<M: Outstanding> Session<M> {
         origin: &Origin<'_>,
         addition: Addition,
         out: &mut Text,
-    ) -> Result<bool, Stop>
+    ) -> Result<Outcome, Stop>
         requires ready { IsReady self.old }
         requires known { IsAdditionKnown self.old.agent.parts.table addition }
         ensures reply { Carries self.old self.new origin.now.source.now origin.now.line
@@ -48,7 +49,7 @@ impl<M: Outstanding> Session<M> {
         origin: &Origin<'_>,
         addition: Addition,
         out: &mut Text,
-    ) -> Result<bool, Stop>
+    ) -> Result<Outcome, Stop>
         requires ready { IsReady self.old }
         requires known { IsAdditionKnown self.old.agent.parts.table addition }
         requires given { (history : ListOf RecordedFiring) →
@@ -69,7 +70,7 @@ impl<M: Outstanding> Session<M> {
         slot: Slot,
         value: Operand,
         out: &mut Text,
-    ) -> Result<bool, Stop>
+    ) -> Result<Outcome, Stop>
         requires ready { IsReady self.old }
         requires id { IsKnown self.old.agent.parts.table slot.id }
         requires attr { IsKnown self.old.agent.parts.table slot.attr }
@@ -94,7 +95,7 @@ impl<M: Outstanding> Session<M> {
         slot: Slot,
         value: Operand,
         out: &mut Text,
-    ) -> Result<bool, Stop>
+    ) -> Result<Outcome, Stop>
         requires ready { IsReady self.old }
         requires id { IsKnown self.old.agent.parts.table slot.id }
         requires attr { IsKnown self.old.agent.parts.table slot.attr }
@@ -118,7 +119,7 @@ impl<M: Outstanding> Session<M> {
         slot: Slot,
         value: Operand,
         out: &mut Text,
-    ) -> Result<bool, Stop>
+    ) -> Result<Outcome, Stop>
         requires ready { IsReady self.old }
         requires id { IsKnown self.old.agent.parts.table slot.id }
         requires attr { IsKnown self.old.agent.parts.table slot.attr }
@@ -143,7 +144,7 @@ impl<M: Outstanding> Session<M> {
         origin: &Origin<'_>,
         triple: Triple,
         out: &mut Text,
-    ) -> Result<bool, Stop>
+    ) -> Result<Outcome, Stop>
         requires ready { IsReady self.old }
         requires known { IsTripleKnown self.old.agent.parts.table triple }
         requires numbered { IsTripleNumbered self.old.agent.parts.letters triple }
@@ -157,7 +158,7 @@ impl<M: Outstanding> Session<M> {
     }
 
     /// Makes a label, and puts the triple with it behind the inputs. No element has a new identifier.
-    fn put_labelled(&mut self, slot: Slot, name: Text, out: &mut Text) -> Result<bool, Stop>
+    fn put_labelled(&mut self, slot: Slot, name: Text, out: &mut Text) -> Result<Outcome, Stop>
         requires ready { IsReady self.old }
         requires id { IsKnown self.old.agent.parts.table slot.id }
         requires attr { IsKnown self.old.agent.parts.table slot.attr }

@@ -8,6 +8,7 @@ ghost use Rattle.soar_agent.specs.Explaining.{explains};
 ghost use Rattle.soar_agent.specs.Running.{run_learning};
 ghost use Rattle.soar_agent.specs.States.{IsReady};
 
+use crate::outcome::Outcome;
 use crate::state::Session;
 use list_parts::list_chain;
 use outstanding::Outstanding;
@@ -17,7 +18,12 @@ use soar_sym::{Sym, Text};
 
 impl<M: Outstanding> Session<M> {
     /// Says the explanation of the production of a name, where that was learned.
-    pub fn explain(&mut self, origin: &Origin<'_>, name: Sym, out: &mut Text) -> Result<bool, Stop>
+    pub fn explain(
+        &mut self,
+        origin: &Origin<'_>,
+        name: Sym,
+        out: &mut Text,
+    ) -> Result<Outcome, Stop>
         requires ready { IsReady self.old }
         requires known { IsKnown self.old.agent.parts.table name }
         ensures reply { Carries self.old self.new origin.now.source.now origin.now.line (carried_out run_learning (explain name)) out.old out.new result }
@@ -39,7 +45,7 @@ impl<M: Outstanding> Session<M> {
         name: Sym,
         number: u64,
         out: &mut Text,
-    ) -> Result<bool, Stop>
+    ) -> Result<Outcome, Stop>
         requires ready { IsReady self.old }
         requires known { IsKnown self.old.agent.parts.table name }
         ensures reply { Carries self.old self.new origin.now.source.now origin.now.line (explains name number) out.old out.new result }
@@ -50,7 +56,7 @@ impl<M: Outstanding> Session<M> {
                 let mut mid_line = self.agent.mid_line();
                 list_chain(self.agent.symbols(), name, chain, out, &mut mid_line)?;
                 self.agent.set_mid_line(mid_line);
-                Ok(false)
+                Ok(Outcome::Done)
             }
             None => self.refuse_with(origin, &Reason::NotALearnedRule(name), out),
         }

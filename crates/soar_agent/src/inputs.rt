@@ -6,6 +6,7 @@ ghost use Rattle.soar_agent.specs.Carries.{Replies};
 ghost use Rattle.soar_agent.specs.Numbered.{IsTripleNumbered};
 ghost use Rattle.soar_agent.specs.States.{IsReady};
 
+use crate::outcome::Outcome;
 use crate::state::Session;
 use outstanding::Outstanding;
 use soar_cycle::Stop;
@@ -18,7 +19,7 @@ impl<M: Outstanding> Session<M> {
         adds: bool,
         triple: Triple,
         out: &mut Text,
-    ) -> Result<bool, Stop>
+    ) -> Result<Outcome, Stop>
         requires ready { IsReady self.old }
         requires known { IsTripleKnown self.old.agent.parts.table triple }
         requires numbered { IsTripleNumbered self.old.agent.parts.letters triple }
@@ -26,7 +27,7 @@ impl<M: Outstanding> Session<M> {
         ensures ready { IfOk result (λ _. IsReady self.new) }
     {
         match self.agent.input_now(adds, triple, out) {
-            Ok(()) => Ok(false),
+            Ok(()) => Ok(Outcome::Done),
             Err(stop) => Err(stop),
         }
     }

@@ -13,6 +13,7 @@ ghost use Rattle.command_orders.specs.Known.{IsOperandKnown};
 ghost use Rattle.soar_agent.specs.Carries.{Carries, Replies};
 ghost use Rattle.soar_agent.specs.States.{IsReady};
 
+use crate::outcome::Outcome;
 use crate::state::Session;
 use defs_run::Operand;
 use list_parts::list_matches_of;
@@ -23,7 +24,7 @@ use soar_sym::{Sym, Text};
 
 impl<M: Outstanding> Session<M> {
     /// Says the conflict set.
-    pub fn list_matches(&mut self, out: &mut Text) -> Result<bool, Stop>
+    pub fn list_matches(&mut self, out: &mut Text) -> Result<Outcome, Stop>
         requires { IsReady self.old }
         ensures reply { Replies self.old self.new (λ s. says s (conflict_lines s.agent)) out.old out.new result }
         ensures ready { IfOk result (λ _. IsReady self.new) }
@@ -41,7 +42,7 @@ impl<M: Outstanding> Session<M> {
             &mut mid_line,
         )?;
         self.agent.set_mid_line(mid_line);
-        Ok(false)
+        Ok(Outcome::Done)
     }
 
     /// Says the matches of the production of a name.
@@ -50,7 +51,7 @@ impl<M: Outstanding> Session<M> {
         origin: &Origin<'_>,
         name: Sym,
         out: &mut Text,
-    ) -> Result<bool, Stop>
+    ) -> Result<Outcome, Stop>
         requires ready { IsReady self.old }
         requires known { IsKnown self.old.agent.parts.table name }
         ensures reply { Carries self.old self.new origin.now.source.now origin.now.line (carried_out run_learning (matches_of name)) out.old out.new result }
@@ -72,7 +73,7 @@ impl<M: Outstanding> Session<M> {
                     &mut mid_line,
                 )?;
                 self.agent.set_mid_line(mid_line);
-                Ok(false)
+                Ok(Outcome::Done)
             }
             None => self.refuse_with(origin, &Reason::NoProduction(name), out),
         }
@@ -94,7 +95,7 @@ impl<M: Outstanding> Session<M> {
         origin: &Origin<'_>,
         id: Operand,
         out: &mut Text,
-    ) -> Result<bool, Stop>
+    ) -> Result<Outcome, Stop>
         requires ready { IsReady self.old }
         requires known { IsOperandKnown self.old.agent.parts.table id }
         ensures reply { Carries self.old self.new origin.now.source.now origin.now.line (carried_out run_learning (print_id (operand_seen id))) out.old out.new result }
@@ -106,7 +107,7 @@ impl<M: Outstanding> Session<M> {
         }
     }
 
-    fn list_given(&mut self, id: Operand, out: &mut Text) -> Result<bool, Stop>
+    fn list_given(&mut self, id: Operand, out: &mut Text) -> Result<Outcome, Stop>
         requires ready { IsReady self.old }
         requires known { IsOperandKnown self.old.agent.parts.table id }
         ensures reply { Replies self.old self.new (λ s. lists_elements s (operand_seen id)) out.old out.new result }
@@ -118,7 +119,7 @@ impl<M: Outstanding> Session<M> {
         }
     }
 
-    fn list_symbol(&mut self, id: Sym, out: &mut Text) -> Result<bool, Stop>
+    fn list_symbol(&mut self, id: Sym, out: &mut Text) -> Result<Outcome, Stop>
         requires { IsReady self.old }
         ensures reply { Replies self.old self.new (λ s. says s (element_lines s.agent.names.words (elements_of id s.agent.holding.elements))) out.old out.new result }
         ensures ready { IfOk result (λ _. IsReady self.new) }
@@ -127,7 +128,7 @@ impl<M: Outstanding> Session<M> {
         let mut mid_line = agent.mid_line();
         say_elements_of(agent.symbols(), agent.memory(), id, out, &mut mid_line)?;
         self.agent.set_mid_line(mid_line);
-        Ok(false)
+        Ok(Outcome::Done)
     }
 
     /// Says the production of a name.
@@ -136,7 +137,7 @@ impl<M: Outstanding> Session<M> {
         origin: &Origin<'_>,
         name: Sym,
         out: &mut Text,
-    ) -> Result<bool, Stop>
+    ) -> Result<Outcome, Stop>
         requires ready { IsReady self.old }
         requires known { IsKnown self.old.agent.parts.table name }
         ensures reply { Carries self.old self.new origin.now.source.now origin.now.line (carried_out run_learning (print_name name)) out.old out.new result }
@@ -147,7 +148,7 @@ impl<M: Outstanding> Session<M> {
                 let mut mid_line = self.agent.mid_line();
                 say_production(self.agent.symbols(), &rule.production, out, &mut mid_line)?;
                 self.agent.set_mid_line(mid_line);
-                Ok(false)
+                Ok(Outcome::Done)
             }
             None => self.refuse_with(origin, &Reason::NoProduction(name), out),
         }

@@ -9,6 +9,7 @@ ghost use Rattle.soar_cycle.specs.Calls.{MayBeLoaded};
 ghost use Rattle.soar_agent.specs.Carries.{RepliesNothing};
 ghost use Rattle.soar_agent.specs.States.{IsReady};
 
+use crate::outcome::Outcome;
 use crate::state::Session;
 use outstanding::Outstanding;
 use soar_cycle::Stop;
@@ -16,7 +17,7 @@ use soar_rule::Production;
 
 impl<M: Outstanding> Session<M> {
     /// Loads a production under the next rule number, in the place of that of its name.
-    pub fn load(&mut self, production: Production) -> Result<bool, Stop>
+    pub fn load(&mut self, production: Production) -> Result<Outcome, Stop>
         requires ready { IsReady self.old }
         requires known { AreKnown self.old.agent.parts.table (symbols_of (production_seen production)) }
         requires unlearned { is_justification production.kind ≡ false }
@@ -26,7 +27,7 @@ impl<M: Outstanding> Session<M> {
         ensures ready { IfOk result (λ _. IsReady self.new) }
     {
         match self.agent.load(production) {
-            Ok(()) => Ok(false),
+            Ok(()) => Ok(Outcome::Done),
             Err(stop) => Err(stop),
         }
     }

@@ -9,6 +9,7 @@ ghost use Rattle.soar_agent.specs.Carries.{Carries};
 ghost use Rattle.soar_agent.specs.Running.{run_learning};
 ghost use Rattle.soar_agent.specs.States.{IsReady};
 
+use crate::outcome::Outcome;
 use crate::state::Session;
 use defs_run::Order;
 use outstanding::Outstanding;
@@ -17,13 +18,13 @@ use soar_cycle::Stop;
 use soar_sym::Text;
 
 impl<M: Outstanding> Session<M> {
-    /// Carries an order out that asks for no cycles, no file and no end, and answers whether it was refused.
+    /// Carries an order out that asks for no cycles, no file and no end.
     pub fn carry_out_alone(
         &mut self,
         origin: &Origin<'_>,
         order: Order,
         out: &mut Text,
-    ) -> Result<bool, Stop>
+    ) -> Result<Outcome, Stop>
         requires ready { IsReady self.old }
         requires known { IsOrderKnown self.old.agent.parts.table order }
         requires lawful { IsLawfulOrder self.old.agent.parts.table (order_seen order) }
@@ -49,7 +50,7 @@ impl<M: Outstanding> Session<M> {
     }
 
     /// Says what an order asks for that looks at the agent.
-    fn list(&mut self, origin: &Origin<'_>, order: Order, out: &mut Text) -> Result<bool, Stop>
+    fn list(&mut self, origin: &Origin<'_>, order: Order, out: &mut Text) -> Result<Outcome, Stop>
         requires ready { IsReady self.old }
         requires known { IsOrderKnown self.old.agent.parts.table order }
         requires looks { IsLooking (order_seen order) }

@@ -15,6 +15,7 @@ ghost use Rattle.soar_agent.specs.Numbered.{IsAdditionNumbered, IsTripleNumbered
 ghost use Rattle.soar_agent.specs.Queueing.{queues_triple};
 ghost use Rattle.soar_agent.specs.States.{IsReady, session_of};
 
+use crate::outcome::Outcome;
 use crate::state::Session;
 use defs_run::Addition;
 use outstanding::Outstanding;
@@ -30,7 +31,7 @@ impl<M: Outstanding> Session<M> {
         adds: bool,
         addition: Addition,
         out: &mut Text,
-    ) -> Result<bool, Stop>
+    ) -> Result<Outcome, Stop>
         requires ready { IsReady self.old }
         requires known { IsAdditionKnown self.old.agent.parts.table addition }
         ensures reply { Carries self.old self.new origin.now.source.now origin.now.line
@@ -53,7 +54,7 @@ impl<M: Outstanding> Session<M> {
         adds: bool,
         addition: Addition,
         out: &mut Text,
-    ) -> Result<bool, Stop>
+    ) -> Result<Outcome, Stop>
         requires ready { IsReady self.old }
         requires known { IsAdditionKnown self.old.agent.parts.table addition }
         requires numbered { IsAdditionNumbered self.old.agent.parts.letters addition }
@@ -69,7 +70,7 @@ impl<M: Outstanding> Session<M> {
     }
 
     /// Queues a change, and makes its labels.
-    fn queue_spelled(&mut self, adds: bool, addition: Addition) -> Result<bool, Stop>
+    fn queue_spelled(&mut self, adds: bool, addition: Addition) -> Result<Outcome, Stop>
         requires ready { IsReady self.old }
         requires known { IsAdditionKnown self.old.agent.parts.table addition }
         requires numbered { IsAdditionNumbered self.old.agent.parts.letters addition }
@@ -102,7 +103,7 @@ impl<M: Outstanding> Session<M> {
     }
 
     /// Queues a change of symbols that there are.
-    fn put_queued(&mut self, adds: bool, triple: Triple) -> Result<bool, Stop>
+    fn put_queued(&mut self, adds: bool, triple: Triple) -> Result<Outcome, Stop>
         requires ready { IsReady self.old }
         requires known { IsTripleKnown self.old.agent.parts.table triple }
         requires numbered { IsTripleNumbered self.old.agent.parts.letters triple }
@@ -110,19 +111,19 @@ impl<M: Outstanding> Session<M> {
         ensures ready { IfOk result (λ _. IsReady self.new) }
     {
         match self.agent.queue(adds, triple) {
-            Ok(()) => Ok(false),
+            Ok(()) => Ok(Outcome::Done),
             Err(stop) => Err(stop),
         }
     }
 
     /// Puts random words behind those that wait for draws.
-    pub fn put_random(&mut self, words: &List<u64>) -> Result<bool, Stop>
+    pub fn put_random(&mut self, words: &List<u64>) -> Result<Outcome, Stop>
         requires { IsReady self.old }
         ensures reply { RepliesNothing self.old self.new (with_random words.now) result }
         ensures ready { IfOk result (λ _. IsReady self.new) }
     {
         match self.agent.random(words) {
-            Ok(()) => Ok(false),
+            Ok(()) => Ok(Outcome::Done),
             Err(stop) => Err(stop),
         }
     }

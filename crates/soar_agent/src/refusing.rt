@@ -1,15 +1,17 @@
 // Refusals of commands.
 ghost use Rattle.std.specs.Prelude.{◌≡◌, List as ListOf, IfOk};
 ghost use Rattle.soar_sym.specs.Words.{Texts};
+ghost use Rattle.defs_run.specs.Inputs.{refuses};
 ghost use Rattle.defs_run.specs.Sessions.{refused_by};
 ghost use Rattle.defs_soar.specs.History.{RecordedFiring};
 ghost use Rattle.soar_cycle.specs.Remembers.{Remembers};
 ghost use Rattle.soar_cycle.specs.Agents.{StaysAsItIs, standing_after};
 ghost use Rattle.session_parts.specs.Reasons.{IsReasonKnown, refusal_by};
-ghost use Rattle.soar_agent.specs.Carries.{Replies};
+ghost use Rattle.soar_agent.specs.Carries.{Carries};
 ghost use Rattle.soar_agent.specs.Commands.{IsToldByCaller, RefusesTold, refusal_told};
 ghost use Rattle.soar_agent.specs.States.{IsReady, IsSoundSession, StaysStopped, session_of};
 
+use crate::outcome::Outcome;
 use crate::standing::standing_after;
 use crate::state::Session;
 use outstanding::Outstanding;
@@ -18,23 +20,23 @@ use soar_cycle::{Standing, Stop};
 use soar_sym::Text;
 
 impl<M: Outstanding> Session<M> {
-    /// Refuses a command, which leaves the agent as it was.
+    /// Refuses a command, which leaves the agent as it was, with the number of the reason.
     pub fn refuse_with(
         &mut self,
         origin: &Origin<'_>,
         reason: &Reason<'_>,
         out: &mut Text,
-    ) -> Result<bool, Stop>
+    ) -> Result<Outcome, Stop>
         requires ready { IsReady self.old }
         requires known { IsReasonKnown self.old.agent.parts.table reason.now }
         ensures settings { self.new.agent.parts.settings ≡ self.old.agent.parts.settings }
-        ensures reply { Replies self.old self.new (refused_by (refusal_by self.old.agent.parts.table reason.now) origin.now.source.now origin.now.line) out.old out.new result }
+        ensures reply { Carries self.old self.new origin.now.source.now origin.now.line (λ s. refuses (refusal_by self.old.agent.parts.table reason.now)) out.old out.new result }
         ensures ready { IfOk result (λ _. IsReady self.new) }
     {
         let mut mid_line = self.agent.mid_line();
         say_refusal(self.agent.symbols(), origin, reason, out, &mut mid_line)?;
         self.agent.set_mid_line(mid_line);
-        Ok(true)
+        Ok(Outcome::Refused(reason.number()))
     }
 
     /// Refuses what the caller alone can judge, and appends that; nothing where there is no memory. The numbers are 11 for a

@@ -10,6 +10,7 @@ ghost use Rattle.soar_agent.specs.Carries.{Carries};
 ghost use Rattle.soar_agent.specs.Numbered.{IsTripleNumbered};
 ghost use Rattle.soar_agent.specs.States.{IsReady};
 
+use crate::outcome::Outcome;
 use crate::state::Session;
 use outstanding::Outstanding;
 use session_parts::{Origin, Reason, element_of, triple_of};
@@ -19,7 +20,7 @@ use soar_wm::Element;
 
 impl<M: Outstanding> Session<M> {
     /// Takes the element of a tag from the inputs.
-    pub fn remove(&mut self, origin: &Origin<'_>, tag: u64, out: &mut Text) -> Result<bool, Stop>
+    pub fn remove(&mut self, origin: &Origin<'_>, tag: u64, out: &mut Text) -> Result<Outcome, Stop>
         requires { IsReady self.old }
         ensures reply { Carries self.old self.new origin.now.source.now origin.now.line (carried_out run_learning (remove_wme tag)) out.old out.new result }
         ensures ready { IfOk result (λ _. IsReady self.new) }
@@ -35,7 +36,7 @@ impl<M: Outstanding> Session<M> {
         origin: &Origin<'_>,
         element: Element,
         out: &mut Text,
-    ) -> Result<bool, Stop>
+    ) -> Result<Outcome, Stop>
         requires ready { IsReady self.old }
         requires known { IsTripleKnown self.old.agent.parts.table (triple_of element) }
         requires numbered { IsTripleNumbered self.old.agent.parts.letters (triple_of element) }

@@ -4,16 +4,15 @@ ghost use Rattle.defs_soar.specs.Cycle.{cycle};
 ghost use Rattle.defs_soar.specs.Decision.{decided_by};
 ghost use Rattle.defs_soar.specs.History.{RecordedFiring};
 ghost use Rattle.defs_soar.specs.Learning.{with_learning};
-ghost use Rattle.defs_run.specs.Carrying.{carried_out};
 ghost use Rattle.defs_run.specs.Orders.{run_cycles};
-ghost use Rattle.soar_agent.specs.Running.{run_learning};
 ghost use Rattle.soar_cycle.specs.Remembers.{Remembers};
 ghost use Rattle.soar_cycle.specs.Seen.{agent_of};
 ghost use Rattle.soar_cycle.specs.Agents.{StaysAsItIs, standing_after};
-ghost use Rattle.soar_agent.specs.Commands.{CarriesOut, Cycled};
+ghost use Rattle.soar_agent.specs.Carries.{CarriesOut};
+ghost use Rattle.soar_agent.specs.Commands.{Cycled};
 ghost use Rattle.soar_agent.specs.States.{IsReady, IsSoundSession, StaysStopped};
 
-use crate::outcome::{Outcome, outcome_of};
+use crate::outcome::Outcome;
 use crate::standing::standing_after;
 use crate::state::Session;
 use outstanding::Outstanding;
@@ -30,11 +29,11 @@ impl<M: Outstanding> Session<M> {
         out: &mut Text,
     ) -> Result<Outcome, Stop>
         requires { IsReady self.old }
-        ensures command { CarriesOut self.old self.new origin.now.source.now origin.now.line (carried_out run_learning (run_cycles count)) out.old out.new result }
+        ensures command { CarriesOut self.old self.new origin.now.source.now origin.now.line (run_cycles count) out.old out.new result }
         ensures ready { IfOk result (λ _. IsReady self.new) }
     {
         if self.agent.halted() {
-            return outcome_of(self.refuse_with(origin, &Reason::Halted, out));
+            return self.refuse_with(origin, &Reason::Halted, out);
         }
         Ok(Outcome::Run(count))
     }

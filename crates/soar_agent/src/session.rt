@@ -1,7 +1,7 @@
 ghost use Rattle.std.specs.Prelude.{◌≡◌, ◌≤◌, ◌^◌, [], false, List as ListOf, IfOk, length};
 ghost use Rattle.defs_soar.specs.History.{RecordedFiring};
-ghost use Rattle.defs_run.specs.Carrying.{carried_out};
 ghost use Rattle.defs_run.specs.Whole.{whole_stage};
+ghost use Rattle.defs_run.specs.WholeReading.{read_whole};
 ghost use Rattle.defs_run.specs.Runs.{obeyed};
 ghost use Rattle.defs_run.specs.Sessions.{first_session};
 ghost use Rattle.loading_laws.specs.Orders.{IsLawfulOrder};
@@ -9,11 +9,12 @@ ghost use Rattle.command_orders.specs.Asked.{order_seen};
 ghost use Rattle.command_orders.specs.Known.{IsOrderKnown};
 ghost use Rattle.soar_cycle.specs.Remembers.{Remembers};
 ghost use Rattle.soar_cycle.specs.Agents.{StaysAsItIs, standing_after};
-ghost use Rattle.soar_agent.specs.Running.{run_learning};
-ghost use Rattle.soar_agent.specs.Commands.{CarriesOut, Commands, Outcomes};
+ghost use Rattle.soar_agent.specs.Carries.{CarriesOut};
+ghost use Rattle.soar_agent.specs.Commands.{Commands, Outcomes};
+ghost use Rattle.soar_agent.specs.Outcomes.{HasOutcome};
 ghost use Rattle.soar_agent.specs.States.{IsReady, IsSoundSession, StaysStopped, session_of};
 
-use crate::outcome::{Outcome, outcome_of};
+use crate::outcome::Outcome;
 use crate::standing::standing_after;
 use crate::state::Session;
 use command_labels::Labels;
@@ -47,13 +48,15 @@ impl<M: Outstanding + Drop> Session<M> {
 }
 
 impl<M: Outstanding> Session<M> {
-    /// Carries a command of a source out, all but the cycles that it asks for, and appends what it says. At a limit
-    /// that is what comes before, and the line of the limit; nothing where there is no memory.
+    /// Carries a command of a source out, all but the cycles that it asks for, appends what it says, and returns the
+    /// outcome. At a limit it appends what comes before, and the line of the limit; out of memory, nothing.
     pub fn command(&mut self, c: &Command, source: &str, text: &mut Text) -> Result<Outcome, Stop>
         requires short { length c.now.text ≤ 2 ^ 26 }
         requires sound { IsSoundSession self.old }
         ensures command { self.old.standing ≡ Standing.Stands → (history : ListOf RecordedFiring) → Remembers self.old.agent.parts history → let s = session_of self.old history in
             Commands s (obeyed whole_stage source.now c.now.line c.now.text s) self.new text.old text.new result }
+        ensures outcome { self.old.standing ≡ Standing.Stands → (history : ListOf RecordedFiring) → Remembers self.old.agent.parts history → let s = session_of self.old history in
+            HasOutcome s (read_whole s.agent.names.words c.now.text) result }
         ensures standing { self.new.standing ≡ standing_after self.old.standing result }
         ensures stopped { StaysStopped self.old.standing text.old text.new result }
         ensures still { StaysAsItIs self.old.standing self.old self.new }
@@ -73,6 +76,8 @@ impl<M: Outstanding> Session<M> {
         requires ready { IsReady self.old }
         ensures command { (history : ListOf RecordedFiring) → Remembers self.old.agent.parts history → let s = session_of self.old history in
             Commands s (obeyed whole_stage source.now c.now.line c.now.text s) self.new text.old text.new result }
+        ensures outcome { (history : ListOf RecordedFiring) → Remembers self.old.agent.parts history → let s = session_of self.old history in
+            HasOutcome s (read_whole s.agent.names.words c.now.text) result }
         ensures ready { IfOk result (λ _. IsReady self.new) }
     {
         let mut said = Text::new(text.allocator());
@@ -91,6 +96,8 @@ impl<M: Outstanding> Session<M> {
         requires ready { IsReady self.old }
         ensures command { (history : ListOf RecordedFiring) → Remembers self.old.agent.parts history → let s = session_of self.old history in
             Outcomes self.old.agent.parts.settings.watch self.old.agent.mid_line (obeyed whole_stage source.now c.now.line c.now.text s) self.new out.old out.new result }
+        ensures outcome { (history : ListOf RecordedFiring) → Remembers self.old.agent.parts history → let s = session_of self.old history in
+            HasOutcome s (read_whole s.agent.names.words c.now.text) result }
         ensures ready { IfOk result (λ _. IsReady self.new) }
     {
         let origin = &Origin {
@@ -105,7 +112,7 @@ impl<M: Outstanding> Session<M> {
             }
             Err(CmdFault::Refused { number, shown }) => {
                 let _within = self.agent.symbols().word_count();
-                outcome_of(self.refuse_with(origin, &Reason::Read(number, shown), out))
+                self.refuse_with(origin, &Reason::Read(number, shown), out)
             }
             Err(CmdFault::WordsSpent) => Err(Stop::Limit(Which::Words)),
             Err(CmdFault::NoMemory) => Err(Stop::NoMemory),
@@ -122,14 +129,14 @@ impl<M: Outstanding> Session<M> {
         requires ready { IsReady self.old }
         requires known { IsOrderKnown self.old.agent.parts.table order }
         requires lawful { IsLawfulOrder self.old.agent.parts.table (order_seen order) }
-        ensures command { CarriesOut self.old self.new origin.now.source.now origin.now.line (carried_out run_learning (order_seen order)) out.old out.new result }
+        ensures command { CarriesOut self.old self.new origin.now.source.now origin.now.line (order_seen order) out.old out.new result }
         ensures ready { IfOk result (λ _. IsReady self.new) }
     {
         match order {
             Order::Run(count) => self.ask_to_run(origin, count, out),
             Order::Source(name) => Ok(Outcome::Source(name)),
             Order::Quit => Ok(Outcome::Quit),
-            order => outcome_of(self.carry_out_alone(origin, order, out)),
+            order => self.carry_out_alone(origin, order, out),
         }
     }
 }

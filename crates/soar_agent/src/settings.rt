@@ -6,6 +6,7 @@ ghost use Rattle.soar_cycle.specs.Settings.{settings_seen};
 ghost use Rattle.soar_agent.specs.Carries.{RepliesNothing};
 ghost use Rattle.soar_agent.specs.States.{IsReady};
 
+use crate::outcome::Outcome;
 use crate::state::Session;
 use defs_soar::Mode;
 use outstanding::Outstanding;
@@ -13,7 +14,7 @@ use soar_cycle::{Settings, Stop};
 
 impl<M: Outstanding> Session<M> {
     /// Sets the watch level, from 0 to 5. Lines of the same command keep the level that was set before it.
-    pub fn set_watch(&mut self, watch: u8) -> Result<bool, Stop>
+    pub fn set_watch(&mut self, watch: u8) -> Result<Outcome, Stop>
         requires { IsReady self.old }
         ensures reply { RepliesNothing self.old self.new (λ s. with_settings s (record s.agent.settings { watch = watch })) result }
         ensures ready { IfOk result (λ _. IsReady self.new) }
@@ -29,7 +30,7 @@ impl<M: Outstanding> Session<M> {
     }
 
     /// Sets whether to learn.
-    pub fn set_learning(&mut self, on: bool) -> Result<bool, Stop>
+    pub fn set_learning(&mut self, on: bool) -> Result<Outcome, Stop>
         requires { IsReady self.old }
         ensures reply { RepliesNothing self.old self.new (λ s. with_settings s (record s.agent.settings { learning = on })) result }
         ensures ready { IfOk result (λ _. IsReady self.new) }
@@ -45,7 +46,7 @@ impl<M: Outstanding> Session<M> {
     }
 
     /// Sets whether to learn from firings that found something missing in a substate.
-    pub fn set_local_negations(&mut self, on: bool) -> Result<bool, Stop>
+    pub fn set_local_negations(&mut self, on: bool) -> Result<Outcome, Stop>
         requires { IsReady self.old }
         ensures reply { RepliesNothing self.old self.new (λ s. with_settings s (record s.agent.settings { local_negations = on })) result }
         ensures ready { IfOk result (λ _. IsReady self.new) }
@@ -61,7 +62,7 @@ impl<M: Outstanding> Session<M> {
     }
 
     /// Sets how a candidate is drawn.
-    pub fn set_mode(&mut self, mode: Mode) -> Result<bool, Stop>
+    pub fn set_mode(&mut self, mode: Mode) -> Result<Outcome, Stop>
         requires ready { IsReady self.old }
         requires range { IsModeInRange mode }
         ensures reply { RepliesNothing self.old self.new (λ s. with_settings s (record s.agent.settings { mode = mode })) result }
@@ -78,7 +79,7 @@ impl<M: Outstanding> Session<M> {
     }
 
     /// Sets how many waves a phase has at most, from 1 to 10,000.
-    pub fn set_max_elaborations(&mut self, count: u32) -> Result<bool, Stop>
+    pub fn set_max_elaborations(&mut self, count: u32) -> Result<Outcome, Stop>
         requires { IsReady self.old }
         ensures reply { RepliesNothing self.old self.new (λ s. with_settings s (record s.agent.settings { max_elaborations = count })) result }
         ensures ready { IfOk result (λ _. IsReady self.new) }
@@ -93,12 +94,12 @@ impl<M: Outstanding> Session<M> {
         })
     }
 
-    fn set(&mut self, settings: Settings) -> Result<bool, Stop>
+    fn set(&mut self, settings: Settings) -> Result<Outcome, Stop>
         requires { IsReady self.old }
         ensures reply { RepliesNothing self.old self.new (λ s. with_settings s (settings_seen settings)) result }
         ensures ready { IfOk result (λ _. IsReady self.new) }
     {
         self.agent.set(settings);
-        Ok(false)
+        Ok(Outcome::Done)
     }
 }

@@ -10,6 +10,7 @@ ghost use Rattle.command_orders.specs.Known.{IsAttributeKnown, IsOperandKnown};
 ghost use Rattle.soar_agent.specs.Carries.{Carries, Replies};
 ghost use Rattle.soar_agent.specs.States.{IsReady};
 
+use crate::outcome::Outcome;
 use crate::state::Session;
 use defs_run::Operand;
 use list_parts::list_preferences;
@@ -26,7 +27,7 @@ impl<M: Outstanding> Session<M> {
         id: Operand,
         attr: Operand,
         out: &mut Text,
-    ) -> Result<bool, Stop>
+    ) -> Result<Outcome, Stop>
         requires ready { IsReady self.old }
         requires id { IsOperandKnown self.old.agent.parts.table id }
         requires attr { IsAttributeKnown self.old.agent.parts.table attr }
@@ -40,7 +41,12 @@ impl<M: Outstanding> Session<M> {
     }
 
     /// Says the preferences of a slot whose identifiers there are.
-    fn list_slot_given(&mut self, id: Operand, attr: Operand, out: &mut Text) -> Result<bool, Stop>
+    fn list_slot_given(
+        &mut self,
+        id: Operand,
+        attr: Operand,
+        out: &mut Text,
+    ) -> Result<Outcome, Stop>
         requires ready { IsReady self.old }
         requires id { IsOperandKnown self.old.agent.parts.table id }
         requires attr { IsAttributeKnown self.old.agent.parts.table attr }
@@ -52,7 +58,7 @@ impl<M: Outstanding> Session<M> {
         self.list_slot_of(Slot { id, attr }, out)
     }
 
-    fn list_slot_of(&mut self, slot: Slot, out: &mut Text) -> Result<bool, Stop>
+    fn list_slot_of(&mut self, slot: Slot, out: &mut Text) -> Result<Outcome, Stop>
         requires { IsReady self.old }
         ensures reply { Replies self.old self.new (λ s. says s (preference_lines s.agent slot.id slot.attr)) out.old out.new result }
         ensures ready { IfOk result (λ _. IsReady self.new) }
@@ -68,6 +74,6 @@ impl<M: Outstanding> Session<M> {
             &mut mid_line,
         )?;
         self.agent.set_mid_line(mid_line);
-        Ok(false)
+        Ok(Outcome::Done)
     }
 }

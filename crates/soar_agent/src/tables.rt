@@ -6,6 +6,7 @@ ghost use Rattle.soar_agent.specs.Carries.{Replies};
 ghost use Rattle.soar_agent.specs.Counting.{stats_seen};
 ghost use Rattle.soar_agent.specs.States.{IsReady};
 
+use crate::outcome::Outcome;
 use crate::state::Session;
 use list_parts::{Stats, list_chunks, list_elements, list_rules, say_stats};
 use outstanding::Outstanding;
@@ -14,7 +15,7 @@ use soar_sym::Text;
 
 impl<M: Outstanding> Session<M> {
     /// Says all elements.
-    pub fn list_memory(&mut self, out: &mut Text) -> Result<bool, Stop>
+    pub fn list_memory(&mut self, out: &mut Text) -> Result<Outcome, Stop>
         requires { IsReady self.old }
         ensures reply { Replies self.old self.new (λ s. says s (element_lines s.agent.names.words s.agent.holding.elements)) out.old out.new result }
         ensures ready { IfOk result (λ _. IsReady self.new) }
@@ -23,11 +24,11 @@ impl<M: Outstanding> Session<M> {
         let mut mid_line = agent.mid_line();
         list_elements(agent.symbols(), agent.memory(), out, &mut mid_line)?;
         self.agent.set_mid_line(mid_line);
-        Ok(false)
+        Ok(Outcome::Done)
     }
 
     /// Says the names of all productions.
-    pub fn list_productions(&mut self, out: &mut Text) -> Result<bool, Stop>
+    pub fn list_productions(&mut self, out: &mut Text) -> Result<Outcome, Stop>
         requires { IsReady self.old }
         ensures reply { Replies self.old self.new (λ s. says s (rule_lines s.agent)) out.old out.new result }
         ensures ready { IfOk result (λ _. IsReady self.new) }
@@ -36,11 +37,11 @@ impl<M: Outstanding> Session<M> {
         let mut mid_line = agent.mid_line();
         list_rules(agent.symbols(), agent.rules(), out, &mut mid_line)?;
         self.agent.set_mid_line(mid_line);
-        Ok(false)
+        Ok(Outcome::Done)
     }
 
     /// Says all learned productions.
-    pub fn list_learned(&mut self, out: &mut Text) -> Result<bool, Stop>
+    pub fn list_learned(&mut self, out: &mut Text) -> Result<Outcome, Stop>
         requires { IsReady self.old }
         ensures reply { Replies self.old self.new (λ s. says s (chunk_lines s.agent)) out.old out.new result }
         ensures ready { IfOk result (λ _. IsReady self.new) }
@@ -49,11 +50,11 @@ impl<M: Outstanding> Session<M> {
         let mut mid_line = agent.mid_line();
         list_chunks(agent.symbols(), agent.rules(), out, &mut mid_line)?;
         self.agent.set_mid_line(mid_line);
-        Ok(false)
+        Ok(Outcome::Done)
     }
 
     /// Says how much was done and how much there is.
-    pub fn list_counts(&mut self, out: &mut Text) -> Result<bool, Stop>
+    pub fn list_counts(&mut self, out: &mut Text) -> Result<Outcome, Stop>
         requires { IsReady self.old }
         ensures reply { Replies self.old self.new (λ s. says s (stats_line s.agent ∷ [])) out.old out.new result }
         ensures ready { IfOk result (λ _. IsReady self.new) }
@@ -62,7 +63,7 @@ impl<M: Outstanding> Session<M> {
         let mut mid_line = self.agent.mid_line();
         say_stats(&stats, out, &mut mid_line)?;
         self.agent.set_mid_line(mid_line);
-        Ok(false)
+        Ok(Outcome::Done)
     }
 }
 

@@ -1,11 +1,14 @@
 ghost use Rattle.std.specs.Prelude.{◌≡◌, false, [], map, IfOk};
 ghost use Rattle.std.specs.Borrow.{Lends, sem};
 ghost use Rattle.std.specs.Option.{option_copied, option_map};
+ghost use Rattle.soar_sym.specs.Words.{Texts};
 ghost use Rattle.soar_sym.specs.contracts.table.SymTable as table;
 ghost use Rattle.defs_run.specs.Carrying.{chain_of_rule};
 ghost use Rattle.defs_soar.specs.History.{chain_seen};
 ghost use Rattle.defs_soar.specs.Start.{first_agent};
 ghost use Rattle.defs_soar.specs.Values.{has_triple_among};
+ghost use Rattle.learning_laws.specs.Lawful.{Grown};
+ghost use Rattle.learning_laws.specs.LawfulAgents.{EachOnce};
 ghost use Rattle.soar_cycle.specs.Agents.{IsSoundAgent, with_table};
 ghost use Rattle.soar_cycle.specs.Counting.{counts_in};
 ghost use Rattle.soar_cycle.specs.contracts.agent.Agent as agent;
@@ -71,10 +74,12 @@ impl<M: Outstanding + Drop> Agent<M> {
 }
 
 impl<M: Outstanding> Agent<M> {
-    /// The words, to which more may be added. What is left there has to begin with the words that were there.
+    /// Lends the words, to which more may be added. An agent that is sound stays so if the words that were there are
+    /// left in front, and each text stands once.
     pub fn table(&mut self) -> &mut SymTable
         ensures* writes_back { sem 𝓛 (Lends (agent.the_row M.row M.Outstanding.own M.Matcher) table.the_row self.entry result (with_table self.old)) }
         ensures value { result.now ≡ self.old.parts.table }
+        ensures sound { (words : Texts) → Grown self.old.parts.table words → EachOnce words → IsSoundAgent self.old → IsSoundAgent (with_table self.old words) }
     {
         &mut self.engine.parts.table
     }

@@ -21,13 +21,13 @@ use Rattle.soar_agent.specs.Seen.{agent_of}
 use Rattle.soar_agent.specs.Courses.{front_said, limit_in}
 use Rattle.soar_agent.specs.Commands.{AsksToRun, Commands}
 use Rattle.soar_agent.specs.States.{session_of}
-use Rattle.soar_agent.specs.Steps.{Obeys, Replied}
+use Rattle.soar_agent.specs.Steps.{Replied}
 use Rattle.soar_agent.specs.Telling.{front_told, limit_told}
 use Rattle.soar_agent.specs.Writing.{limit_line, step_text}
 use Rattle.soar_agent.specs.declared.outcome.Outcome.{Outcome}
 use Rattle.soar_agent.specs.declared.state.Session.{Session as SessionKept}
 use Rattle.soar_agent.proofs.FollowedLemmas.{follows, front_of_steps, limit_of_steps}
-use Rattle.soar_agent.proofs.SessionLemmas.{obeys_same}
+use Rattle.soar_agent.proofs.SessionLemmas.{replied_same}
 use Rattle.soar_run.specs.Cycles.{IsRan, IsRanOk, course_text}
 use Rattle.soar_run.specs.Spoken.{StandsFor}
 use Rattle.soar_run.proofs.TellingLemmas.{told_limit, told_text, told_whole}
@@ -125,10 +125,10 @@ asked_answer s reply new last first text count (answered.Went refused following)
     let c : Course = run_learning count (agent_of new.agent.parts a.history) in
     let behind : Reply = followed (session_of new a.history) c in
     let went = ran.2 in
-    let obeys : Obeys new.agent.parts.settings.watch new.agent.mid_line behind last [] went.0 (Ok false) = follows new last c a.history [] went.0 went.1 ran.3 ran.5.1 in
-    let level : Obeys watch new.agent.mid_line behind last [] went.0 (Ok false) = subst (λ w. Obeys w new.agent.mid_line behind last [] went.0 (Ok false)) a.settings obeys in
-    let same : Obeys watch mid reply last [] went.0 (Ok false) =
-    obeys_same watch mid reply behind last [] went.0 (Ok false) a.comes (subst (λ m. Obeys watch m behind last [] went.0 (Ok false)) a.mid_line level) in
+    let replied : Replied new.agent.parts.settings.watch new.agent.mid_line behind last [] went.0 false = follows new last c a.history [] went.0 went.1 ran.3 ran.5.1 in
+    let level : Replied watch new.agent.mid_line behind last [] went.0 false = subst (λ w. Replied w new.agent.mid_line behind last [] went.0 false) a.settings replied in
+    let same : Replied watch mid reply last [] went.0 false =
+    replied_same watch mid reply behind last [] went.0 false a.comes (subst (λ m. Replied watch m behind last [] went.0 false) a.mid_line level) in
     subst (λ r. Passed (StandsFor last) s reply r (sequel_of following)) (sym ran.0) (passed_whole s reply last [] went.0 false (sequel_of following) same (next ∙ sym ran.1))
 asked_answer s reply new last first text count answered.Stopped a next ran =
     (ran.0, told_limit s.agent.settings.watch s.mid_line reply.told ∙ (a.comes.limit ∙ (limit_of_steps (run_learning count (agent_of new.agent.parts a.history)).steps ∙ ran.1)))

@@ -61,7 +61,7 @@ fn follow<M: Outstanding, O: Sink>(
 {
     match outcome {
         Outcome::Done => put_answer(out, text, Answered::Went(false, Next::Command)),
-        Outcome::Refused => put_answer(out, text, Answered::Went(true, Next::Command)),
+        Outcome::Refused(_) => put_answer(out, text, Answered::Went(true, Next::Command)),
         Outcome::Run(count) => run_cycles(alloc, session, count, out),
         Outcome::Source(name) => put_answer(out, text, Answered::Went(false, Next::File(name))),
         Outcome::Quit => put_answer(out, text, Answered::Went(false, Next::End)),

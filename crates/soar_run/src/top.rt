@@ -51,8 +51,8 @@ pub fn run_soar<I: Source, F: Shelf, O: Sink>(
     // Whatever fails, the bytes written are those at the transcript's front.
     ensures prefix { IfSome (I.left input.old) (λ bytes. (stock : ListOf Filed) → F.files files.old ≡ Some stock
         → AppendsSome (O.written out.old) (O.written out.new) (whole_transcript (map string_bytes words.now.items) stock bytes).text) }
-    // Where a fetch fails, all is written that comes before it. The shelf's count of fetches is far from its last value.
-    ensures before_fetch { IfSome (I.left input.old) (λ bytes. (stock : ListOf Filed) → F.files files.old ≡ Some stock → (n : ℕ) → n < 2 ^ 63 → F.fetched files.old ≡ Some n → result ≡ Status.FileFault
+    // Where a fetch fails, all is written that comes before it.
+    ensures before_fetch { IfSome (I.left input.old) (λ bytes. (stock : ListOf Filed) → F.files files.old ≡ Some stock → (n : ℕ) → F.fetched files.old ≡ Some n → result ≡ Status.FileFault
         → EndsAtFetch (O.written out.old) (O.written out.new) n (F.fetched files.new) (λ number. failing_transcript number (map string_bytes words.now.items) stock bytes)) }
     // Where a read fails, all is written that the files and the whole commands of what was taken until then write.
     ensures before_read { IfSome (I.left input.old) (λ bytes. (stock : ListOf Filed) → F.files files.old ≡ Some stock → result ≡ Status.ReadFault

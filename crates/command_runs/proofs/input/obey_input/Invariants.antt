@@ -15,7 +15,6 @@ invariant-reading g l = record {
   few : l.taken ≤ 2 ^ 26;
   waits : cuts_with l.cutter false [] ≡ [];
   ready : g.C.Carrier.ready l.progress.carrier;
-  held : g.O.Gather.held l.out ≡ [];
   source : g.I.Source.faults l.input ≡ g.I.Source.faults l.initial.input;
   shelf : g.F.Shelf.faults l.files ≡ g.F.Shelf.faults l.initial.files;
   sink : g.O.Sink.faults l.out ≡ g.O.Sink.faults l.initial.out;

@@ -11,13 +11,13 @@ pub remove-requires-2 : goal.remove-requires-2
 remove-requires-2 c =
     let net = c.args.net.now in
     let n = c.requires.network in
-    only_one net.index net.alpha.elements c.args.tag c.in-Some.e n.rising (sym (c.in-Some.ensures n.works)) n.elements
+    only_one net.index net.alpha.elements c.args.tag c.in-Some.e n.rising (sym (c.in-Some.ensures.found n.works)) n.elements
 
 pub react-requires-clause-behind : goal.react-requires-clause-behind
 react-requires-clause-behind c =
     let net = c.args.net.now in
     let n = c.requires.network in
-    let at = sym (c.in-Some.ensures n.works) in
+    let at = sym (c.in-Some.ensures.found n.works) in
     record {
       before = net.alpha.elements;
       network = record {
@@ -52,4 +52,4 @@ returns-clause-told c =
     (subst (AllTell (get new.nodes) old.stamp old.alpha.elements) (sym c.in_ok-served.ensures.elements)
     (c.in_ok-served.ensures.tell old.alpha.elements n.holds
     (subst (λ (w : List Element). ElementsChange old.alpha.elements w [] (c.in-Some.e ∷ [])) (sym (c.remove.ensures.elements n.works))
-    (less_change old.alpha.elements c.args.tag c.in-Some.e n.rising (sym (c.in-Some.ensures n.works))))))
+    (less_change old.alpha.elements c.args.tag c.in-Some.e n.rising (sym (c.in-Some.ensures.found n.works))))))

@@ -1,13 +1,12 @@
 use Rattle.std.proofs.Common.{◌≡◌, ◌∙◌, [], true, Some, map, sym, subst}
 use Rattle.soar_sym.specs.declared.symbol.Sym.{Sym}
-use Rattle.defs_run.specs.Runs.{replied_by}
 use Rattle.soar_cycle.specs.Remembers.{Remembers}
+use Rattle.soar_agent.specs.Carries.{Responds, response_by}
 use Rattle.soar_agent.specs.Adding.{adds_at_top}
 use Rattle.command_orders.specs.Asked.{operand_seen}
 use Rattle.command_labels.specs.Found.{label_seen}
 use Rattle.session_parts.specs.Labels.{symbol_in}
 use Rattle.soar_agent.specs.States.{session_of}
-use Rattle.soar_agent.specs.Steps.{Obeys}
 use Rattle.soar_agent.specs.declared.state.Session.{Session}
 use Rattle.letter_laws.proofs.GrowthLaws.{given_stay_given}
 use Rattle.soar_agent.proofs.GivenLemmas.{addition_numbered, attribute_stands, given_adds, id_stands, operand_stays}
@@ -40,10 +39,10 @@ returns-clause-reply g c = λ history remembers.
     given_adds c.args.self.now c.resolve-2.new.self c.add_at_top.new.self c.args.origin.now.source.now c.args.origin.now.line (operand_seen c.args.addition.id) (operand_seen c.args.addition.attr) (operand_seen c.args.addition.value)
     i.0 a.0 history c.args.out.now c.add_at_top.new.out c.add_at_top.result i.1
     (subst (λ (s : Session g.row.M.Denot). symbol_in (map label_seen s.labels) (operand_seen c.args.addition.attr) ≡ Some a.0) first.1 a.1) same
-    (subst (λ (s : Sym). Obeys c.resolve-2.new.self.agent.parts.settings.watch c.resolve-2.new.self.agent.mid_line (replied_by c.args.origin.now.source.now c.args.origin.now.line (session_of c.resolve-2.new.self history)
+    (subst (λ (s : Sym). Responds c.resolve-2.new.self.agent.parts.settings.watch c.resolve-2.new.self.agent.mid_line (response_by c.args.origin.now.source.now c.args.origin.now.line (session_of c.resolve-2.new.self history)
     (adds_at_top s a.0 (operand_seen c.args.addition.value) (session_of c.resolve-2.new.self history))) c.add_at_top.new.self c.args.out.now c.add_at_top.new.out c.add_at_top.result)
     id_is
-    (subst (λ (s : Sym). Obeys c.resolve-2.new.self.agent.parts.settings.watch c.resolve-2.new.self.agent.mid_line (replied_by c.args.origin.now.source.now c.args.origin.now.line (session_of c.resolve-2.new.self history)
+    (subst (λ (s : Sym). Responds c.resolve-2.new.self.agent.parts.settings.watch c.resolve-2.new.self.agent.mid_line (response_by c.args.origin.now.source.now c.args.origin.now.line (session_of c.resolve-2.new.self history)
     (adds_at_top c.in_ok-id.id s (operand_seen c.args.addition.value) (session_of c.resolve-2.new.self history))) c.add_at_top.new.self c.args.out.now c.add_at_top.new.out c.add_at_top.result)
     attr_is (c.add_at_top.ensures.reply history (subst (λ (s : Session g.row.M.Denot). Remembers s.agent.parts history) (sym same) remembers))))
 

@@ -4,16 +4,14 @@ use Rattle.soar_sym.specs.declared.symbol.Triple.{Triple}
 use Rattle.soar_wm.specs.WorkingMemory.{tag_of}
 use Rattle.defs_soar.specs.Naming.{letter_from}
 use Rattle.defs_run.specs.Inputs.{Spelled}
-use Rattle.defs_run.specs.Runs.{replied_by}
 use Rattle.defs_run.specs.Sessions.{Session, label_in, labelled}
 use Rattle.defs_run.specs.declared.form.Operand.{Operand}
 use Rattle.command_orders.specs.Asked.{operand_seen}
 use Rattle.command_labels.specs.Found.{label_seen}
 use Rattle.soar_agent.specs.Adding.{adds_by, adds_triple, spelled_by, unless_twice}
-use Rattle.soar_agent.specs.Carries.{Carries}
+use Rattle.soar_agent.specs.Carries.{Carries, Responds, response_by}
 use Rattle.soar_agent.specs.Numbered.{IsOperandNumbered, IsTripleNumbered}
 use Rattle.soar_agent.specs.States.{session_of}
-use Rattle.soar_agent.specs.Steps.{Obeys}
 use Rattle.soar_cycle.specs.Calls.{IsTripleKnown}
 use Rattle.soar_agent.proofs.AddingLemmas.{missing_put, next_is_new}
 use Rattle.soar_agent.proofs.ReadyLemmas.{label_numbered}
@@ -46,13 +44,13 @@ pub returns-in-Some-clause-reply : goal.returns-in-Some-clause-reply
 returns-in-Some-clause-reply g c = λ history remembers.
     let s : Session = session_of c.args.self.now history in
     let some : Some c.in-Some.value ≡ label_in (map label_seen c.args.self.now.labels) c.in-Label.name = cc (c.in-Some.ensures.symbol, c.as_str.ensures) in
-    subst (λ (o : Operand). Obeys c.args.self.now.agent.parts.settings.watch c.args.self.now.agent.mid_line (replied_by c.args.origin.now.source.now c.args.origin.now.line s (adds_by c.args.slot.id c.args.slot.attr (operand_seen o) s))
+    subst (λ (o : Operand). Responds c.args.self.now.agent.parts.settings.watch c.args.self.now.agent.mid_line (response_by c.args.origin.now.source.now c.args.origin.now.line s (adds_by c.args.slot.id c.args.slot.attr (operand_seen o) s))
     c.add_triple-in-Some.new.self c.args.out.now c.add_triple-in-Some.new.out c.add_triple-in-Some.result)
     (sym c.in-Label.is)
-    (subst (λ (o : Option Sym). Obeys c.args.self.now.agent.parts.settings.watch c.args.self.now.agent.mid_line (replied_by c.args.origin.now.source.now c.args.origin.now.line s (unless_twice (spelled_by c.args.slot.id c.args.slot.attr (labelled s c.in-Label.name o))))
+    (subst (λ (o : Option Sym). Responds c.args.self.now.agent.parts.settings.watch c.args.self.now.agent.mid_line (response_by c.args.origin.now.source.now c.args.origin.now.line s (unless_twice (spelled_by c.args.slot.id c.args.slot.attr (labelled s c.in-Label.name o))))
     c.add_triple-in-Some.new.self c.args.out.now c.add_triple-in-Some.new.out c.add_triple-in-Some.result)
     some
-    (subst (λ (t : Triple). Obeys c.args.self.now.agent.parts.settings.watch c.args.self.now.agent.mid_line (replied_by c.args.origin.now.source.now c.args.origin.now.line s (adds_triple t s)) c.add_triple-in-Some.new.self c.args.out.now c.add_triple-in-Some.new.out c.add_triple-in-Some.result)
+    (subst (λ (t : Triple). Responds c.args.self.now.agent.parts.settings.watch c.args.self.now.agent.mid_line (response_by c.args.origin.now.source.now c.args.origin.now.line s (adds_triple t s)) c.add_triple-in-Some.new.self c.args.out.now c.add_triple-in-Some.new.out c.add_triple-in-Some.result)
     c.with-in-Some.ensures (c.add_triple-in-Some.ensures.reply history remembers)))
 
 pub returns-in-None-clause-reply : goal.returns-in-None-clause-reply
@@ -62,10 +60,10 @@ returns-in-None-clause-reply g c = λ history remembers.
     let t : Spelled = spelled_by c.args.slot.id c.args.slot.attr (labelled s c.in-Label.name None) in
     let missing : tag_of t.triple c.args.self.now.agent.parts.memory.elements ≡ None =
     next_is_new c.args.self.now.agent.parts c.args.slot.id c.args.slot.attr (letter_from c.in-Label.name) c.requires.ready.2 in
-    subst (λ (o : Operand). Obeys c.args.self.now.agent.parts.settings.watch c.args.self.now.agent.mid_line (replied_by c.args.origin.now.source.now c.args.origin.now.line s (adds_by c.args.slot.id c.args.slot.attr (operand_seen o) s))
+    subst (λ (o : Operand). Responds c.args.self.now.agent.parts.settings.watch c.args.self.now.agent.mid_line (response_by c.args.origin.now.source.now c.args.origin.now.line s (adds_by c.args.slot.id c.args.slot.attr (operand_seen o) s))
     c.put_labelled.new.self c.args.out.now c.put_labelled.new.out c.put_labelled.result)
     (sym c.in-Label.is)
-    (subst (λ (o : Option Sym). Obeys c.args.self.now.agent.parts.settings.watch c.args.self.now.agent.mid_line (replied_by c.args.origin.now.source.now c.args.origin.now.line s (unless_twice (spelled_by c.args.slot.id c.args.slot.attr (labelled s c.in-Label.name o))))
+    (subst (λ (o : Option Sym). Responds c.args.self.now.agent.parts.settings.watch c.args.self.now.agent.mid_line (response_by c.args.origin.now.source.now c.args.origin.now.line s (unless_twice (spelled_by c.args.slot.id c.args.slot.attr (labelled s c.in-Label.name o))))
     c.put_labelled.new.self c.args.out.now c.put_labelled.new.out c.put_labelled.result)
     none
     (missing_put c.args.self.now c.put_labelled.new.self c.args.origin.now.source.now c.args.origin.now.line t s (tag_of t.triple c.args.self.now.agent.parts.memory.elements)

@@ -10,3 +10,6 @@ returns-clause-command g c = λ stands history remembers.
     let s : Session = session_of c.args.self.now history in
     command_left s (obeyed whole_stage c.args.source.now c.args.c.now.line c.args.c.now.text s) c.answer-answer.new.self c.standing_after-self.result c.args.text.now c.answer-answer.new.text
     c.answer-answer.result (c.answer-answer.ensures.command history remembers)
+
+pub returns-clause-outcome : goal.returns-clause-outcome
+returns-clause-outcome g c = λ stands history remembers. c.answer-answer.ensures.outcome history remembers

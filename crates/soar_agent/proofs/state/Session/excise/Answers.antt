@@ -6,10 +6,9 @@ use Rattle.defs_match.specs.declared.rule.Rule.{Rule}
 use Rattle.defs_run.specs.Carrying.{excised, is_named, rule_named}
 use Rattle.defs_run.specs.Inputs.{Carried, does, refuses}
 use Rattle.defs_run.specs.Orders.{no_production}
-use Rattle.defs_run.specs.Runs.{replied_by}
 use Rattle.defs_run.specs.Sessions.{Session}
+use Rattle.soar_agent.specs.Carries.{Responds, response_by}
 use Rattle.soar_agent.specs.States.{session_of}
-use Rattle.soar_agent.specs.Steps.{Obeys}
 use Rattle.soar_agent.proofs.NamedLemmas.{any_named, if_there}
 use Rattle.soar_agent.proofs.state.Session.excise.Goals as goal
 
@@ -21,11 +20,11 @@ returns-then-has_name-clause-reply g c = λ history remembers.
     let missing : Carried = refuses (no_production s.agent.names.words c.args.name) in
     let loaded : true ≡ is_some (rule_named rules c.args.name) =
     sym c.if-has_name.true ∙ c.has_name.ensures ∙ ap (λ (rs : List Rule). list_any (is_named c.args.name) (map rule_seen rs)) c.rules.ensures ∙ sym (any_named c.args.name rules) in
-    subst (λ (carried : Carried). Obeys c.args.self.now.agent.parts.settings.watch c.args.self.now.agent.mid_line (replied_by c.args.origin.now.source.now c.args.origin.now.line s carried)
+    subst (λ (carried : Carried). Responds c.args.self.now.agent.parts.settings.watch c.args.self.now.agent.mid_line (response_by c.args.origin.now.source.now c.args.origin.now.line s carried)
     c.take_away.new.self c.args.out.now c.args.out.now c.take_away.result)
     (sym (if_there (rule_named rules c.args.name) gone missing))
-    (subst (λ (b : Bool). Obeys c.args.self.now.agent.parts.settings.watch c.args.self.now.agent.mid_line
-    (replied_by c.args.origin.now.source.now c.args.origin.now.line s (if b then gone else missing)) c.take_away.new.self c.args.out.now c.args.out.now c.take_away.result)
+    (subst (λ (b : Bool). Responds c.args.self.now.agent.parts.settings.watch c.args.self.now.agent.mid_line
+    (response_by c.args.origin.now.source.now c.args.origin.now.line s (if b then gone else missing)) c.take_away.new.self c.args.out.now c.args.out.now c.take_away.result)
     loaded (c.take_away.ensures.reply c.args.out.now history remembers))
 
 pub returns-else-has_name-clause-reply : goal.returns-else-has_name-clause-reply
@@ -36,9 +35,9 @@ returns-else-has_name-clause-reply g c = λ history remembers.
     let missing : Carried = refuses (no_production s.agent.names.words c.args.name) in
     let loaded : false ≡ is_some (rule_named rules c.args.name) =
     sym c.if-has_name.false ∙ c.has_name.ensures ∙ ap (λ (rs : List Rule). list_any (is_named c.args.name) (map rule_seen rs)) c.rules.ensures ∙ sym (any_named c.args.name rules) in
-    subst (λ (carried : Carried). Obeys c.args.self.now.agent.parts.settings.watch c.args.self.now.agent.mid_line (replied_by c.args.origin.now.source.now c.args.origin.now.line s carried)
+    subst (λ (carried : Carried). Responds c.args.self.now.agent.parts.settings.watch c.args.self.now.agent.mid_line (response_by c.args.origin.now.source.now c.args.origin.now.line s carried)
     c.refuse_with.new.self c.args.out.now c.refuse_with.new.out c.refuse_with.result)
     (sym (if_there (rule_named rules c.args.name) gone missing))
-    (subst (λ (b : Bool). Obeys c.args.self.now.agent.parts.settings.watch c.args.self.now.agent.mid_line
-    (replied_by c.args.origin.now.source.now c.args.origin.now.line s (if b then gone else missing)) c.refuse_with.new.self c.args.out.now c.refuse_with.new.out c.refuse_with.result)
+    (subst (λ (b : Bool). Responds c.args.self.now.agent.parts.settings.watch c.args.self.now.agent.mid_line
+    (response_by c.args.origin.now.source.now c.args.origin.now.line s (if b then gone else missing)) c.refuse_with.new.self c.args.out.now c.refuse_with.new.out c.refuse_with.result)
     loaded (c.refuse_with.ensures.reply history remembers))

@@ -2,9 +2,9 @@ use Rattle.std.proofs.Common.{◌++◌, ◌∷◌, [], sym, subst}
 use Rattle.soar_sym.specs.declared.symbol.Triple.{Triple}
 use Rattle.defs_run.specs.Inputs.{with_inputs}
 use Rattle.letter_laws.proofs.GrowthLaws.{given_stay_given}
+use Rattle.soar_agent.specs.Carries.{Obeys}
 use Rattle.soar_agent.specs.Numbered.{IsTripleNumbered}
 use Rattle.soar_agent.specs.States.{session_of}
-use Rattle.soar_agent.specs.Steps.{Obeys}
 use Rattle.soar_agent.proofs.AddingLemmas.{puts_labelled, puts_none}
 use Rattle.soar_agent.proofs.state.Session.put_labelled.Goals as goal
 

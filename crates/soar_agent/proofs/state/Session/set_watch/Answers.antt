@@ -2,8 +2,8 @@ use Rattle.std.proofs.Common.{subst}
 use Rattle.defs_run.specs.Carrying.{with_settings}
 use Rattle.soar_cycle.specs.Settings.{settings_seen}
 use Rattle.soar_cycle.specs.SettingsType.{Settings}
+use Rattle.soar_agent.specs.Carries.{Obeys}
 use Rattle.soar_agent.specs.States.{session_of}
-use Rattle.soar_agent.specs.Steps.{Obeys}
 use Rattle.soar_agent.proofs.state.Session.set_watch.Goals as goal
 
 pub returns-clause-reply : goal.returns-clause-reply

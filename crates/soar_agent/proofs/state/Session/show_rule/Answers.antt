@@ -10,11 +10,11 @@ use Rattle.defs_run.specs.Carrying.{rule_named}
 use Rattle.defs_run.specs.Inputs.{Carried, does, refuses}
 use Rattle.defs_run.specs.Listing.{production_lines}
 use Rattle.defs_run.specs.Orders.{no_production}
-use Rattle.defs_run.specs.Runs.{replied_by}
 use Rattle.defs_run.specs.Sessions.{Session, says}
 use Rattle.session_parts.proofs.RuleLemmas.{named_known}
+use Rattle.soar_agent.specs.Carries.{Responds, response_by}
 use Rattle.soar_agent.specs.States.{session_of}
-use Rattle.soar_agent.specs.Steps.{Obeys}
+use Rattle.soar_agent.specs.declared.outcome.Outcome.TheVariants.{Done}
 use Rattle.soar_agent.proofs.ReplyLemmas.{says_lines, with_kept}
 use Rattle.soar_agent.proofs.state.Session.show_rule.Goals as goal
 
@@ -33,9 +33,9 @@ returns-in_ok-say_production-in-Some-clause-reply g c = λ history remembers.
     let rule : RuleOf = rule_seen c.in-Some.rule.now in
     let found : Some rule ≡ rule_named (map rule_seen c.args.self.now.agent.parts.rules) c.args.name =
     c.in-Some.ensures ∙ ap (λ (rs : List Rule). rule_named (map rule_seen rs) c.args.name) c.rules.ensures in
-    subst (λ (o : Option RuleOf). Obeys c.args.self.now.agent.parts.settings.watch c.args.self.now.agent.mid_line
-    (replied_by c.args.origin.now.source.now c.args.origin.now.line s (elim o as (λ _. Carried) [ None ↦ refuses (no_production s.agent.names.words c.args.name) | Some r ↦ does (says s (production_lines s.agent r)) ]))
-    (with_kept c.set_mid_line.new.self c.args.self.now) c.args.out.now c.say_production.new.out (Ok false))
+    subst (λ (o : Option RuleOf). Responds c.args.self.now.agent.parts.settings.watch c.args.self.now.agent.mid_line
+    (response_by c.args.origin.now.source.now c.args.origin.now.line s (elim o as (λ _. Carried) [ None ↦ refuses (no_production s.agent.names.words c.args.name) | Some r ↦ does (says s (production_lines s.agent r)) ]))
+    (with_kept c.set_mid_line.new.self c.args.self.now) c.args.out.now c.say_production.new.out (Ok Done))
     found
     (says_lines c.args.self.now c.set_mid_line.new.self (production_text c.symbols.result.now rule.production) (production_lines s.agent rule) c.mid_line-mid_line.result c.say_production.new.mid_line history
     c.args.out.now c.say_production.new.out remembers c.requires.ready c.set_mid_line.ensures (ap (λ (words : Texts). production_text words rule.production) c.symbols.ensures) c.mid_line-mid_line.ensures
@@ -46,7 +46,7 @@ returns-in-None-clause-reply g c = λ history remembers.
     let s : Session = session_of c.args.self.now history in
     let missing : None ≡ rule_named (map rule_seen c.args.self.now.agent.parts.rules) c.args.name =
     c.in-None.ensures ∙ ap (λ (rs : List Rule). rule_named (map rule_seen rs) c.args.name) c.rules.ensures in
-    subst (λ (o : Option RuleOf). Obeys c.args.self.now.agent.parts.settings.watch c.args.self.now.agent.mid_line
-    (replied_by c.args.origin.now.source.now c.args.origin.now.line s (elim o as (λ _. Carried) [ None ↦ refuses (no_production s.agent.names.words c.args.name) | Some r ↦ does (says s (production_lines s.agent r)) ]))
+    subst (λ (o : Option RuleOf). Responds c.args.self.now.agent.parts.settings.watch c.args.self.now.agent.mid_line
+    (response_by c.args.origin.now.source.now c.args.origin.now.line s (elim o as (λ _. Carried) [ None ↦ refuses (no_production s.agent.names.words c.args.name) | Some r ↦ does (says s (production_lines s.agent r)) ]))
     c.refuse_with.new.self c.args.out.now c.refuse_with.new.out c.refuse_with.result)
     missing (c.refuse_with.ensures.reply history remembers)

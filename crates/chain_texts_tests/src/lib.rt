@@ -1,5 +1,0 @@
-//! A test of explanations as text.
-#![tactic(auto)]
-
-#[cfg(test)]
-mod tests;

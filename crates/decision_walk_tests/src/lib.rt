@@ -1,5 +1,0 @@
-//! Tests of the walk of a decision, as rows of text.
-#![tactic(auto)]
-
-#[cfg(test)]
-mod tests;

@@ -1,6 +1,0 @@
-use Rattle.std.proofs.Common.{◌≡◌, ◌++◌, map, take}
-use Rattle.soar_wm.specs.WorkingMemory.{triple_of}
-use Rattle.firing_records_tests.proofs.tests.world.fill.Given as goal
-
-abbrev pub invariant-triples : goal.invariant-triples
-invariant-triples l = map triple_of l.memory.elements ≡ map triple_of l.initial.memory.elements ++ take l.triple-index l.triples

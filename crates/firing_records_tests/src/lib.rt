@@ -1,5 +1,0 @@
-//! Tests of how firings are recorded.
-#![tactic(auto)]
-
-#[cfg(test)]
-mod tests;

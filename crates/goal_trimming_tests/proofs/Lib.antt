@@ -1,2 +1,0 @@
-pub mod DoubtLemmas
-pub mod TrackedLemmas

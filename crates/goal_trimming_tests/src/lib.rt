@@ -1,5 +1,0 @@
-//! Tests of `goal_trimming`.
-#![tactic(auto)]
-
-#[cfg(test)]
-mod tests;

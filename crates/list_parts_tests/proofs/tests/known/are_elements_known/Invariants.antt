@@ -1,6 +1,0 @@
-use Rattle.std.proofs.Common.{drop}
-use Rattle.soar_settle.specs.Known.{AreElementsKnown}
-use Rattle.list_parts_tests.proofs.tests.known.are_elements_known.Given as goal
-
-abbrev pub invariant-elements : goal.invariant-elements
-invariant-elements l = AreElementsKnown l.table (drop l.element-index l.elements) → AreElementsKnown l.table l.elements

@@ -1,6 +1,0 @@
-use Rattle.std.proofs.Common.{drop}
-use Rattle.soar_settle.specs.Known.{AreRowsKnown}
-use Rattle.list_parts_tests.proofs.tests.known.are_rows_known.Given as goal
-
-abbrev pub invariant-rows : goal.invariant-rows
-invariant-rows l = AreRowsKnown l.table (drop l.row-index l.rows) → AreRowsKnown l.table l.rows

@@ -1,5 +1,0 @@
-//! Tests of the lists of an agent.
-#![tactic(auto)]
-
-#[cfg(test)]
-mod tests;

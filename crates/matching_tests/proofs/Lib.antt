@@ -1,0 +1,2 @@
+mod NetworkWorldLemmas
+mod WaitingWorldLemmas

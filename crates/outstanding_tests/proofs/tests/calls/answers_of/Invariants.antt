@@ -1,8 +1,0 @@
-use Rattle.outstanding_tests.specs.Worlds.{AreTold}
-use Rattle.outstanding_tests.proofs.tests.calls.answers_of.Given as goal
-
-abbrev pub invariant-calls : goal.invariant-calls
-invariant-calls g l = record {
-  told : AreTold (g.M.Matcher.failed l.matcher) (g.M.Matcher.rules l.matcher) (g.M.Matcher.elements l.matcher) l.world.memory l.world.numbers.items;
-  knows : g.M.Outstanding.knows l.matcher l.fired.live.told;
-}

@@ -1,5 +1,0 @@
-use Rattle.std.proofs.Common.{◌≡◌}
-use Rattle.outstanding_tests.proofs.tests.live.fire.Given as goal
-
-abbrev pub invariant-unfired : goal.invariant-unfired
-invariant-unfired l = l.fired.live.told ≡ l.initial.fired.live.told

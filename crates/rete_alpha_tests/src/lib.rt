@@ -1,5 +1,0 @@
-//! Tests of the pattern memories.
-#![tactic(auto)]
-
-#[cfg(test)]
-mod tests;

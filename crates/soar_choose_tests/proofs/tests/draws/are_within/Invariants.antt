@@ -1,6 +1,0 @@
-use Rattle.std.proofs.Common.{drop}
-use Rattle.soar_choose.specs.Rows.{AreSumsWithin}
-use Rattle.soar_choose_tests.proofs.tests.draws.are_within.Given as goal
-
-abbrev pub invariant-left : goal.invariant-left
-invariant-left l = AreSumsWithin (drop l.scored-index l.left) → AreSumsWithin l.left

@@ -1,5 +1,0 @@
-//! Tests of `soar_goals`.
-#![tactic(auto)]
-
-#[cfg(test)]
-mod tests;

@@ -1,5 +1,0 @@
-//! Tests of levels and of the kind of a firing.
-#![tactic(auto)]
-
-#[cfg(test)]
-mod tests;

@@ -1,5 +1,0 @@
-//! Tests of `soar_prefs`.
-#![tactic(auto)]
-
-#[cfg(test)]
-mod tests;

@@ -1,6 +1,0 @@
-use Rattle.std.specs.Prelude.{IsTrue}
-use Rattle.soar_rule.specs.Below.{cond_below}
-use Rattle.soar_rule_tests.proofs.tests.build.buried.Given as goal
-
-abbrev pub invariant-negations : goal.invariant-negations
-invariant-negations l = IsTrue (cond_below 10 l.cond)

@@ -1,5 +1,0 @@
-//! Tests of productions: their check, copies and the canonical form.
-#![tactic(auto)]
-
-#[cfg(test)]
-mod tests;

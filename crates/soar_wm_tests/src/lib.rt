@@ -1,5 +1,0 @@
-//! Tests of `soar_wm`.
-#![tactic(auto)]
-
-#[cfg(test)]
-mod tests;

@@ -1,5 +1,0 @@
-use Rattle.std.proofs.Common.{◌≡◌, take}
-use Rattle.wave_firings_tests.proofs.tests.world.inputs_of.Given as goal
-
-abbrev pub invariant-triples : goal.invariant-triples
-invariant-triples l = l.inputs ≡ take l.triple-index l.triples

@@ -1,0 +1,5 @@
+use Rattle.std.proofs.Common.{◌≡◌, take}
+use Rattle.wave_tests.proofs.records.world.inputs_of.Given as goal
+
+abbrev pub invariant-triples : goal.invariant-triples
+invariant-triples l = l.inputs ≡ take l.triple-index l.triples
