@@ -1,4 +1,4 @@
-// Whole runs that no case of soar_cases can say: outsides that fail, inputs of 64 MiB, each front of a text.
+// Whole runs that no case of soar_cases can say: outsides that fail, inputs of 64 MiB, each prefix of a text.
 ghost use Rattle.std.specs.Prelude.{◌-◌, ◌^◌, ◌<◌};
 
 use soar_edge::{FineShelf, Sink, Source, Status};
@@ -10,9 +10,9 @@ use std::process::Abort;
 mod counted;
 mod counts;
 mod failing;
-mod fronts;
 mod last_calls;
 mod pieces;
+mod prefixes;
 mod sizes;
 
 /// Runs an input without words and files.
@@ -25,11 +25,12 @@ fn run<I: Source, O: Sink>(alloc: Global, input: &mut I, out: &mut O) -> Status
     run_soar(alloc, &words, input, &mut files, out)
 }
 
+/// Returns the bytes of a text.
 fn bytes_of(rt: &impl Abort, alloc: Global, text: &str) -> List<u8> {
     List::from_slice(alloc, text.as_bytes()).expect(rt, "memory")
 }
 
-/// A list of one number.
+/// Returns a list of one number.
 fn only(rt: &impl Abort, alloc: Global, number: u64) -> List<u64> {
     List::from_slice(alloc, &[number]).expect(rt, "memory")
 }

@@ -30,7 +30,7 @@ pub fn run_case(alloc: Global, case: &str, piece: usize) -> Result<Outcome, Allo
     Ok(Outcome { sink, status })
 }
 
-/// The words of the command line: each stands on a line of its own.
+/// Returns the words of the command line. Each has a line of its own.
 fn words_of(alloc: Global, head: &str) -> Result<Vec<String>, AllocError> {
     let mut words = Vec::new(alloc);
     for line in head.split("\n") {
@@ -41,7 +41,7 @@ fn words_of(alloc: Global, head: &str) -> Result<Vec<String>, AllocError> {
     Ok(words)
 }
 
-/// The files: the text of each stands behind the line with its name.
+/// Returns the files. The text of each follows the line with its name.
 fn files_of(alloc: Global, head: &str) -> Result<List<Filed>, AllocError> {
     let mut files = List::new(alloc);
     for file in head.split("\nfile ").skip(1) {

@@ -5,7 +5,7 @@ use crate::case::{Outcome, run_case};
 use soar_sym::List;
 use std::alloc::{AllocError, Global};
 
-/// The name of a case and what came of it in large pieces, and byte by byte where that is something else.
+/// Returns the name of a case and its outcome in large pieces, and the one byte by byte if that differs.
 pub fn report_of(alloc: Global, case: &str) -> Result<List<u8>, AllocError> {
     let (name, _) = case.split_once("\n").unwrap_or((case, ""));
     let mut report = List::from_slice(alloc, b"case ")?;
@@ -31,7 +31,7 @@ fn add_outcome(report: &mut List<u8>, outcome: &Outcome) -> Result<(), AllocErro
     report.push(b'\n')
 }
 
-/// Adds a line behind a bar, and a last one without its end behind a colon.
+/// Adds a line after a bar, or a last one without its end after a colon.
 fn add_line(report: &mut List<u8>, line: &[u8]) -> Result<(), AllocError> {
     if line.ends_with(b"\n") {
         report.push(b'|')?;

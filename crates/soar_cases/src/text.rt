@@ -2,7 +2,7 @@
 use soar_sym::List;
 use std::alloc::{AllocError, Global};
 
-/// The bytes that lines say. A line `times N` has the next one said N times.
+/// Returns the bytes of the lines of a text. A line `times N` repeats the next one.
 pub fn text_of(alloc: Global, lines: &str) -> Result<List<u8>, AllocError> {
     let mut bytes = List::new(alloc);
     let mut times = 1;
@@ -18,6 +18,7 @@ pub fn text_of(alloc: Global, lines: &str) -> Result<List<u8>, AllocError> {
     Ok(bytes)
 }
 
+/// Adds `said` `times` times.
 fn add_times(bytes: &mut List<u8>, times: u32, said: &[u8]) -> Result<(), AllocError> {
     for _ in 0..times {
         bytes.extend_from_slice(said)?;
@@ -25,7 +26,7 @@ fn add_times(bytes: &mut List<u8>, times: u32, said: &[u8]) -> Result<(), AllocE
     Ok(())
 }
 
-/// The bytes that a line says: behind a bar a line with its end, behind a colon what is no whole line.
+/// Returns the bytes of a line: after a bar a line with its end, after a colon text without one.
 fn bytes_of(alloc: Global, line: &str) -> Result<List<u8>, AllocError> {
     let mut bytes = List::new(alloc);
     if let Some(text) = line.strip_prefix("|") {

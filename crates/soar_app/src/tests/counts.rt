@@ -8,7 +8,7 @@ const LAST_IDENTIFIER: u32 = 4_294_967_295;
 
 const LAST_COUNT: u64 = 18_446_744_073_709_551_615;
 
-/// Whether a letter gives its last number, and then none.
+/// Checks that a letter gives its last number, and then none.
 fn letters_end() -> bool {
     let mut letters = Letters::new();
     letters.starting(b'Q', LAST_IDENTIFIER - 1);
@@ -19,7 +19,7 @@ fn letters_end() -> bool {
         && letters.next(b'R').is_ok()
 }
 
-/// Whether a count reaches its last value, and nothing above.
+/// Checks that a count reaches its last value, and nothing above.
 fn counts_end() -> bool {
     let over = Err(Stop::Limit(Which::Counts));
     count_more(LAST_COUNT - 3, 3) == Ok(LAST_COUNT)

@@ -46,7 +46,7 @@ const READS: &[(&str, usize, u64, u64, Status, &str)] = &[
     (AGENT, 1, 230, 231, Status::Done, SAID),
 ];
 
-/// Whether a run of which one read fails ends and writes as it should.
+/// Checks how a run of which one read fails ends, and what it writes.
 fn ends_at_read(
     rt: &impl Abort,
     alloc: Global,
@@ -101,7 +101,7 @@ const WRITES: &[(usize, u64, Status, usize)] = &[
     (7, 8, Status::Refusals, 41),
 ];
 
-/// Whether a run of which one write fails ends as it should behind a number of bytes of its text.
+/// Checks how a run of which one write fails ends, and how many bytes of its text are written.
 fn ends_at_write(
     rt: &impl Abort,
     alloc: Global,

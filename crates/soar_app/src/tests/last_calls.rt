@@ -78,19 +78,19 @@ fn files(rt: &impl Abort, alloc: Global) -> List<Filed> {
     files
 }
 
-/// Whether `bytes` are the first `count` texts.
+/// Checks that `bytes` are the first `count` texts.
 fn are_texts(bytes: &[u8], count: usize) -> bool {
     let mut rest = bytes;
     for text in TEXTS.iter().take(count) {
         match rest.strip_prefix(text.as_bytes()) {
-            Some(behind) => rest = behind,
+            Some(after) => rest = after,
             None => return false,
         }
     }
     rest.is_empty()
 }
 
-/// Whether a run ends, calls and writes as it should.
+/// Checks how a run ends, how often it calls, and what it writes.
 fn ends(rt: &impl Abort, alloc: Global, end: &(Trouble, Status, u64, u64, u64, usize)) -> bool {
     let (trouble, status, reads, fetches, puts, texts) = *end;
     let words = words(rt, alloc);
@@ -106,7 +106,7 @@ fn ends(rt: &impl Abort, alloc: Global, end: &(Trouble, Status, u64, u64, u64, u
 }
 
 #[test]
-fn nothing_is_called_behind_a_refusal(rt: HostRuntime) {
+fn nothing_is_called_after_a_refusal(rt: HostRuntime) {
     for (number, end) in ENDS.iter().enumerate() {
         assert!(rt; ends(&rt, rt.alloc(), end), "row {number}");
     }

@@ -70,14 +70,14 @@ const TEXTS: &[(u64, &str)] = &[
     (26, "no matches\n"),
 ];
 
-/// Whether some piece ends with each text, and came before the next read.
+/// Checks that some piece ends with each text, and came before the next read.
 fn end_with_texts(sink: &TimedSink<'_>, is_whole: bool) -> bool {
     let mut rest = sink.bytes.as_slice();
     for (read, text) in TEXTS {
-        let Some(behind) = rest.strip_prefix(text.as_bytes()) else {
+        let Some(after) = rest.strip_prefix(text.as_bytes()) else {
             return false;
         };
-        rest = behind;
+        rest = after;
         let reads = if is_whole { 1 } else { *read };
         let end = sink.bytes.len() - rest.len();
         if !sink.pieces.as_slice().contains(&Piece { reads, end }) {
@@ -87,7 +87,7 @@ fn end_with_texts(sink: &TimedSink<'_>, is_whole: bool) -> bool {
     rest.is_empty()
 }
 
-/// Whether the texts come one by one, where a read gives at most `piece` bytes.
+/// Checks that the texts come one by one, if a read gives at most `piece` bytes.
 fn come_one_by_one(rt: &impl Abort, alloc: Global, piece: usize) -> bool
     requires { 0 < piece }
 {

@@ -21,7 +21,7 @@ const INPUTS: &[(usize, &str, Status, &str)] = &[
         Status::Refusals,
         "no matches\nerror 10 -:67108854: unknown command\n",
     ),
-    // One byte more, behind the last newline.
+    // One byte more, after the last newline.
     (
         67_108_848,
         "matches\n ",
@@ -32,7 +32,7 @@ const INPUTS: &[(usize, &str, Status, &str)] = &[
     (67_108_849, "matches\n", Status::TooLong, "no matches\n"),
 ];
 
-/// `matches`, blank lines, and `last`.
+/// Returns `matches`, blank lines, and `last`.
 fn lines_before(rt: &impl Abort, alloc: Global, blank: usize, last: &str) -> List<u8> {
     let mut bytes = List::from_slice(alloc, b"matches\n").expect(rt, "memory");
     for _ in 0..blank / 4096 {
@@ -47,7 +47,7 @@ fn lines_before(rt: &impl Abort, alloc: Global, blank: usize, last: &str) -> Lis
     bytes
 }
 
-/// Whether a run ends and writes as it should.
+/// Checks how a run ends, and what it writes.
 fn ends(alloc: Global, bytes: List<u8>, status: Status, text: &str) -> bool {
     let mut source = FineSource::new(bytes, 65_536);
     let mut sink = FineSink::new(alloc, 65_536);

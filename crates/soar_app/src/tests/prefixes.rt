@@ -1,4 +1,4 @@
-// Each front of the text of an agent, and what is left unread behind `quit`.
+// Each prefix of the text of an agent, and what is left unread after `quit`.
 use crate::tests::{bytes_of, run};
 use soar_edge::{FineSink, FineSource, Source, Status};
 use soar_sym::List;
@@ -20,7 +20,7 @@ sp {hello*apply
    (halt)
 "#;
 
-/// How a run of the first `count` bytes ends, and what it writes. The braces of the first production are the 4th and the
+/// Returns how a run of the first `count` bytes ends, and what it writes. The braces of the first production are the 4th and the
 /// 105th byte, and that of the second is the 110th.
 fn wanted(count: usize) -> (Status, &'static str) {
     match count {
@@ -40,10 +40,10 @@ fn wanted(count: usize) -> (Status, &'static str) {
     }
 }
 
-/// Whether a run of a front ends and writes as it should.
-fn goes(rt: &impl Abort, alloc: Global, front: &[u8]) -> bool {
-    let (status, text) = wanted(front.len());
-    let bytes = List::from_slice(alloc, front).expect(rt, "memory");
+/// Checks how a run of a prefix ends, and what it writes.
+fn goes(rt: &impl Abort, alloc: Global, prefix: &[u8]) -> bool {
+    let (status, text) = wanted(prefix.len());
+    let bytes = List::from_slice(alloc, prefix).expect(rt, "memory");
     let mut source = FineSource::new(bytes, 64);
     let mut sink = FineSink::new(alloc, 64);
     let ended = run(alloc, &mut source, &mut sink);
@@ -62,7 +62,7 @@ fn an_open_production_is_reported_and_nothing_else(rt: HostRuntime) {
     assert!(rt; goes(&rt, rt.alloc(), bytes), "all bytes");
 }
 
-/// The byte behind `quit` in an input that is read byte by byte.
+/// Returns the byte after `quit` in an input that is read byte by byte.
 fn left_by_quit(rt: &impl Abort, alloc: Global) -> Option<u8> {
     let bytes = bytes_of(rt, alloc, "matches\nquit\nfly\n");
     let mut source = FineSource::new(bytes, 1);
