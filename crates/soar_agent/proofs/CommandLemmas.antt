@@ -1,5 +1,6 @@
 -- The words of a command join the table before it is carried out, and what was said is appended.
 use Rattle.std.proofs.Common.{◌≡◌, ◌≢◌, ℕ, ◌-◌, ◌^◌, ◌<◌, Bool, true, false, List, [], ◌∷◌, ◌++◌, length, Result, Ok, Err, refl, sym, ap, subst, ◌∙◌, append-nil}
+use Rattle.std.specs.Prelude.{IfOk}
 use Rattle.soar_sym.specs.Words.{Texts}
 use Rattle.defs_soar.specs.declared.limit.Which.TheVariants as which
 use Rattle.defs_soar.specs.History.{RecordedFiring}
@@ -19,12 +20,13 @@ use Rattle.soar_settle.specs.declared.stop.Stop.{Stop}
 use Rattle.soar_settle.specs.declared.stop.Stop.TheVariants as stop
 use Rattle.soar_agent.specs.Alone.{IsAlone}
 use Rattle.soar_agent.specs.Carries.{Carries, CarriesOut, HasNoCycles, Responds, Response, response_by, with_table}
+use Rattle.soar_cycle.specs.Agents.{standing_after}
 use Rattle.soar_cycle.specs.declared.standing.Standing.{Standing}
 use Rattle.session_parts.specs.Stopping.{SaysStop}
 use Rattle.soar_agent.specs.Commands.{Commands, Outcomes, RefusesTold}
 use Rattle.soar_agent.specs.Outcomes.{HasOutcome, outcome_by, command_outcome, outcome_of_order, outcome_read}
 use Rattle.soar_agent.specs.Running.{run_learning}
-use Rattle.soar_agent.specs.States.{session_of}
+use Rattle.soar_agent.specs.States.{IsReady, IsSoundSession, session_of}
 use Rattle.soar_agent.specs.Steps.{Replied, Stops, written_of}
 use Rattle.soar_agent.specs.Writing.{limit_line}
 use Rattle.soar_agent.specs.declared.outcome.Outcome.{Outcome}
@@ -186,6 +188,13 @@ pub command_left : {M : Type 0} (s : Session) (reply : Reply) (new : SessionKept
 command_left s reply new standing before after (Ok answer) commands = outcome_left s.agent.settings.watch s.mid_line reply new standing before after answer commands
 command_left s reply new standing before after (Err (stop.Limit limit)) commands = commands
 command_left s reply new standing before after (Err stop.NoMemory) commands = commands
+
+-- it is sound behind its answer
+pub sound_left : {M : Type 0} (new : SessionKept M) (before now : Standing) (result : Result Outcome Stop) → now ≡ standing_after before result → IfOk result (λ _. IsReady new)
+    → IsSoundSession (with_standing now new)
+sound_left new before now (Ok answer) is ready = λ stands. ready
+sound_left new before now (Err (stop.Limit limit)) is ready = λ stands. absurd (cc)
+sound_left new before now (Err stop.NoMemory) is ready = λ stands. absurd (cc)
 
 -- ---- a refusal that the caller tells
 

@@ -85,8 +85,7 @@ refused_line s b r number from line history before after remembers ready is numb
     let said : Says (told ∷ []) s.agent.mid_line before false after = (text ∙ ap (λ t. before ++ t) (sym (append-nil (line_text s.agent.mid_line told))), refl) in
     let o = lines_said s b (told ∷ []) false history before after remembers ready is said in (
       ap Refused numbered,
-      record { history = o.history; remembers = o.remembers; session = o.session; within = o.within; text = o.text; refused = refl; kept = o.kept },
-      refl,
+      (record { history = o.history; remembers = o.remembers; session = o.session; within = o.within; text = o.text; refused = refl; kept = o.kept }, refl),
     )
 
 -- no production of a name, where the agent is the same
