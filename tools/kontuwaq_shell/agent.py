@@ -5,7 +5,7 @@ import re
 from .matcher import conditions_of
 from .memory import elements_of, memory_of
 from .productions import NoProduction, read_production
-from .tokens import SYMBOL, barred, unquoted
+from .tokens import SYMBOL, barred, unquoted, word
 
 
 def meaning(name):
@@ -46,9 +46,9 @@ class Agent:
             return ()
 
     def identifier(self, label):
-        """Returns the identifier for which a label stands; None if it has no elements."""
+        """Returns the identifier for which a label stands; a word, which no element has, if it has no elements."""
         element = next(elements_of(self.program.ask("print " + label).text), None)
-        return element.id if element else None
+        return element.id if element else word(label)
 
     def counts(self):
         """Returns the counts of `stats` by name."""

@@ -21,7 +21,7 @@ PRINTED = {
     "-a": "--rules", "--all": "--rules", "-u": "--rules", "--user": "--rules", "-c": "--chunks",
     "-s": "goals", "--stack": "goals",
 }
-IGNORED = {"-i", "--internal", "-f", "--full", "-n", "--names", "--name", "-t", "--tree", "-D"}
+IGNORED = {"-i", "--internal", "-f", "--full", "-n", "--names", "--name", "-t", "--tree"}
 CHUNKING = {"on": "always", "--on": "always", "-e": "always", "off": "never", "--off": "never", "-d": "never"}
 
 # What stands first in the brackets of CLIPS, and the command that it stands for; {} takes the words after it.
@@ -80,7 +80,7 @@ def print_words(name, words):
 
 
 def preference_words(name, words):
-    """The attribute is `operator` if it is left away."""
+    """The attribute is `operator` by default."""
     rest = [word for word in words[1:] if word not in IGNORED]
     return ["preferences", *rest[:1], *([word.lstrip("^") for word in rest[1:]] or ["operator"])]
 
@@ -109,5 +109,5 @@ def bracketed(command):
 
 
 def is_of_clips(command):
-    """Tells whether a command builds something in CLIPS for which there is no one command here."""
+    """Returns whether a command of CLIPS builds something for which this shell has no command."""
     return bool(re.match(rf"\(\s*(?:{'|'.join(UNKNOWN_IN_CLIPS)})\b", command))

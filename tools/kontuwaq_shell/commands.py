@@ -23,7 +23,7 @@ class NotHere(Exception):
 
 
 class Refused(Exception):
-    """The program refused what the command asked of it; carries the answer."""
+    """The program refused a part of the command; carries its answer."""
 
 
 class Commands:
@@ -64,26 +64,33 @@ class Commands:
         if words[:1] != ["-d"]:
             raise NotHere
         _, depth, id = exactly(words, 3)
-        top = self.agent.identifier(id) if id.startswith("<") else views.identifier_named(id)
-        return views.depth_lines(self.agent.memory(), top, number(depth))
+        return views.depth_lines(self.agent.memory(), self.identifier(id), number(depth))
+
+    def identifier(self, text):
+        """Returns the identifier that a word such as s1 or a label stands for."""
+        return self.agent.identifier(text) if text.startswith("<") else views.identifier_named(text)
 
     def find(self, words, _):
-        id = None if not words or words[0].startswith("^") else views.field_symbol(words.pop(0), True)
+        id = words.pop(0) if words and not words[0].startswith("^") else "*"
         if not 1 <= len(words) <= 2 or not words[0].startswith("^"):
             raise WrongWords
-        value = views.field_symbol(words[1], False) if len(words) == 2 else None
-        return views.find_lines(self.agent.memory(), id, views.field_symbol(words[0][1:], False), value)
+        attr, value = [words[0][1:], *words[1:], "*"][:2]
+        return views.find_lines(self.agent.memory(), self.wanted(id, self.identifier), self.wanted(attr, symbol), self.wanted(value, symbol))
+
+    def wanted(self, text, read):
+        """Returns the symbol that a word of a `find` asks for, or None for `*`."""
+        return None if text == "*" else self.identifier(text) if text.startswith("<") else read(text)
 
     def goals(self, words, _):
         exactly(words, 0)
         return views.goal_lines(self.agent.memory())
 
     def counts(self, words, _):
-        names = self.agent.names()
-        counts = {name: self.runner.counts.get(name, 0) for name in names}
         if words == ["clear"]:
             self.runner.counts.clear()
             return []
+        names = self.agent.names()
+        counts = {name: self.runner.counts.get(name, 0) for name in names}
         if words == ["never"]:
             return [name for name in names if not counts[name]] or ["each rule has fired"]
         if words:

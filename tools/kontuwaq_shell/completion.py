@@ -40,7 +40,7 @@ class Completer:
 
     def candidates(self, before, begun, within):
         """Returns the words that go on with `begun` after the text `before` on the line; `within` if a command is still open."""
-        if within or before.lstrip().startswith("sp"):
+        if within or first_word(before.strip()) == "sp":
             return self.in_production(before, begun)
         if not before.strip():
             return starting(begun, self.commands())

@@ -71,7 +71,7 @@ def goals_graph(memory):
 def chunk_graph(production, explanation, conditions):
     """Draws a rule as it was learned: leaves, firings with what they made, results, and the rule itself.
 
-    `conditions` has those of each rule by name, which tell what a firing matched."""
+    `conditions` has the conditions of each rule by name. They show what a firing matched."""
     elements = explanation.elements(conditions)
     lines = [node("rule", production.rstrip("\n").split("\n"))]
     for leaf in explanation.leaves:

@@ -52,7 +52,7 @@ class Explanation:
                 self.results.append(wish[2])
 
     def elements(self, conditions):
-        """Returns the elements by tag: the leaves, and what firings made, as far as the conditions of each rule by name tell."""
+        """Returns the elements by tag: the leaves, and what firings made, as far as the conditions of the rules show."""
         known = {leaf.element.tag: leaf.element for leaf in self.leaves}
         made = []
         for firing in self.firings:

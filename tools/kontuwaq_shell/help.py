@@ -6,6 +6,7 @@ from pathlib import Path
 from typing import NamedTuple
 
 from .aliases import BRACKETS, WORDS, canonical
+from .cuts import first_word
 
 DOCS = Path(__file__).resolve().parents[2] / "docs"
 PAGES = (("the program", "COMMANDS.md"), ("the shell", "SHELL.md"))
@@ -18,8 +19,9 @@ class Entry(NamedTuple):
     forms: tuple
     text: str
 
-    def words(self):
-        return {re.split(r"[ {]", form)[0] for form in self.forms}
+    def word(self):
+        """Returns the word of the command, which its first form begins with."""
+        return first_word(self.forms[0])
 
 
 def rows_of(page, heading):
@@ -44,14 +46,9 @@ def plain(text):
 
 
 def entries_of(page):
-    """Returns the commands that a page describes; a form that begins with `..` ends the one before in another way."""
-    found = []
-    for cells in rows_of(page, "Command"):
-        forms = [form for form in re.findall(r"`([^`]+)`", cells[0])]
-        named = [form for form in forms if not form.startswith("..") and re.match(r"[a-z!]", form)]
-        if named:
-            found.append(Entry(tuple(forms), plain(cells[1])))
-    return found
+    """Returns the commands that a page describes."""
+    rows = [(tuple(re.findall(r"`([^`]+)`", cells[0])), plain(cells[1])) for cells in rows_of(page, "Command")]
+    return [Entry(forms, text) for forms, text in rows if forms]
 
 
 def entries():
@@ -60,7 +57,7 @@ def entries():
 
 def command_words():
     """Returns the first word of each command that the pages describe."""
-    return {word for entry in entries() for word in entry.words()}
+    return {entry.word() for entry in entries()}
 
 
 def paragraph(text, indent="  "):
@@ -81,10 +78,10 @@ def topic_lines(topic):
         return refusal_lines(topic)
     alias = alias_text(topic)
     if alias:
-        return [f"{topic} stands for {alias}"] + topic_lines(re.split(r"[ {]", alias)[0])
+        return [f"{topic} stands for {alias}"] + topic_lines(first_word(alias))
     lines = []
     for entry in entries():
-        if topic in entry.words():
+        if topic == entry.word():
             lines += [", ".join(entry.forms), *paragraph(entry.text)]
     return lines or [f"no help on {topic}; `help` lists the commands"]
 

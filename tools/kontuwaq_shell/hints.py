@@ -1,18 +1,22 @@
-"""Hints: what loads or runs without a refusal and is probably not what was meant. Each is a line that begins `hint:`."""
+"""Hints: lines about what passes without a refusal and is probably a mistake."""
 
 import re
 from difflib import get_close_matches
+from typing import NamedTuple
 
 from .cuts import words_of
 from .productions import Braces, Call, NoProduction, Variable, read_production
 from .tokens import Symbol, tokens
 
+# A production without any of these has no hint: a relation, a plus before a value, a word of signs. Most are skipped so.
+SUSPECT = re.compile(r"(?<=\s)(?:<>|<=>|<=|>=|<|>)(?=\s)|(?<!\()\+\s+[<+\-0-9]|(?<=\s)(?:[-+*/=]{2,}|[*/])(?=[\s)])")
 
-class Hint:
+
+class Hint(NamedTuple):
     """A hint on a place of a command."""
 
-    def __init__(self, place, text):
-        self.place, self.text = place, text
+    place: int
+    text: str
 
     def line(self, command, first, source):
         """Returns the hint as a line, with the line and the column in the source of the command."""
@@ -23,6 +27,8 @@ class Hint:
 
 def hints_on_production(command):
     """Returns the hints on a production that loads."""
+    if not SUSPECT.search(command):
+        return []
     try:
         production = read_production(command)
     except NoProduction:
@@ -41,7 +47,7 @@ def hints_on_part(part, command):
 
 
 def hints_on_attribute(attribute, command):
-    """Returns the hint on several values of which one is a relation, or of which one has a mark by mistake."""
+    """Returns the hint on several values if one is a relation, or has a mark that looks like a sum."""
     if len(attribute.values) < 2:
         return []
     said = command[attribute.start:attribute.end]

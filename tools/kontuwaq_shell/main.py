@@ -12,7 +12,7 @@ from .terminal import Terminal
 
 TOP = Path(__file__).resolve().parents[2]
 USAGE = "usage: tools/shell [--echo] [--watch N] [FILE]..."
-STATUS_USAGE, STATUS_INTERRUPTED = 2, 130
+STATUS_USAGE, STATUS_NO_PROGRAM, STATUS_INTERRUPTED = 2, 127, 130
 
 
 class Options:
@@ -49,19 +49,27 @@ def main(words):
         return STATUS_USAGE
     sys.stdout.reconfigure(errors="surrogateescape")
     interrupts, screen = Interrupts(), Screen()
-    session = Session(program_words() + options.words, screen, interrupts)
-    terminal = Terminal(screen, session.completer, options.echo)
+    try:
+        session = Session(program_words() + options.words, screen, interrupts)
+    except OSError as fault:
+        print(f"{fault.filename}: {fault.strerror}", file=sys.stderr)
+        return STATUS_NO_PROGRAM
+    return hold(session, options, interrupts)
+
+
+def hold(session, options, interrupts):
+    """Holds a session from the files of the command line to the end of the input, and returns its status."""
+    terminal = Terminal(session.screen, session.completer, options.echo)
     if terminal.keyboard:
         interrupts.install(session.program.kill)
     try:
         session.start(options.watch, options.files)
         talk(session, terminal)
-    except KeyboardInterrupt:
+    except (KeyboardInterrupt, BrokenPipeError):
         session.program.kill()
         return STATUS_INTERRUPTED
     finally:
         terminal.close()
-        screen.end_line()
     return session.close()
 
 
@@ -74,4 +82,6 @@ def talk(session, terminal):
         try:
             session.obey(cut)
         except KeyboardInterrupt:
+            if not terminal.keyboard:
+                raise
             session.screen.line("interrupted")

@@ -69,7 +69,7 @@ def symbol_at(operand, bindings):
 
 
 def stands(relation, left, right):
-    """Tells whether two symbols stand in a relation; an order holds between integers alone."""
+    """Returns whether two symbols stand in a relation; an order holds between integers alone."""
     if relation == "<>":
         return left != right
     if relation == "<=>":
@@ -81,7 +81,7 @@ def stands(relation, left, right):
 
 
 def holds(test, symbol, bindings):
-    """Tells whether a symbol passes a test; a variable that nothing binds takes any symbol."""
+    """Returns whether a symbol passes a test; a variable that nothing binds takes any symbol."""
     if test.relation == "<<":
         return symbol in test.operands
     other = symbol_at(test.operands[0], bindings)

@@ -3,11 +3,12 @@
 from difflib import SequenceMatcher
 from typing import NamedTuple
 
-from .matcher import bind, holds, symbol_at
+from .matcher import bind, holds, known, symbol_at
 from .productions import Variable
 
 # An element with the right attribute and another value is closer than one whose attribute differs much.
 LEAST_OF_VALUES = 0.6
+MOST_TESTED = 100_000
 
 
 class Failure(NamedTuple):
@@ -89,14 +90,29 @@ def failures(pattern, element, bindings, memory):
     return found
 
 
+def candidates(pattern, bindings, memory):
+    """Returns elements among which are all that fail exactly one test: such an element passes the identifier or the attribute."""
+    attr = known(pattern.attr, bindings)
+    id = known(pattern.id, bindings)
+    if attr is None or id is None and not pattern.state:
+        return memory.elements
+    ids = memory.goals if id is None else [id]
+    return [element for one in ids for element in memory.select(one)] + memory.select(attr=attr)
+
+
 def nearest(pattern, rows, memory):
     """Returns the elements that fail exactly one test of a pattern after one of the rows, the closest first."""
-    best = {}
+    best, tested = {}, 0
     for row in rows:
-        for element in memory.elements:
+        for element in candidates(pattern, row.bindings, memory):
             failed = failures(pattern, element, row.bindings, memory)
-            if len(failed) == 1:
-                near = Near(element, failed[0])
-                if element not in best or best[element].failure.closeness < near.failure.closeness:
-                    best[element] = near
+            if len(failed) == 1 and (element.tag not in best or best[element.tag].failure.closeness < failed[0].closeness):
+                best[element.tag] = Near(element, failed[0])
+            tested += 1
+            if tested > MOST_TESTED:
+                return in_order(best)
+    return in_order(best)
+
+
+def in_order(best):
     return sorted(best.values(), key=lambda near: (-near.failure.closeness, near.element.tag))

@@ -1,4 +1,4 @@
-"""The program behind two pipes."""
+"""The program as a process, with a pipe to it and a pipe from it."""
 
 import re
 import subprocess
@@ -74,7 +74,7 @@ class Program:
 
 
 def end_message(status):
-    """Returns the line that tells why the program ended by itself, or None for a regular end."""
+    """Returns why the program ended by itself, as a line, or None for a regular end."""
     if status in (0, 1):
         return None
     return f"the program has ended with status {status}: {STATUSES.get(status, 'it was stopped from outside')}"

@@ -4,12 +4,14 @@ import re
 import unicodedata
 from typing import NamedTuple
 
-from .cuts import cuts, extent
+from .cuts import BLANKS, extent
 from .productions import Braces, NoProduction, read_production
-from .tokens import Symbol, tokens
+from .tokens import Symbol, tokens, word
 
 REFUSAL = re.compile(r"^error ([1-4][0-9]) (.+):([0-9]+): (.+)$")
 UNFINISHED, UNCONNECTED = 11, 22
+# A command of more lines has its caret at its beginning.
+MOST_LINES = 2000
 NAMING = re.compile("(?:unbound variable|unknown identifier|no production|not a learned rule|no element|not an input element|no file) (.+)")
 WITH_BYTE = re.compile(r" at byte ([0-9]+)$")
 
@@ -51,7 +53,7 @@ def place_in(command, refusal):
 
 
 def place_of_name(command, text):
-    """Returns the place of what a refusal's text names; 0 if it names nothing, or the command does not have it."""
+    """Returns the place of what a refusal's text names; 0 if there is none."""
     named = NAMING.match(text)
     if not named:
         return 0
@@ -107,8 +109,9 @@ def places_of_comparisons(production):
     """Yields the place of each value of an ordinary attribute with a preference that operators alone have."""
     for make in (make for action in production.actions for make in action.makes):
         for item in make.items:
-            ordinary = isinstance((make.path or (make.attribute,))[-1], Symbol) and str((make.path or (make.attribute,))[-1]) != "operator"
-            if ordinary and any(sign not in "+-" for sign, _ in item.preferences):
+            last = (make.attribute, *make.path)[-1]
+            compares = any(sign not in "+-" for sign, _ in item.preferences)
+            if compares and isinstance(last, Symbol) and last != word("operator"):
                 yield item.start
 
 
@@ -130,7 +133,7 @@ def padding(text):
 
 
 def caret_lines(line, text, place):
-    """Returns the line of a text that has a place, and below it a caret with the column; the first line has a number."""
+    """Returns the line of a text around a place, and a caret below the place; `line` is the number of the first line."""
     start = text.rfind("\n", 0, place) + 1
     end = text.find("\n", place)
     number = str(line + text.count("\n", 0, place))
@@ -138,18 +141,16 @@ def caret_lines(line, text, place):
     return [f"  {number} | {source}", f"  {' ' * len(number)} | {padding(text[start:place])}^ column {place - start + 1}"]
 
 
-def shown(refusal, line, text, start):
-    """Returns the caret for a refusal of the command that begins at the character `start` of `text`, on a line."""
-    return caret_lines(line, text, start + place_in(text[start:], refusal))
+def shown(refusal, command):
+    """Returns the caret below the place of a refusal in its command, which begins on the refusal's line."""
+    return caret_lines(refusal.line, command, place_in(command, refusal))
 
 
-def shown_in_file(refusal, text):
-    """Returns the caret for a refusal of a command of a file, or nothing if no command begins on its line."""
-    lines = text.split("\n")
+def shown_in_file(refusal, lines):
+    """Returns the caret for a refusal of a command of a file with these lines; nothing if the file has no such line."""
     if not 0 < refusal.line <= len(lines):
         return []
-    start = sum(len(line) + 1 for line in lines[:refusal.line - 1])
-    start += len(lines[refusal.line - 1]) - len(lines[refusal.line - 1].lstrip())
-    first = next(cuts(text[start:]), None)
-    end = start + len(first.text) if first else len(text)
-    return shown(refusal, 1, text[:end], start)
+    text = "\n".join(lines[refusal.line - 1:refusal.line - 1 + MOST_LINES])
+    start = len(text) - len(text.lstrip(BLANKS))
+    end = extent(text, start)[0]
+    return caret_lines(refusal.line, text[:end], start + place_in(text[start:end], refusal))

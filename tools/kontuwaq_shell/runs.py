@@ -10,13 +10,13 @@ from .trace import SEEN, Trace
 
 HALTED = 37
 HALT = "the agent has halted"
-# A piece of cycles doubles as long as it takes less time than this, so Ctrl-C waits little longer.
+# Pieces grow as long as each takes less time than this, so Ctrl-C waits little longer.
 PIECE_SECONDS = 0.1
 LARGEST_PIECE = 4096
 
 
 class Runner:
-    """Runs the agent, counts firings by rule, and knows the watch level that the user sees."""
+    """Runs the agent, counts firings by rule, and keeps the watch level of the user."""
 
     def __init__(self, program, screen, interrupts):
         self.program, self.screen, self.interrupts = program, screen, interrupts
@@ -85,7 +85,7 @@ class Runner:
     # ---- texts of rules
 
     def ends_line(self, name):
-        """Tells whether the last text that a rule writes ends its line, as far as its production shows it."""
+        """Returns whether the last text that a rule writes ends its line, as far as its production shows."""
         if name not in self.endings:
             self.endings[name] = ends_line(self.program.ask("print " + barred(str(symbol(name).value))).text)
         return self.endings[name]
@@ -101,7 +101,7 @@ def is_halted(answer):
 
 
 def ends_line(text):
-    """Tells of a printed production whether the last value that it writes is or ends with a newline."""
+    """Returns whether the last value that a printed production writes ends with a newline."""
     try:
         actions = read_production(text).actions
     except NoProduction:

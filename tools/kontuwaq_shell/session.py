@@ -1,4 +1,4 @@
-"""A session: each command goes to the shell or to the program, and what comes back is shown with carets and hints."""
+"""A session: hands each command to the shell or to the program, and shows the answer with carets and hints."""
 
 import re
 
@@ -8,18 +8,18 @@ from .aliases import canonical, is_of_clips
 from .commands import Commands, NotHere, Refused, WrongWords
 from .completion import Completer
 from .cuts import Cut, extent, first_word, rest_of
-from .files import Sourced, fault_of, faults, sourced, text_of
+from .files import Sourced, faults, sourced, text_of
 from .help import entries
 from .program import Program, end_message
 from .refusals import UNFINISHED, Refusal, refusal_of, shown, shown_in_file
 from .runs import Runner
 
-UNKNOWN, WRONG_WORDS, UNKNOWN_IDENTIFIER = 10, 30, 31
-LABELLED = {"add-wme", "input", "preferences", "print"}
+UNKNOWN, WRONG_WORDS = 10, 30
+LABELLING = {"add-wme", "input"}
 
 
 class Session:
-    """The program, what is known of it, and the screen."""
+    """The program, what the shell knows about it, and the screen."""
 
     def __init__(self, words, screen, interrupts):
         self.screen = screen
@@ -74,13 +74,15 @@ class Session:
         answer = self.program.ask(cut.text)
         refused = self.show(answer, cut)
         self.learn(read, refused)
-        self.hint_on(cut, refused)
+        if first_word(cut.text) == "print":
+            hint = hints.hint_on_print(cut.text, self.labels, self.agent.has_rule)
+            self.screen.lines([hint] if hint else [])
 
     # ---- answers
 
     def show(self, answer, cut):
-        """Shows an answer with the refusals on their places, and returns the source and line of each refused command."""
-        refused = set()
+        """Shows an answer, each refusal with a caret; returns the source and the line of each refused command."""
+        refused, texts = set(), {}
         for line in answer.text.split("\n")[:-1]:
             refusal = refusal_of(line)
             if refusal is None:
@@ -90,23 +92,28 @@ class Session:
                 self.refuse(refusal._replace(line=cut.line), cut.text)
             else:
                 refused.add((refusal.source, refusal.line))
-                self.refuse(refusal, None)
+                self.refuse_in_file(refusal, texts)
         return refused
 
     def refuse(self, refusal, command):
-        """Shows a refusal with its source line and a caret; the command is None if it stands in a file."""
+        """Shows a refusal of a command that was typed, with a caret below its place, and a hint on what to write."""
         self.refused = True
         self.screen.line(str(refusal))
-        if command is None:
-            self.screen.lines(shown_in_file(refusal, text_of(refusal.source) or ""))
-        elif command:
-            self.screen.lines(shown(refusal, refusal.line, command, 0))
-        if command and refusal.number == WRONG_WORDS:
+        self.screen.lines(shown(refusal, command))
+        if refusal.number == WRONG_WORDS:
             self.screen.lines(forms_hint(first_word(command)))
-        if command and refusal.number == UNKNOWN:
+        if refusal.number == UNKNOWN:
             hint = "hint: docs/FROM-CLIPS.md says what to write here" if is_of_clips(command) else \
                 hints.hint_on_word(first_word(command), self.completer.commands())
             self.screen.lines([hint] if hint else [])
+
+    def refuse_in_file(self, refusal, texts):
+        """Shows a refusal of a command of a file; `texts` has the files that were read for this answer."""
+        self.refused = True
+        self.screen.line(str(refusal))
+        if refusal.source not in texts:
+            texts[refusal.source] = (text_of(refusal.source) or "").split("\n")
+        self.screen.lines(shown_in_file(refusal, texts[refusal.source]))
 
     # ---- what commands change
 
@@ -125,17 +132,8 @@ class Session:
             elif word == "init-soar":
                 self.labels.clear()
                 self.runner.counts.clear()
-            elif word in LABELLED and source != "-":
+            elif word in LABELLING:
                 self.labels |= hints.labels_of(cut.text)
-
-    def hint_on(self, cut, refused):
-        """Gives the hint on a `print`, and keeps the labels of a command that was typed."""
-        word = first_word(cut.text)
-        if word == "print" and (not refused or not rest_of(cut.text).startswith("<")):
-            hint = hints.hint_on_print(cut.text, self.labels, self.agent.has_rule)
-            self.screen.lines([hint] if hint else [])
-        if word in LABELLED and not refused:
-            self.labels |= hints.labels_of(cut.text)
 
     # ---- the end
 
@@ -150,5 +148,5 @@ class Session:
 
 def forms_hint(word):
     """Returns a hint with the forms of a command."""
-    forms = [form for entry in entries() if word in entry.words() for form in entry.forms]
+    forms = [form for entry in entries() if word == entry.word() for form in entry.forms]
     return [f"hint: {'its form is' if len(forms) == 1 else 'its forms are'} {', '.join(forms)}"] if forms else []

@@ -40,6 +40,8 @@ class Terminal:
             try:
                 said = self.read("".join(text[place] for place in opened)[-4:].rjust(4) + "> " if opened else PROMPT)
             except KeyboardInterrupt:
+                if not self.keyboard:
+                    raise
                 self.screen.write("\n")
                 text, first = "", self.line + 1
                 continue
@@ -47,8 +49,7 @@ class Terminal:
                 return cut(first, text) if text else None
             self.line += 1
             if opened and text[opened[-1]] == "{" and first_word(said) in self.completer.commands():
-                self.screen.line(f"hint: {first_word(said)} is inside the {{ that line {first + text.count(chr(10), 0, opened[-1])} opens; "
-                                 "close it, or leave the command by Ctrl-C")
+                self.screen.line(swallowed(first_word(said), first + text.count("\n", 0, opened[-1])))
             text = f"{text}\n{said}" if text else said
             if not text.strip(BLANKS) or re.fullmatch(r"\s*#[^\n]*", text):
                 text, first = "", self.line + 1
@@ -75,7 +76,7 @@ class Terminal:
     def prepare(self):
         readline.set_completer_delims(" \t\n(){}^")
         readline.set_completer(self.complete)
-        readline.parse_and_bind("tab: complete")
+        readline.parse_and_bind("bind ^I rl_complete" if "libedit" in (readline.__doc__ or "") else "tab: complete")
         readline.set_history_length(LONGEST_HISTORY)
         try:
             readline.read_history_file(self.history)
@@ -96,7 +97,12 @@ class Terminal:
                 pass
 
 
+def swallowed(word, line):
+    """Returns the hint on a command inside a brace that a line opened."""
+    return f"hint: {word} is inside the {{ that line {line} opens; close it, or leave the command by Ctrl-C"
+
+
 def cut(first, text):
-    """Returns a command that was typed from a line on; its first character says on which line it begins."""
+    """Returns the command in a text that was typed from the line `first` on."""
     blanks = len(text) - len(text.lstrip(BLANKS))
     return Cut(first + text.count("\n", 0, blanks), text[blanks:])

@@ -1,6 +1,7 @@
 """Tokens of the language, and symbols: the identifiers, integers and words of working memory."""
 
 import re
+from functools import lru_cache
 from typing import NamedTuple
 
 RUN = r"[A-Za-z0-9$%&*+\-/:<=>?_]+"
@@ -66,7 +67,7 @@ def has_identifier_form(text):
 
 
 def stands_bare(text):
-    """Tells whether a word needs no bars."""
+    """Returns whether a word needs no bars."""
     return bool(re.fullmatch(RUN, text)) and run_kind(text) == "bare" and not has_identifier_form(text)
 
 
@@ -111,6 +112,7 @@ def constant(token):
     return integer(int(token.text)) if token.kind == "integer" else word(token.text)
 
 
+@lru_cache(1 << 16)
 def symbol(text):
     """Returns the symbol that the program prints as `text`."""
     if text.startswith("|"):

@@ -1,4 +1,4 @@
-"""The trace of runs: what each line tells, and which lines a watch level shows.
+"""The trace of runs: the event that each line reports, and the lines that a watch level shows.
 
 The shell runs the program at watch level 3 or above, so that it sees each firing, and shows the level that the user asked for."""
 
@@ -28,10 +28,10 @@ LINES = {
 
 
 class Event(NamedTuple):
-    """What a line of the trace tells: a `fire` of a rule, a `select` of an operator, an `impasse`, a `halt`.
+    """What a line of the trace reports: a `fire` of a rule, a `select` of an operator, an `impasse`, a `halt`.
 
-    `subject` is the rule, the operator or the substate, `name` the operator's name or the impasse's kind, `number` that of the firing
-    or of the cycle."""
+    `subject` is the rule, the operator or the substate. `name` is the operator's name or the impasse's kind. `number` is that of
+    the firing or of the cycle."""
 
     kind: str
     subject: str = ""
@@ -50,8 +50,8 @@ class Shown(NamedTuple):
 class Trace:
     """Reads the trace of one run, piece by piece.
 
-    `ends_line` tells of a rule's name whether what the rule writes ends its line. If not, the program began a new line for the
-    trace alone; on the level of the user that line of the trace may be missing, and the text goes on."""
+    `ends_line` returns whether what a rule writes ends its line. If not, the program began a new line only for a line of the
+    trace. The level of the user may leave that line out, and then the text goes on."""
 
     def __init__(self, ends_line):
         self.ends_line = ends_line
@@ -59,7 +59,7 @@ class Trace:
         self.writer = None
 
     def read(self, text, watch):
-        """Returns the events of a piece, and the lines to show of it at a watch level."""
+        """Returns the events of a piece, and the lines that a watch level shows."""
         events, shown = [], []
         lines = text.split("\n")
         if lines[-1] == "":
@@ -77,13 +77,13 @@ class Trace:
         return events, shown
 
     def level_of(self, line):
-        """Returns the watch level of a line; None if it is no line of the trace, as a text or a refusal."""
+        """Returns the watch level of a line; None for a text of a rule, and for a refusal."""
         if PART.fullmatch(line):
             return 2
         return next((level for level, form in LINES[self.part] if form.match(line)), None)
 
     def event_of(self, line):
-        """Returns the event that a line of the trace tells, or None, and follows the parts of the cycle."""
+        """Returns the event that a line of the trace reports, or None; follows the parts of the cycle."""
         part = PART.fullmatch(line)
         if part:
             self.part, self.writer = part[1], None

@@ -1,7 +1,7 @@
 """Views of working memory: an identifier with what it leads to, elements by attribute, the stack of goals."""
 
 from .memory import order
-from .tokens import identifier, symbol
+from .tokens import identifier
 
 
 def depth_lines(memory, top, depth):
@@ -32,13 +32,6 @@ def find_lines(memory, id, attr, value):
     """Returns the elements with an identifier, an attribute and a value, each of which may be None."""
     found = [one for one in memory.select(id, attr) if value is None or one.value == value]
     return [one.line() for one in found] or ["no elements"]
-
-
-def field_symbol(text, is_id):
-    """Returns the symbol that a word of the prompt stands for, or None for `*`; as an identifier s1 is S1."""
-    if text == "*":
-        return None
-    return identifier_named(text) if is_id else symbol(text)
 
 
 def identifier_named(text):

@@ -8,7 +8,6 @@ from .productions import NoProduction, Variable, read_production
 
 SHOWN = 5
 CLOSE = 0.6
-MOST_TESTED = 2_000_000
 
 
 def why_lines(text, memory):
@@ -51,7 +50,7 @@ def obstacle_lines(condition, rows, memory):
     known = f", where {bindings_text(condition, rows[0])}" if len(rows) == 1 and bindings_text(condition, rows[0]) else ""
     if condition.negated:
         return [f"in the way of {condition.text}{known}:"] + blocking_lines(condition, rows, memory)
-    found = nearest(condition.pattern, rows[:MOST_TESTED // len(memory.elements) + 1], memory)
+    found = nearest(condition.pattern, rows, memory)
     if not found:
         return [f"no element fails one test alone of {condition.text}{known}"] + attribute_lines(condition.pattern, memory)
     shown = [near for near in found if near.failure.closeness >= CLOSE][:SHOWN] or found[:SHOWN]

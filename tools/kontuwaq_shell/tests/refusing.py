@@ -3,8 +3,10 @@
 import unittest
 
 from ..aliases import canonical
+from ..completion import Completer
 from ..cuts import cuts, extent, words_of
 from ..hints import hints_on_production
+from ..memory import memory_of
 from ..refusals import refusal_of, shown, shown_in_file
 
 RULE = "sp {a\n   (state <s> ^a <x> ^b <y>)\n   (<x> ^c 1 2)\n   -{(<y> ^d 1)}\n   (<z> ^e 3)\n   -->\n   (<s> ^f (+ <w> 1) ^g <x> >)}"
@@ -31,12 +33,12 @@ class Carets(unittest.TestCase):
         for line, command, wanted in PLACES:
             with self.subTest(line):
                 refusal = refusal_of(line)
-                self.assertEqual(shown(refusal, refusal.line, command, 0), wanted)
+                self.assertEqual(shown(refusal, command), wanted)
 
     def test_a_file_is_shown_from_the_first_byte_of_the_command(self):
-        text = "# a file\n\n  sp {a\n   <x>+}\nrun 1\n"
-        self.assertEqual(shown_in_file(refusal_of("error 12 a.soar:3: bad byte at byte 12"), text), ["  4 |    <x>+}", "    |       ^ column 7"])
-        self.assertEqual(shown_in_file(refusal_of("error 12 a.soar:9: bad byte at byte 12"), text), [])
+        lines = ["# a file", "", "  sp {a", "   <x>+}", "run 1", ""]
+        self.assertEqual(shown_in_file(refusal_of("error 12 a.soar:3: bad byte at byte 12"), lines), ["  4 |    <x>+}", "    |       ^ column 7"])
+        self.assertEqual(shown_in_file(refusal_of("error 12 a.soar:9: bad byte at byte 12"), lines), [])
 
     def test_a_text_of_a_rule_is_no_refusal(self):
         for line in ("error", "error 99 -:1: x", "an error 12 -:1: x", "error 12 of many"):
@@ -79,6 +81,15 @@ class Commands(unittest.TestCase):
 
     def test_words_keep_bars_together(self):
         self.assertEqual(words_of("print |a  b| # c"), ["print", "|a  b|"])
+
+    def test_words_are_completed(self):
+        completer = Completer(lambda: ["lamp*on", "lamp*off", "rest"], lambda: memory_of("1: (S1 ^io I1)\n2: (I1 ^input-link I2)\n"))
+        for before, begun, within, wanted in (
+                ("", "matc", False, ["matches"]), ("why ", "lamp", False, ["lamp*off", "lamp*on"]), ("print ", "--r", False, ["--rules"]),
+                ("find ", "S", False, ["S1"]), ("find ^", "inp", False, ["input-link"]), ("   (<s> ^", "io.in", True, ["io.input-link"]),
+                ("sp {a ", ":o", True, [":o-support"]), ("source ", "tools/sh", False, []), ("help ", "unb", False, ["unbreak"])):
+            found = completer.candidates(before, begun, within)
+            self.assertEqual([name for name in found if not name.startswith("tools/")], wanted, before + begun)
 
     def test_words_of_soar_and_clips(self):
         for said, wanted in (

@@ -141,6 +141,14 @@ class Sessions(unittest.TestCase):
             "error 37 -:12: halted", "  12 | run 1", "     | ^ column 1", ""])
         self.assertEqual(status, 1)
 
+    def test_what_would_end_the_program_is_not_sent(self):
+        with tempfile.TemporaryDirectory() as folder:
+            Path(folder, "outer.soar").write_text(f"sp {{a (state <s>) --> (<s> ^b 1)}}\nsource {folder}\n")
+            ends = f"hint: {folder} is a folder, and the program would end with status 6\n"
+            self.assertEqual(shell("", folder), (ends, 2))
+            said, status = shell(f"source {folder}/outer.soar\nprint --rules\n")
+            self.assertEqual((said, status), (ends.replace(folder, f"{folder}/outer.soar:2: {folder}", 1) + "no rules\n", 1))
+
     def test_drawings_and_the_log_are_written(self):
         with tempfile.TemporaryDirectory() as folder:
             said, _ = shell(f"log {folder}/log\nadd-wme S1 ^box <b>\nadd-wme <b> ^size 3\ndraw wm {folder}/wm\ndraw goals {folder}/goals.dot\nlog off\n", "--echo")

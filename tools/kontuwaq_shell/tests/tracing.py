@@ -1,4 +1,4 @@
-"""What the trace of level 3 shows at the level of the user, and the events that it tells."""
+"""What the trace of level 3 shows at the level of the user, and the events that it reports."""
 
 import unittest
 
@@ -60,12 +60,12 @@ class Traces(unittest.TestCase):
         self.assertEqual(shown(0, False)[0], "onehalt\n")
         self.assertEqual(shown(2, False)[0].split("\n")[2:4], ["onehalt", "-- decision"])
 
-    def test_events_are_told(self):
+    def test_events_are_reported(self):
         self.assertEqual(shown(0, True)[1], [
             Event("fire", "go*propose", "", 1), Event("fire", "say", "", 2), Event("fire", "say", "", 3), Event("select", "O1", "go away", 1),
             Event("fire", "|go on|", "", 4), Event("halt")])
 
-    def test_a_production_tells_whether_it_ends_its_line(self):
+    def test_a_production_shows_whether_it_ends_its_line(self):
         rule = "sp {a\n    (state <s> ^a <x>)\n    -->\n    %s\n}\n"
         for action, wanted in (("(write |a| (crlf))", True), ("(write (crlf) |a|)", False), ("(write |a\n|)", True), ("(<s> ^b 1 +)", True),
                                ("(write (crlf))\n    (write <x>)", False)):
