@@ -1,0 +1,1 @@
+"""The shell of tools/shell: it drives the program through two pipes."""

@@ -1,0 +1,128 @@
+"""Hints: lines about what passes without a refusal and is probably a mistake."""
+
+import re
+from difflib import get_close_matches
+from typing import NamedTuple
+
+from .cuts import words_of
+from .productions import Braces, Call, NoProduction, Variable, read_production
+from .tokens import Symbol, tokens
+
+# A production without any of these has no hint: a relation, a plus before a value, a word of signs. Most are skipped so.
+SUSPECT = re.compile(r"(?<=\s)(?:<>|<=>|<=|>=|<|>)(?=\s)|(?<!\()\+\s+[<+\-0-9]|(?<=\s)(?:[-+*/=]{2,}|[*/])(?=[\s)])")
+
+
+class Hint(NamedTuple):
+    """A hint on a place of a command."""
+
+    place: int
+    text: str
+
+    def line(self, command, first, source):
+        """Returns the hint as a line, with the line and the column in the source of the command."""
+        before = command[:self.place]
+        line, column = first + before.count("\n"), len(before) - before.rfind("\n")
+        return f"hint: {'' if source == '-' else source + ', '}line {line}, column {column}: {self.text}"
+
+
+def hints_on_production(command):
+    """Returns the hints on a production that loads."""
+    if not SUSPECT.search(command):
+        return []
+    try:
+        production = read_production(command)
+    except NoProduction:
+        return []
+    found = [hint for part in production.parts for hint in hints_on_part(part, command)]
+    found += [hint for action in production.actions for make in action.makes for hint in hints_on_make(make)]
+    return found + hints_on_words(command)
+
+
+# ---- conditions
+
+def hints_on_part(part, command):
+    if isinstance(part, Braces):
+        return [hint for inner in part.parts for hint in hints_on_part(inner, command)]
+    return [hint for attribute in part.attributes for hint in hints_on_attribute(attribute, command)]
+
+
+def hints_on_attribute(attribute, command):
+    """Returns the hint on several values if one is a relation, or has a mark that looks like a sum."""
+    if len(attribute.values) < 2:
+        return []
+    said = command[attribute.start:attribute.end]
+    place, count = attribute.values[1].field.start, len(attribute.values)
+    if any(is_bare_relation(value.field) for value in attribute.values):
+        together = command[attribute.values[0].field.start:attribute.end]
+        return [Hint(place, f"{said} asks for {count} elements; for one value that passes all tests write {{ {together} }}")]
+    if any(value.accepts for value in attribute.values[:-1]) and "operator" not in said:
+        return [Hint(place, f"{said} asks for {count} elements, and + is the mark of a candidate; an action computes")]
+    return []
+
+
+def is_bare_relation(field):
+    return not field.braced and field.tests[0].relation not in ("", "<<")
+
+
+# ---- actions
+
+def hints_on_make(make):
+    """Returns hints on `^y <x> + 1`, which makes two values."""
+    return [Hint(left.start, f"this makes two values, {left.value} and {right.value}; a sum is (+ {left.value} {right.value})")
+            for left, right in zip(make.items, make.items[1:]) if looks_like_sum(left, right)]
+
+
+def looks_like_sum(left, right):
+    if isinstance(left.value, Call) or left.preferences != (("+", None),) or right.preferences:
+        return False
+    return isinstance(right.value, Variable) or isinstance(right.value, Symbol) and right.value.kind == "integer"
+
+
+# ---- words
+
+def hints_on_words(command):
+    """Returns hints on bare words of signs, such as `+=`, but for functions and for what is written."""
+    found, brackets, before = [], [], None
+    for token in tokens(command):
+        if token.is_mark("("):
+            brackets.append("")
+        elif token.is_mark(")") and brackets:
+            brackets.pop()
+        elif before is not None and before.is_mark("("):
+            brackets[-1] = token.text
+        elif token.kind == "bare" and re.fullmatch(r"[-+*/=]+", token.text) and "write" not in brackets:
+            found.append(Hint(token.start, f"{token.text} is one word here" + remedy(token.text)))
+        before = token
+    return found
+
+
+def remedy(signs):
+    """Returns what to write in the place of a word of signs."""
+    if len(signs) == 1:
+        return f"; a computed value stands in brackets, as ({'div' if signs == '/' else signs} <x> 2)"
+    return f"; put a blank between: {signs[0]} {signs[1]}" if len(signs) == 2 else ""
+
+
+# ---- commands
+
+def hint_on_print(command, labels, has_rule):
+    """Returns the hint on `print` of a label that is new, or of a rule whose name reads as an identifier; or None."""
+    words = words_of(command)
+    if len(words) != 2:
+        return None
+    if words[1].startswith("<"):
+        return None if words[1] in labels else f"hint: {words[1]} is a new label, which no command has given an element"
+    if re.fullmatch(r"[A-Za-z][1-9][0-9]*", words[1]) and has_rule(words[1]):
+        return f"hint: {words[1]} reads as an identifier; `print |{words[1]}|` prints the rule of this name"
+    return None
+
+
+def hint_on_word(word, words):
+    """Returns a hint on an unknown command that is like known ones, or None."""
+    like = get_close_matches(word, words, 2)
+    return f"hint: is {' or '.join(like)} meant?" if like else None
+
+
+def labels_of(command):
+    """Returns the labels that a command of the prompt uses."""
+    return {token.text for token in tokens(command) if token.kind == "variable"}

@@ -1,0 +1,1 @@
+"""Tests of the shell, which tools/shell_test runs."""
