@@ -128,9 +128,9 @@ def is_guarded(application, others, removed):
     if application.is_tied(removed):
         return True
     makes = list(application.replacements(removed))
-    for other in others:
-        if other is not application and application.meets(other):
-            makes += other.replacements_for(application, removed)
+    if not makes:
+        makes = [make for other in others if other is not application and application.meets(other)
+                 for make in other.replacements_for(application, removed)]
     return not any(passes(application, condition, removed, make)
                    for condition in application.tested(removed) for make in makes)
 
