@@ -1,5 +1,5 @@
 -- The clauses of a run whose words are of the form: those of what the words ask for.
-use Rattle.std.proofs.Common.{◌≡◌, ℕ, ◌<◌, suc, ◌^◌, List, Option, Some, None, sym, ap, subst, ◌∙◌}
+use Rattle.std.proofs.Common.{◌≡◌, ℕ, suc, List, Option, Some, None, sym, ap, subst, ◌∙◌}
 use Rattle.std.specs.Prelude.{IfSome, option_map}
 use Rattle.soar_edge.specs.Outside.{AppendsSome}
 use Rattle.soar_edge.specs.declared.filed.Filed.{Filed}
@@ -51,16 +51,16 @@ prefix_by (Some bytes) files asked o words old now is asks tells = λ stock told
     subst (λ (t : Transcript). AppendsSome old now t.text) (transcript_by None stock bytes o words is) (tells stock told o asks)
 
 fetch_at : (old now : Option (List ℕ)) (n : ℕ) (fetched : Option ℕ) (first second : ℕ → Transcript) → ((number : ℕ) → first number ≡ second number) → EndsAtFetch old now n fetched first → EndsAtFetch old now n fetched second
-fetch_at old now n fetched first second same e = record { count = e.count; counted = e.counted; written = subst (IsTranscript old now status.FileFault) (same (suc e.count)) e.written }
+fetch_at old now n fetched first second same e = record { count = e.count; few = e.few; counted = e.counted; written = subst (IsTranscript old now status.FileFault) (same (suc e.count)) e.written }
 
 pub fetch_by : (left : Option (List ℕ)) (files : Option (List Filed)) (asked : Options → Type 0) (o : Options) (words : Option Options) (old now : Option (List ℕ)) (answer : Status) (first last : Option ℕ) → Some o ≡ words → asked o
-    → Tells left files asked (λ bytes stock p. (n : ℕ) → n < 2 ^ 63 → first ≡ Some n → answer ≡ status.FileFault → EndsAtFetch old now n last (λ number. whole_transcript (Some number) stock bytes p))
-    → IfSome left (λ bytes. (stock : List Filed) → files ≡ Some stock → (n : ℕ) → n < 2 ^ 63 → first ≡ Some n → answer ≡ status.FileFault
+    → Tells left files asked (λ bytes stock p. (n : ℕ) → first ≡ Some n → answer ≡ status.FileFault → EndsAtFetch old now n last (λ number. whole_transcript (Some number) stock bytes p))
+    → IfSome left (λ bytes. (stock : List Filed) → files ≡ Some stock → (n : ℕ) → first ≡ Some n → answer ≡ status.FileFault
     → EndsAtFetch old now n last (λ number. by_options whole_stage (Some number) stock bytes words))
 fetch_by None files asked o words old now answer first last is asks tells = tt
-fetch_by (Some bytes) files asked o words old now answer first last is asks tells = λ stock told n small counts fault.
+fetch_by (Some bytes) files asked o words old now answer first last is asks tells = λ stock told n counts fault.
     fetch_at old now n last (λ number. whole_transcript (Some number) stock bytes o) (λ number. by_options whole_stage (Some number) stock bytes words) (λ number. transcript_by (Some number) stock bytes o words is)
-    (tells stock told o asks n small counts fault)
+    (tells stock told o asks n counts fault)
 
 pub read_by : (left rest : Option (List ℕ)) (files : Option (List Filed)) (asked : Options → Type 0) (o : Options) (words : Option Options) (old now : Option (List ℕ)) (answer : Status) → Some o ≡ words → asked o
     → Tells left files asked (λ bytes stock p. answer ≡ status.ReadFault → (p.generate ≡ None) × EndsAtRead old now bytes rest (λ taken. front_run stock taken p))
