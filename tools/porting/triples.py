@@ -12,12 +12,18 @@ class Condition:
     identifier: str
     attribute: str
     tests: tuple
+    offset: int
     candidate: bool = False
 
     @property
     def equals(self):
         """The texts that the value has to equal."""
         return {test.tokens[0].text for test in self.tests if test.relation == "="}
+
+    @property
+    def texts(self):
+        """The texts of all tokens in its tests."""
+        return {token.text for test in self.tests for token in test.tokens}
 
 
 @dataclass(frozen=True)
@@ -71,15 +77,16 @@ class Triples:
             self.positive += found
 
     def triples_of(self, identifier, attribute):
+        offset = attribute.token.offset
         for step in attribute.path[:-1]:
             after = next(self.fresh)
-            yield Condition(identifier, text_of(step), (equal_to(after),))
+            yield Condition(identifier, text_of(step), (equal_to(after),), offset)
             identifier = after
         last = text_of(attribute.path[-1])
         if not attribute.values:
-            yield Condition(identifier, last, ())
+            yield Condition(identifier, last, (), offset)
         for value in attribute.values:
-            yield Condition(identifier, last, tuple(value.tests), value.acceptable)
+            yield Condition(identifier, last, tuple(value.tests), offset, value.acceptable)
 
     @property
     def bound(self):
