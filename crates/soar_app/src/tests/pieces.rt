@@ -79,7 +79,7 @@ fn end_with_texts(sink: &TimedSink<'_>, is_whole: bool) -> bool {
         };
         rest = after;
         let reads = if is_whole { 1 } else { *read };
-        let end = sink.bytes.len() - rest.len();
+        let end = sink.bytes.len().saturating_sub(rest.len());
         if !sink.pieces.as_slice().contains(&Piece { reads, end }) {
             return false;
         }
