@@ -1,5 +1,5 @@
 // A source, a shelf and a sink that count their calls, fail at one of them, and answer at one that memory was refused.
-ghost use Rattle.std.specs.Prelude.{◌≡◌, None};
+ghost use Rattle.std.specs.Prelude.{◌≡◌, ◌≤◌, ◌-◌, ◌^◌, None};
 
 use crate::tests::only;
 use soar_edge::{
@@ -60,6 +60,7 @@ pub struct CountedShelf {
     inner: MemShelf,
     refused: u64,
     pub calls: u64,
+    ghost counted: { inner.faults ≤ 2 ^ 64 - 1 },
 }
 
 impl CountedShelf {
@@ -101,6 +102,7 @@ pub struct CountedSink {
     inner: MemSink,
     refused: u64,
     pub calls: u64,
+    ghost counted: { inner.faults ≤ 2 ^ 64 - 1 },
 }
 
 impl CountedSink {
