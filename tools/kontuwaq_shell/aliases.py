@@ -10,7 +10,7 @@ WORDS = {
     "p": "print", "wmes": "print", "pref": "preferences", "ex": "excise", "is": "init-soar", "init": "init-soar",
     "r": "run", "s": "run", "d": "run", "step": "run", "w": "watch", "trace": "watch", "st": "stats",
     "aw": "add-wme", "rw": "remove-wme", "fc": "counts", "firing-counts": "counts", "gs": "goals", "pgs": "goals", "stack": "goals",
-    "pbreak": "break", "b": "break", "clog": "log", "learn": "chunk", "ls": "!ls", "pwd": "!pwd",
+    "ms": "matches", "pbreak": "break", "b": "break", "clog": "log", "learn": "chunk", "ls": "!ls", "pwd": "!pwd",
     "wm add": "add-wme", "wm remove": "remove-wme", "soar init": "init-soar", "soar max-elaborations": "max-elaborations",
     "load file": "source", "output log": "log", "production excise": "excise", "production firing-counts": "counts",
     "production matches": "why", "production break": "break", "explain chunk": "explain",
@@ -40,6 +40,9 @@ def canonical(command):
     """Returns the command that one of Soar or CLIPS stands for; any other command as it is."""
     if command.startswith("("):
         return bracketed(command)
+    quoted = re.fullmatch(r'(sp\s*)"([^"\\]*)"(\s*(?:#[^\n]*)?)', command)
+    if quoted:
+        return f"{quoted[1]}{{{quoted[2]}}}{quoted[3]}"
     words = words_of(command)
     for count in (2, 1):
         name = " ".join(words[:count])

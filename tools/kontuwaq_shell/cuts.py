@@ -17,7 +17,7 @@ class Cut(NamedTuple):
 
 
 def cuts(text):
-    """Yields the commands of a text; one that never ends is left out."""
+    """Yields the commands of a text; the last one may be unfinished."""
     place, line = 0, 1
     while place < len(text):
         if text[place] in BLANKS:
@@ -26,9 +26,7 @@ def cuts(text):
         elif text[place] == "#":
             place = end_of_line(text, place)
         else:
-            end, opened = extent(text, place)
-            if opened:
-                return
+            end = extent(text, place)[0]
             yield Cut(line, text[place:end])
             line += text.count("\n", place, end)
             place = end

@@ -1,6 +1,7 @@
 """`help`: what the pages of docs/ say of each command and of each refusal."""
 
 import re
+import shutil
 import textwrap
 from pathlib import Path
 from typing import NamedTuple
@@ -10,7 +11,9 @@ from .cuts import first_word
 
 DOCS = Path(__file__).resolve().parents[2] / "docs"
 PAGES = (("the program", "COMMANDS.md"), ("the shell", "SHELL.md"))
-WIDTH = 100
+WIDEST = 100
+# Where `help` begins to say what a command does.
+COLUMN = 36
 
 
 class Entry(NamedTuple):
@@ -60,16 +63,35 @@ def command_words():
     return {entry.word() for entry in entries()}
 
 
+def width():
+    """Returns the columns that a line of help may take."""
+    return max(2 * COLUMN, min(WIDEST, shutil.get_terminal_size((WIDEST, 0)).columns))
+
+
 def paragraph(text, indent="  "):
-    return textwrap.wrap(text, WIDTH, initial_indent=indent, subsequent_indent=indent, break_on_hyphens=False)
+    return textwrap.wrap(text, width(), initial_indent=indent, subsequent_indent=indent, break_on_hyphens=False)
 
 
 def overview_lines():
     lines = []
     for whose, page in PAGES:
         lines.append(f"commands of {whose}, docs/{page}:")
-        lines += ["  " + ", ".join(entry.forms) for entry in entries_of(page)]
+        for entry in entries_of(page):
+            lines += overview_of(entry)
     return lines + ["`help COMMAND` says what a command does, `help NUMBER` what a refusal means"]
+
+
+def brief(text):
+    """Returns the beginning of what a command does, as short as the text allows."""
+    whole = re.match(r"(?:`[^`]*`|[^`;:.]|[.:](?! |$))*", text)[0].replace(", see below", "")
+    return re.match(rf"(.{{1,{width() - COLUMN}}})(?:,|$)|.*", whole)[1] or whole
+
+
+def overview_of(entry):
+    """Returns the forms of a command, each with the beginning of what it does."""
+    forms = "  " + ", ".join(entry.forms)
+    first, *more = paragraph(brief(entry.text), " " * COLUMN)
+    return [f"{forms:<{COLUMN}}{first.strip()}", *more] if len(forms) < COLUMN - 1 else [forms, first, *more]
 
 
 def topic_lines(topic):
@@ -83,6 +105,8 @@ def topic_lines(topic):
     for entry in entries():
         if topic == entry.word():
             lines += [", ".join(entry.forms), *paragraph(entry.text)]
+    if not lines and " " in topic:
+        return topic_lines(topic.split()[0])
     return lines or [f"no help on {topic}; `help` lists the commands"]
 
 

@@ -1,8 +1,11 @@
 """Hints: lines about what passes without a refusal and is probably a mistake."""
 
 import re
-from difflib import get_close_matches
 from typing import NamedTuple
+
+from porting.command import commands_of
+from porting.command_checks import check_command
+from porting.finding import Source
 
 from .cuts import words_of
 from .productions import Braces, Call, NoProduction, Variable, read_production
@@ -10,6 +13,9 @@ from .tokens import Symbol, tokens
 
 # A production without any of these has no hint: a relation, a plus before a value, a word of signs. Most are skipped so.
 SUSPECT = re.compile(r"(?<=\s)(?:<>|<=>|<=|>=|<|>)(?=\s)|(?<!\()\+\s+[<+\-0-9]|(?<=\s)(?:[-+*/=]{2,}|[*/])(?=[\s)])")
+# What means something in Soar, and here loads as an ordinary word.
+OF_SOAR = re.compile(r"\b(?:epmem|smem|svs|reward-link)\b|\s&")
+LOADED_KINDS = {"memory", "preference"}
 
 
 class Hint(NamedTuple):
@@ -27,15 +33,29 @@ class Hint(NamedTuple):
 
 def hints_on_production(command):
     """Returns the hints on a production that loads."""
+    of_soar = hints_of_soar(command) if OF_SOAR.search(command) else []
     if not SUSPECT.search(command):
-        return []
+        return of_soar
     try:
         production = read_production(command)
     except NoProduction:
-        return []
-    found = [hint for part in production.parts for hint in hints_on_part(part, command)]
+        return of_soar
+    found = of_soar + [hint for part in production.parts for hint in hints_on_part(part, command)]
     found += [hint for action in production.actions for make in action.makes for hint in hints_on_make(make)]
     return found + hints_on_words(command)
+
+
+def findings_of(command):
+    """Returns what tools/port finds in a production."""
+    first = next(commands_of(command), None)
+    return sorted(set(check_command(Source("-", command), first)[0])) if first else []
+
+
+def hints_of_soar(command):
+    """Returns hints on what Soar has, and what is an ordinary word here."""
+    lines = command.split("\n")
+    return [Hint(sum(len(line) + 1 for line in lines[:one.line - 1]) + one.column - 1, f"{one.why}. {one.recipe}")
+            for one in findings_of(command) if one.kind in LOADED_KINDS]
 
 
 # ---- conditions
@@ -115,12 +135,6 @@ def hint_on_print(command, labels, has_rule):
     if re.fullmatch(r"[A-Za-z][1-9][0-9]*", words[1]) and has_rule(words[1]):
         return f"hint: {words[1]} reads as an identifier; `print |{words[1]}|` prints the rule of this name"
     return None
-
-
-def hint_on_word(word, words):
-    """Returns a hint on an unknown command that is like known ones, or None."""
-    like = get_close_matches(word, words, 2)
-    return f"hint: is {' or '.join(like)} meant?" if like else None
 
 
 def labels_of(command):

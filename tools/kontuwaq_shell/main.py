@@ -1,36 +1,40 @@
 """The loop of the shell, from the words of the command line to its status."""
 
 import os
+import re
 import sys
 from pathlib import Path
 
-from .files import fault_of
+from .feeding import fault_of
 from .interrupts import Interrupts
 from .screen import Screen
 from .session import Session
 from .terminal import Terminal
 
 TOP = Path(__file__).resolve().parents[2]
+WELCOME = "`help` lists the commands, Tab completes a word, Ctrl-C ends a run, Ctrl-D ends the shell"
 USAGE = "usage: tools/shell [--echo] [--watch N] [FILE]..."
 STATUS_USAGE, STATUS_NO_PROGRAM, STATUS_INTERRUPTED = 2, 127, 130
 
 
 class Options:
-    """The words of the command line: those of the shell, the watch level and the files."""
+    """The words of the command line: whether the shell echoes, the files, and the words for the program with the watch level."""
 
     def __init__(self, words):
-        self.echo = "--echo" in words
-        self.words = [word for word in words if word != "--echo"]
-        self.watch, self.files = 1, []
-        rest = iter(self.words)
+        self.echo = False
+        self.watch, self.files, self.words = 1, [], []
+        rest = iter(words)
         for word in rest:
             if word == "--":
                 self.files += list(rest)
-            elif word == "--watch" or word.startswith("--watch="):
-                level = next(rest, "") if word == "--watch" else word.split("=", 1)[1]
-                self.watch = int(level) if level.isdigit() else self.watch
+            elif word == "--echo":
+                self.echo = True
             elif not word.startswith("-") or word == "-":
                 self.files.append(word)
+            else:
+                self.words += [word, *([next(rest, "")] if word in ("--watch", "--generate") else [])]
+        level = re.search(r"--watch[ =]([0-5])(?: |$)", " ".join(self.words))
+        self.watch = int(level[1]) if level else self.watch
 
 
 def program_words():
@@ -43,7 +47,7 @@ def main(words):
         print(USAGE)
         return 0
     options = Options(words)
-    ends = [f"hint: {fault}, and the program would end with status 6" for fault in map(fault_of, options.files) if fault]
+    ends = [fault for fault in map(fault_of, options.files) if fault]
     if ends:
         print("\n".join(ends))
         return STATUS_USAGE
@@ -62,6 +66,7 @@ def hold(session, options, interrupts):
     terminal = Terminal(session.screen, session.completer, options.echo)
     if terminal.keyboard:
         interrupts.install(session.program.kill)
+        session.screen.line(WELCOME)
     try:
         session.start(options.watch, options.files)
         talk(session, terminal)

@@ -4,14 +4,12 @@ import re
 import unicodedata
 from typing import NamedTuple
 
-from .cuts import BLANKS, extent
+from .cuts import extent
 from .productions import Braces, NoProduction, read_production
 from .tokens import Symbol, tokens, word
 
 REFUSAL = re.compile(r"^error ([1-4][0-9]) (.+):([0-9]+): (.+)$")
 UNFINISHED, UNCONNECTED = 11, 22
-# A command of more lines has its caret at its beginning.
-MOST_LINES = 2000
 NAMING = re.compile("(?:unbound variable|unknown identifier|no production|not a learned rule|no element|not an input element|no file) (.+)")
 WITH_BYTE = re.compile(r" at byte ([0-9]+)$")
 
@@ -144,13 +142,3 @@ def caret_lines(line, text, place):
 def shown(refusal, command):
     """Returns the caret below the place of a refusal in its command, which begins on the refusal's line."""
     return caret_lines(refusal.line, command, place_in(command, refusal))
-
-
-def shown_in_file(refusal, lines):
-    """Returns the caret for a refusal of a command of a file with these lines; nothing if the file has no such line."""
-    if not 0 < refusal.line <= len(lines):
-        return []
-    text = "\n".join(lines[refusal.line - 1:refusal.line - 1 + MOST_LINES])
-    start = len(text) - len(text.lstrip(BLANKS))
-    end = extent(text, start)[0]
-    return caret_lines(refusal.line, text[:end], start + place_in(text[start:end], refusal))

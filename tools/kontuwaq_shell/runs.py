@@ -10,6 +10,9 @@ from .trace import SEEN, Trace
 
 HALTED = 37
 HALT = "the agent has halted"
+# So many cycles in a row without an operator bring a hint.
+IDLE_CYCLES = 3
+IDLE = "hint: no operator was proposed in %d cycles; `why NAME` shows what keeps a rule from matching" % IDLE_CYCLES
 # Pieces grow as long as each takes less time than this, so Ctrl-C waits little longer.
 PIECE_SECONDS = 0.1
 LARGEST_PIECE = 4096
@@ -24,6 +27,15 @@ class Runner:
         self.counts = {}
         self.breaks = []
         self.endings = {}
+        # Whether a breakpoint or Ctrl-C ended the latest run.
+        self.stopped = False
+        # The state no-changes since an operator was selected; None after the hint on them.
+        self.idle = 0
+
+    def clear(self):
+        """Begins anew, as the agent does."""
+        self.counts.clear()
+        self.idle = 0
 
     # ---- runs
 
@@ -31,12 +43,16 @@ class Runner:
         """Runs at most `limit` cycles, or without an end, until a goal is met.
 
         Returns the answer with the refusal if the agent is halted."""
+        self.stopped = False
         with self.interrupts:
             if self.watch < SEEN:
                 self.program.ask(f"watch {SEEN}")
             refused = self.run_pieces(limit, goal)
             if self.watch < SEEN:
                 self.program.ask(f"watch {self.watch}")
+        if self.idle is not None and self.idle >= IDLE_CYCLES and goal is None:
+            self.screen.line(IDLE)
+            self.idle = None
         return refused
 
     def run_pieces(self, limit, goal):
@@ -53,6 +69,7 @@ class Runner:
             if reason or self.program.ended:
                 if reason and (goal or reason != HALT):
                     self.screen.line(f"stopped after {cycles(done)}: {reason}")
+                    self.stopped = reason != HALT
                 return None
             if not (goal and goal.stepwise or self.breaks) and time.monotonic() - began < PIECE_SECONDS:
                 size = min(2 * size, LARGEST_PIECE)
@@ -68,6 +85,8 @@ class Runner:
         for event in events:
             if event.kind == "fire":
                 self.counts[event.subject] = self.counts.get(event.subject, 0) + 1
+            elif self.idle is not None and event.kind in ("select", "impasse"):
+                self.idle = self.idle + 1 if event.name == "state no-change" and event.kind == "impasse" else 0
         return events
 
     def reason(self, events, goal):

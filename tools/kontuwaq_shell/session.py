@@ -4,17 +4,16 @@ import re
 
 from . import hints
 from .agent import Agent
-from .aliases import canonical, is_of_clips
+from .aliases import canonical
 from .commands import Commands, NotHere, Refused, WrongWords
 from .completion import Completer
 from .cuts import Cut, extent, first_word, rest_of
-from .files import Sourced, faults, sourced, text_of
-from .help import entries
+from .feeding import Feeder, piece_of
 from .program import Program, end_message
-from .refusals import UNFINISHED, Refusal, refusal_of, shown, shown_in_file
+from .refusals import UNFINISHED, Refusal, refusal_of, shown
+from .remedies import WRONG_WORDS, remedies
 from .runs import Runner
 
-UNKNOWN, WRONG_WORDS = 10, 30
 LABELLING = {"add-wme", "input"}
 
 
@@ -29,111 +28,119 @@ class Session:
         self.commands = Commands(self.agent, self.runner, screen)
         self.completer = Completer(self.agent.names, self.agent.memory)
         self.labels = set()
-        self.refused = False
+        self.refused = self.named_help = False
 
     def start(self, watch, files):
-        """Shows what the files of the command line write, and learns from them."""
+        """Shows what the program writes by itself, and runs the files of the command line."""
         self.runner.watch = watch
-        answer = self.program.ask()
-        refused = self.show(answer, Cut(0, ""))
+        self.screen.lines(self.program.ask().text.split("\n")[:-1])
         for name in files:
-            self.learn(list(sourced(name)), refused)
+            if not self.program.ended:
+                self.feed(name, Cut(0, ""))
 
     # ---- a command
 
     def obey(self, cut):
         """Carries out a command."""
         if extent(cut.text)[1]:
-            self.refuse(Refusal(UNFINISHED, "-", cut.line, "unfinished command"), cut.text)
+            self.refuse(UNFINISHED, "unfinished command", cut)
             return
         cut = Cut(cut.line, canonical(cut.text))
-        word = first_word(cut.text)
         try:
-            self.screen.lines(self.commands.carry_out(word, cut.text))
-        except NotHere:
-            self.pass_on(cut)
+            self.carry_out(cut)
         except WrongWords:
-            self.refuse(Refusal(WRONG_WORDS, "-", cut.line, "wrong words"), cut.text)
+            self.refuse(WRONG_WORDS, "wrong words", cut)
         except Refused as refused:
-            self.show(refused.args[0], cut)
+            self.show(refused.args[0], piece_of([cut]))
         except OSError as fault:
             self.screen.line(f"{fault.filename}: {fault.strerror}")
         self.completer.forget()
         self.screen.end_line()
 
-    def pass_on(self, cut):
-        """Hands a command to the program, unless a file would end it."""
-        read = [Sourced("-", cut)]
-        if first_word(cut.text) == "source":
-            read += sourced(rest_of(cut.text))
-        ends = [f"hint: {fault}, and the program would end with status 6" for fault in faults(read)]
-        if ends:
-            self.refused = True
-            self.screen.lines(ends)
+    def carry_out(self, cut):
+        """Carries out a command of the shell, or hands it to the program."""
+        word, rest = first_word(cut.text), rest_of(cut.text)
+        if word == "source" and rest:
+            self.feed(rest, cut)
             return
-        answer = self.program.ask(cut.text)
-        refused = self.show(answer, cut)
-        self.learn(read, refused)
-        if first_word(cut.text) == "print":
-            hint = hints.hint_on_print(cut.text, self.labels, self.agent.has_rule)
-            self.screen.lines([hint] if hint else [])
+        try:
+            self.screen.lines(self.commands.carry_out(word, cut.text))
+        except NotHere:
+            self.pass_on(cut)
+
+    def feed(self, name, cut):
+        """Runs a file, and says how many productions it loads."""
+        feeder = Feeder(self)
+        with self.runner.interrupts:
+            feeder.feed(name, cut)
+        if feeder.loaded:
+            self.screen.line(f"{name}: {feeder.loaded} production{'' if feeder.loaded == 1 else 's'}")
+
+    def pass_on(self, cut):
+        """Hands a command to the program."""
+        if not self.show(self.program.ask(cut.text), piece_of([cut])):
+            self.learn(cut)
+            self.screen.lines(self.print_hints(cut.text))
+
+    def print_hints(self, command):
+        """Returns the hint on a `print` of a label or of a rule whose name reads as an identifier, if there is one."""
+        hint = hints.hint_on_print(command, self.labels, self.agent.has_rule) if first_word(command) == "print" else None
+        return [hint] if hint else []
 
     # ---- answers
 
-    def show(self, answer, cut):
-        """Shows an answer, each refusal with a caret; returns the source and the line of each refused command."""
-        refused, texts = set(), {}
+    def show(self, answer, piece, source="-"):
+        """Shows the answer to the commands of a piece, and returns those that were refused."""
+        sent = {answer.line + cut.line - piece.line: cut for cut in piece.commands}
+        refused = []
         for line in answer.text.split("\n")[:-1]:
             refusal = refusal_of(line)
-            if refusal is None:
+            cut = sent.get(refusal.line) if refusal and refusal.source == "-" else None
+            if cut is None:
                 self.screen.line(line)
-            elif (refusal.source, refusal.line) == ("-", answer.line):
-                refused.add(("-", cut.line))
-                self.refuse(refusal._replace(line=cut.line), cut.text)
             else:
-                refused.add((refusal.source, refusal.line))
-                self.refuse_in_file(refusal, texts)
+                refused.append(cut)
+                self.refuse(refusal.number, refusal.text, cut, source)
         return refused
 
-    def refuse(self, refusal, command):
-        """Shows a refusal of a command that was typed, with a caret below its place, and a hint on what to write."""
+    def refuse(self, number, text, cut, source="-"):
+        """Shows a refusal of a command, with a caret below its place, and a hint on what to write."""
         self.refused = True
+        refusal = Refusal(number, source, cut.line, text)
         self.screen.line(str(refusal))
-        self.screen.lines(shown(refusal, command))
-        if refusal.number == WRONG_WORDS:
-            self.screen.lines(forms_hint(first_word(command)))
-        if refusal.number == UNKNOWN:
-            hint = "hint: docs/FROM-CLIPS.md says what to write here" if is_of_clips(command) else \
-                hints.hint_on_word(first_word(command), self.completer.commands())
-            self.screen.lines([hint] if hint else [])
+        if cut.text:
+            self.screen.lines(shown(refusal, cut.text))
+            self.screen.lines(self.remedies(refusal, cut.text))
 
-    def refuse_in_file(self, refusal, texts):
-        """Shows a refusal of a command of a file; `texts` has the files that were read for this answer."""
+    def remedies(self, refusal, command):
+        """Returns hints on a refusal; the first refusal without any names `help`."""
+        lines = remedies(refusal, command, self.completer) or self.print_hints(command)
+        if not lines and not self.named_help:
+            self.named_help = True
+            return [f"hint: `help {refusal.number}` says what to do about refusal {refusal.number}"]
+        return lines
+
+    def fault(self, hint):
+        """Shows a hint in the place of a command that is not carried out."""
         self.refused = True
-        self.screen.line(str(refusal))
-        if refusal.source not in texts:
-            texts[refusal.source] = (text_of(refusal.source) or "").split("\n")
-        self.screen.lines(shown_in_file(refusal, texts[refusal.source]))
+        self.screen.line(hint)
 
     # ---- what commands change
 
-    def learn(self, commands, refused):
-        """Follows commands that were carried out: levels, labels, counts; and gives hints on productions."""
-        for source, cut in commands:
-            word = first_word(cut.text)
-            if (source, cut.line) in refused:
-                continue
-            if word == "sp":
-                self.runner.endings.clear()
-                for hint in hints.hints_on_production(cut.text):
-                    self.screen.line(hint.line(cut.text, cut.line, source))
-            elif word == "watch" and re.fullmatch(r"[0-5]", rest_of(cut.text)):
-                self.runner.watch = int(rest_of(cut.text))
-            elif word == "init-soar":
-                self.labels.clear()
-                self.runner.counts.clear()
-            elif word in LABELLING:
-                self.labels |= hints.labels_of(cut.text)
+    def learn(self, cut, source="-"):
+        """Follows a command that was carried out: levels, labels, counts; and gives hints on a production."""
+        word = first_word(cut.text)
+        if word == "sp":
+            self.runner.endings.clear()
+            for hint in hints.hints_on_production(cut.text):
+                self.screen.line(hint.line(cut.text, cut.line, source))
+        elif word == "watch" and re.fullmatch(r"[0-5]", rest_of(cut.text)):
+            self.runner.watch = int(rest_of(cut.text))
+        elif word == "init-soar":
+            self.labels.clear()
+            self.runner.clear()
+        elif word in LABELLING:
+            self.labels |= hints.labels_of(cut.text)
 
     # ---- the end
 
@@ -144,9 +151,3 @@ class Session:
         if message:
             self.screen.line(message)
         return status if message else int(self.refused)
-
-
-def forms_hint(word):
-    """Returns a hint with the forms of a command."""
-    forms = [form for entry in entries() if word == entry.word() for form in entry.forms]
-    return [f"hint: {'its form is' if len(forms) == 1 else 'its forms are'} {', '.join(forms)}"] if forms else []

@@ -5,9 +5,11 @@ import unittest
 from ..aliases import canonical
 from ..completion import Completer
 from ..cuts import cuts, extent, words_of
+from ..feeding import LARGEST_PIECE, pieces
 from ..hints import hints_on_production
 from ..memory import memory_of
-from ..refusals import refusal_of, shown, shown_in_file
+from ..refusals import Refusal, refusal_of, shown
+from ..remedies import remedies
 
 RULE = "sp {a\n   (state <s> ^a <x> ^b <y>)\n   (<x> ^c 1 2)\n   -{(<y> ^d 1)}\n   (<z> ^e 3)\n   -->\n   (<s> ^f (+ <w> 1) ^g <x> >)}"
 
@@ -35,11 +37,6 @@ class Carets(unittest.TestCase):
                 refusal = refusal_of(line)
                 self.assertEqual(shown(refusal, command), wanted)
 
-    def test_a_file_is_shown_from_the_first_byte_of_the_command(self):
-        lines = ["# a file", "", "  sp {a", "   <x>+}", "run 1", ""]
-        self.assertEqual(shown_in_file(refusal_of("error 12 a.soar:3: bad byte at byte 12"), lines), ["  4 |    <x>+}", "    |       ^ column 7"])
-        self.assertEqual(shown_in_file(refusal_of("error 12 a.soar:9: bad byte at byte 12"), lines), [])
-
     def test_a_text_of_a_rule_is_no_refusal(self):
         for line in ("error", "error 99 -:1: x", "an error 12 -:1: x", "error 12 of many"):
             self.assertIsNone(refusal_of(line))
@@ -56,6 +53,10 @@ HINTS = [
     ("sp {a (state <s> ^n <x>) --> (<s> ^m <x> * 2)}",
      ["hint: line 1, column 42: * is one word here; a computed value stands in brackets, as (* <x> 2)"]),
     ("sp {a (state <s> ^n <x>) --> (<s> ^m (* <x> 2)) (write <x> --- |+=|)}", []),
+    ("sp {a (state <s> ^n 1) --> (<s> ^operator <o> + &)}",
+     ["hint: line 1, column 49: `&` is a word, and would be one more value. Take it out"]),
+    ("sp {a (state <s>\n ^smem.command <c>) --> (<c> ^n 1)}",
+     ["hint: line 2, column 3: `^smem`: there is no semantic memory. Keep what is needed in working memory, or give it as input"]),
 ]
 
 
@@ -70,10 +71,49 @@ class Hints(unittest.TestCase):
         self.assertTrue(hint.line(HINTS[0][0], 7, "a.soar").startswith("hint: a.soar, line 7, column 25: "))
 
 
+# Refused productions, and the hints below the refusal, which is of line 1.
+REMEDIES = [
+    (16, "sp {a\n (state <s> ^a 1\n (<s> ^b 2)\n -->\n (<s> ^c 3)}", 24, ["hint: the ( of line 2, column 2 is still open"]),
+    (16, "sp {a\n (state <s> ^a 1)\n -->\n (<s> ^b 2\n (<s> ^c 3)}", 41, ["hint: the ( of line 4, column 2 is still open"]),
+    (16, "sp {a\n (state <s> ^a 1))\n -->\n (<s> ^b 2)}", 23, ["hint: no ( is open here"]),
+    (16, "sp {a\n (state <s> ^a 1)\n (<s> ^b 2)}", 35, ["hint: the arrow --> is missing"]),
+    (16, "sp {a\n (state <s> ^a 1)\n\nsp {b (state <s>) --> (halt)}}", 25, ["hint: line 4 begins another sp, but the { of line 1 is still open"]),
+    (16, "sp \"a (state <s>) --> (halt)\"", 3, ['hint: write sp {NAME ..} in the place of sp "NAME .."']),
+    (12, "sp {a (state <s> ^a 1) --> (<s> ^operator <o>+)}", 44,
+     ["hint: line 1, column 43: `<o>+` is no token. Put a blank between a variable and a sign"]),
+]
+
+
+class Remedies(unittest.TestCase):
+    def test_a_refused_production_has_a_hint(self):
+        for number, command, byte, wanted in REMEDIES:
+            with self.subTest(command):
+                self.assertEqual(remedies(Refusal(number, "-", 1, f"unexpected token at byte {byte}"), command, None), wanted)
+
+    def test_a_refused_command_has_a_hint(self):
+        completer = Completer(lambda: ["lamp*on", "rest"], lambda: memory_of(""))
+        for number, text, command, wanted in (
+                (10, "unknown command", "matchs", ["hint: is matches or watch meant?"]),
+                (10, "unknown command", "(assert (a))", ["hint: docs/FROM-CLIPS.md says what to write here"]),
+                (10, "unknown command", "waitsnc --on", ["hint: a state without operators always gets a substate. "
+                                                         "Propose a `wait` operator that is worst, `+ <`, and a new one in each cycle"]),
+                (30, "wrong words", "watch 9", ["hint: its form is watch N: it sets the watch level, 0 to 5"]),
+                (32, "no production lamp*no", "print lamp*no", ["hint: is lamp*on meant?"]), (37, "halted", "run 1", [])):
+            self.assertEqual(remedies(Refusal(number, "-", 1, text), command, completer), wanted, command)
+
+
 class Commands(unittest.TestCase):
+    def test_a_file_goes_out_in_pieces(self):
+        text = "# one\nstats\n\nprint S1 # two\nrun 1\nsource a b\nstats\nquit\nsp {a"
+        self.assertEqual([(piece.line, piece.text) for piece in pieces(text)],
+                         [(2, "stats\n\nprint S1 # two"), (5, "run 1"), (6, "source a b"), (7, "stats"), (8, "quit"), (9, "sp {a")])
+        long = [piece.text for piece in pieces("stats\n" * LARGEST_PIECE + "\n" * LARGEST_PIECE + "stats")]
+        self.assertLess(max(map(len, long)), LARGEST_PIECE)
+        self.assertEqual("\n".join(long).count("stats"), LARGEST_PIECE + 1)
+
     def test_a_stream_is_cut_as_the_program_cuts_it(self):
         text = "# one\nrun 1 # {\n\nsp {a |}\n{| \"}\" # }\n}\n  print S1\nsp {b"
-        self.assertEqual([tuple(cut) for cut in cuts(text)], [(2, "run 1 # {"), (4, "sp {a |}\n{| \"}\" # }\n}"), (7, "print S1")])
+        self.assertEqual([tuple(cut) for cut in cuts(text)], [(2, "run 1 # {"), (4, "sp {a |}\n{| \"}\" # }\n}"), (7, "print S1"), (8, "sp {b")])
 
     def test_what_is_open_is_known(self):
         for text, wanted in (("sp {a {b", [3, 6]), ("sp {a |b", [3, 6]), ("print |a\\|", [6]), ("a } {", [4]), ("a # {", [])):
@@ -95,7 +135,7 @@ class Commands(unittest.TestCase):
         for said, wanted in (
                 ("d", "run 1"), ("d 5", "run 5"), ("run -d 5", "run 5"), ("run", "run"), ("p s1 -d 2", "print -d 2 s1"), ("p --stack", "goals"),
                 ("print (s1 ^a *)", "find s1 ^a *"), ("pref s1", "preferences s1 operator"), ("wm add s1 ^a b", "add-wme s1 ^a b"),
-                ("learn --on", "chunk always"), ("(reset)", "init-soar"), ("(run 5)", "run 5"), ("(facts)", "print --wm"),
+                ("learn --on", "chunk always"), ('sp "a\n (b)" # c', "sp {a\n (b)} # c"), ('sp "a |\\"|"', 'sp "a |\\"|"'), ("(reset)", "init-soar"), ("(run 5)", "run 5"), ("(facts)", "print --wm"),
                 ('(load "a b.soar")', "source a b.soar"), ("(watch rules)", "watch 3"), ("(assert (a))", "(assert (a))"),
                 ("source a b # c", "source a b # c"), ("print |a  b|", "print |a  b|")):
             self.assertEqual(canonical(said), wanted)

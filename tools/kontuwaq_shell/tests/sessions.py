@@ -13,6 +13,7 @@ from ..interrupts import Interrupts
 from ..main import TOP, program_words
 from ..matcher import rows_of
 from ..program import Program
+from ..runs import IDLE
 
 PAGE = TOP / "docs/SHELL.md"
 BLOCK = re.compile(r"^```text session( more)?\n(.*?)^```$", re.S | re.M)
@@ -117,7 +118,7 @@ class Sessions(unittest.TestCase):
 
     def test_a_run_in_pieces_writes_what_a_run_writes(self):
         direct = subprocess.run(program_words(), input=JOINED, stdout=subprocess.PIPE, text=True, timeout=SECONDS)
-        self.assertEqual(shell(JOINED), (direct.stdout, 0))
+        self.assertEqual(shell(JOINED), (direct.stdout + IDLE + "\n", 0))
 
     def test_refusals_have_the_lines_of_the_session_and_of_files(self):
         with tempfile.TemporaryDirectory() as folder:
@@ -125,11 +126,13 @@ class Sessions(unittest.TestCase):
             said, status = shell(f"source {folder}/a b.soar\n\n# nothing\nstats\nprint  B7\nsource {folder}\nrun 1\nwhy\n", "--watch", "5")
         lines = said.split("\n")
         counts = "cycles 0 waves 0 firings 0 retractions 0 productions 0 elements 5 preferences 0 live 0 chunks 0"
-        self.assertEqual(lines[:9], [
-            counts, f"error 12 {folder}/a b.soar:3: bad byte at byte 9", "  4 |    @}", "    |    ^ column 4", counts,
+        self.assertEqual(lines[:11], [
+            counts, f"error 12 {folder}/a b.soar:3: bad byte at byte 9", "  4 |    @}", "    |    ^ column 4",
+            "hint: line 4, column 4: there are no long-term identifiers. Keep what is needed in working memory, or give it as input", counts,
             "error 31 -:5: unknown identifier B7", "  5 | print  B7", "    |        ^ column 8",
+            "hint: `help 31` says what to do about refusal 31",
             f"hint: {folder} is a folder, and the program would end with status 6"])
-        self.assertEqual(lines[9:12], ["error 30 -:8: wrong words", "  8 | why", "    | ^ column 1"])
+        self.assertEqual(lines[11:14], ["error 30 -:8: wrong words", "  8 | why", "    | ^ column 1"])
         self.assertEqual(status, 1)
 
     def test_runs_stop_where_they_should(self):
@@ -138,16 +141,39 @@ class Sessions(unittest.TestCase):
             "1:   ==>S: S2 (state no-change)", "2: O: O1 (count)", "stopped after 2 cycles: count*apply fired (firing 3)",
             "3: O: O2 (count)", "stopped after 1 cycle: O2 (count) is selected",
             "4: O: O3 (count)", "halt", "stopped after 1 cycle: the agent has halted", "     4  count*propose", "     3  count*apply", "     1  init", "     1  stop", "each rule has fired",
-            "error 37 -:12: halted", "  12 | run 1", "     | ^ column 1", ""])
+            "error 37 -:12: halted", "  12 | run 1", "     | ^ column 1",
+            "hint: `help 37` says what to do about refusal 37", ""])
         self.assertEqual(status, 1)
 
     def test_what_would_end_the_program_is_not_sent(self):
         with tempfile.TemporaryDirectory() as folder:
-            Path(folder, "outer.soar").write_text(f"sp {{a (state <s>) --> (<s> ^b 1)}}\nsource {folder}\n")
+            Path(folder, "outer.soar").write_text(f"sp {{a (state <s>) --> (<s> ^b 1)}}\nsource {folder}\nstats x\n")
             ends = f"hint: {folder} is a folder, and the program would end with status 6\n"
             self.assertEqual(shell("", folder), (ends, 2))
-            said, status = shell(f"source {folder}/outer.soar\nprint --rules\n")
-            self.assertEqual((said, status), (ends.replace(folder, f"{folder}/outer.soar:2: {folder}", 1) + "no rules\n", 1))
+            said, status = shell(f"source {folder}/outer.soar\n")
+            self.assertEqual(said.split("\n")[:2], [ends.rstrip("\n"), f"error 30 {folder}/outer.soar:3: wrong words"])
+            self.assertEqual((said.split("\n")[-2], status), (f"{folder}/outer.soar: 1 production", 1))
+
+    def test_a_file_runs_as_the_program_runs_it(self):
+        with tempfile.TemporaryDirectory() as folder:
+            Path(folder, "inner.soar").write_text("run 1 # one\nsource nowhere\nwatch 3\nprint <n>\n" + "stats\n" * 3000)
+            Path(folder, "outer.soar").write_text(f"add-wme S1 ^n <n>\n{COUNTER}source {folder}/inner.soar\nrun 2\nrun x\nsource {folder}/outer.soar\nsp {{open")
+            direct = subprocess.run(program_words() + [f"{folder}/outer.soar"], input="", stdout=subprocess.PIPE, text=True, timeout=SECONDS)
+            said, status = shell("counts\n", f"{folder}/outer.soar")
+            lines = [line for line in said.split("\n") if not re.match(r" +[0-9]* \||hint: |.*: [0-9]+ productions?$| +[0-9]+  ", line)]
+            self.assertEqual("\n".join(lines), direct.stdout)
+            self.assertEqual(status, 1)
+            self.assertIn("    32  count*propose", said)
+
+    def test_a_breakpoint_leaves_the_rest_of_the_files_out(self):
+        with tempfile.TemporaryDirectory() as folder:
+            Path(folder, "inner.soar").write_text("run 5\n\nstats\n")
+            Path(folder, "outer.soar").write_text(f"source {folder}/inner.soar\nstats\n")
+            said, status = shell(COUNTER + f"break count*apply\nsource {folder}/outer.soar\n")
+            self.assertEqual(said.split("\n"), [
+                "1:   ==>S: S2 (state no-change)", "2: O: O1 (count)", "stopped after 2 cycles: count*apply fired (firing 3)",
+                f"left out: {folder}/inner.soar from line 3 on", f"left out: {folder}/outer.soar from line 2 on", ""])
+            self.assertEqual(status, 0)
 
     def test_drawings_and_the_log_are_written(self):
         with tempfile.TemporaryDirectory() as folder:
