@@ -2,7 +2,9 @@
 
 import glob
 import os
+import re
 
+from .aliases import WORDS
 from .cuts import first_word
 from .help import command_words
 
@@ -24,6 +26,12 @@ class Completer:
     def __init__(self, names, memory):
         self.names, self.memory = names, memory
         self.known, self.words = {}, set()
+        self.attributes, self.operators = set(), set()
+
+    def learn(self, production):
+        """Keeps the attributes of a production, and what it names by `^name`."""
+        self.attributes |= {attr for path in re.findall(r"\^([A-Za-z0-9*.-]+)", production) for attr in path.split(".") if attr}
+        self.operators |= set(re.findall(r"\^(?:[^\s()^]+\.)?name\s+([A-Za-z0-9*-]+)", production))
 
     def forget(self):
         self.known = {}
@@ -44,7 +52,7 @@ class Completer:
             return self.in_production(before, begun)
         if not before.strip():
             return starting(begun, self.commands())
-        command = first_word(before.strip())
+        command = first_word(WORDS.get(first_word(before.strip()), before.strip()))
         if command == "help":
             return starting(begun, self.commands())
         if command in FILES and (begun or command == "source"):
@@ -53,20 +61,22 @@ class Completer:
             files = []
         words = set(OPTIONS.get(command, ()))
         words |= set(self.get("names")) if command in RULES else set()
+        if before.split()[1:] == ["operator"]:
+            words = self.operators
         if command in IDENTIFIERS:
-            words |= self.fields(before)
+            words |= self.fields(command, before)
         return starting(begun, words) + sorted(files)
 
-    def fields(self, before):
+    def fields(self, command, before):
         memory = self.get("memory")
-        if before.endswith("^") or first_word(before.strip()) == "preferences" and len(before.split()) > 1:
-            return {str(attr) for attr in memory.of_attr}
+        if before.endswith("^") or command == "preferences" and len(before.split()) > 1:
+            return self.attributes | {str(attr) for attr in memory.of_attr}
         return {str(id) for id in memory.of_id}
 
     def in_production(self, before, begun):
         if before.endswith("^"):
             path = begun[:begun.rfind(".") + 1]
-            return starting(begun, {path + str(attr) for attr in self.get("memory").of_attr})
+            return starting(begun, {path + str(attr) for attr in self.attributes | {str(attr) for attr in self.get("memory").of_attr}})
         return starting(begun, FLAGS) if begun.startswith(":") else []
 
 

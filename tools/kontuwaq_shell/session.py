@@ -132,6 +132,7 @@ class Session:
         word = first_word(cut.text)
         if word == "sp":
             self.runner.endings.clear()
+            self.completer.learn(cut.text)
             for hint in hints.hints_on_production(cut.text):
                 self.screen.line(hint.line(cut.text, cut.line, source))
         elif word == "watch" and re.fullmatch(r"[0-5]", rest_of(cut.text)):

@@ -124,10 +124,13 @@ class Commands(unittest.TestCase):
 
     def test_words_are_completed(self):
         completer = Completer(lambda: ["lamp*on", "lamp*off", "rest"], lambda: memory_of("1: (S1 ^io I1)\n2: (I1 ^input-link I2)\n"))
+        completer.learn("sp {a (state <s> ^room.door <d> ^operator.name close) (<d> ^name oak) --> (<d> ^opened no)}")
         for before, begun, within, wanted in (
                 ("", "matc", False, ["matches"]), ("why ", "lamp", False, ["lamp*off", "lamp*on"]), ("print ", "--r", False, ["--rules"]),
                 ("find ", "S", False, ["S1"]), ("find ^", "inp", False, ["input-link"]), ("   (<s> ^", "io.in", True, ["io.input-link"]),
-                ("sp {a ", ":o", True, [":o-support"]), ("source ", "tools/sh", False, []), ("help ", "unb", False, ["unbreak"])):
+                ("sp {a ", ":o", True, [":o-support"]), ("source ", "tools/sh", False, []), ("help ", "unb", False, ["unbreak"]),
+                ("p ", "lamp*of", False, ["lamp*off"]), ("find ^", "do", False, ["door"]), ("  -(<d> ^", "ope", True, ["opened", "operator"]),
+                ("until operator ", "c", False, ["close"])):
             found = completer.candidates(before, begun, within)
             self.assertEqual([name for name in found if not name.startswith("tools/")], wanted, before + begun)
 
