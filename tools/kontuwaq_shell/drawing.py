@@ -8,7 +8,7 @@ from pathlib import Path
 from .memory import order
 from .views import impasse_of
 
-HEAD = ["digraph {", "  rankdir=LR;", "  node [shape=box, fontname=monospace, fontsize=10];", "  edge [fontname=monospace, fontsize=9];"]
+HEAD = ["digraph {", "  rankdir=LR;", "  node [shape=box, fontname=Courier, fontsize=10];", "  edge [fontname=Courier, fontsize=9];"]
 LEAF_COLOURS = {"ground": "lightblue", "architecture": "gray90", "item": "gray90", "select": "lightyellow"}
 
 
