@@ -1,6 +1,8 @@
 """The commands that the shell itself carries out."""
 
+import random
 import re
+import secrets
 import subprocess
 
 from . import drawing, help as pages, views
@@ -12,6 +14,7 @@ from .tokens import barred, symbol, word
 from .why import why_lines
 
 MOST_CYCLES = 1_000_000
+RANDOM_WORDS = 1000
 
 
 class WrongWords(Exception):
@@ -34,7 +37,7 @@ class Commands:
         self.by_word = {
             "help": self.help, "why": self.why, "print": self.print, "find": self.find, "goals": self.goals, "run": self.run,
             "until": self.until, "break": self.set_break, "unbreak": self.unset_break, "counts": self.counts,
-            "draw": self.draw, "log": self.log, "excise": self.excise,
+            "draw": self.draw, "log": self.log, "excise": self.excise, "srand": self.srand,
         }
 
     def carry_out(self, name, command):
@@ -133,6 +136,13 @@ class Commands:
             self.screen.line(f"cycle {done} is over")
         else:
             self.run_agent(cycle - done)
+
+    def srand(self, words, _):
+        """Gives the program random words for draws, made from a number; without one, from a number by chance."""
+        seed = number(exactly(words, 1)[0]) if words else secrets.randbelow(1_000_000)
+        chance = random.Random(seed)
+        self.agent.program.ask("random " + " ".join(str(chance.getrandbits(64)) for _ in range(RANDOM_WORDS)))
+        return [] if words else [f"the seed is {seed}"]
 
     def set_break(self, words, _):
         if not words:

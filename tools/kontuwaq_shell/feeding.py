@@ -68,7 +68,7 @@ class Feeder:
 
     def __init__(self, session):
         self.session = session
-        self.loaded = 0
+        self.productions = []
         self.stopped = False
 
     def feed(self, name, cut, source="-", deep=1):
@@ -122,5 +122,5 @@ class Feeder:
         refused = self.session.show(answer, piece, name)
         for cut in piece.commands:
             if cut not in refused:
-                self.loaded += first_word(cut.text) == "sp"
+                self.productions += [(name, cut)] if first_word(cut.text) == "sp" else []
                 self.session.learn(cut, name)

@@ -1,11 +1,13 @@
 """Hints: lines about what passes without a refusal and is probably a mistake."""
 
 import re
+from dataclasses import replace
 from typing import NamedTuple
 
 from porting.command import commands_of
 from porting.command_checks import check_command
 from porting.finding import Source
+from porting.refiring import refiring
 
 from .cuts import words_of
 from .productions import Braces, Call, NoProduction, Variable, read_production
@@ -16,6 +18,9 @@ SUSPECT = re.compile(r"(?<=\s)(?:<>|<=>|<=|>=|<|>)(?=\s)|(?<!\()\+\s+[<+\-0-9]|(
 # What means something in Soar, and here loads as an ordinary word.
 OF_SOAR = re.compile(r"\b(?:epmem|smem|svs|reward-link)\b|\s&")
 LOADED_KINDS = {"memory", "preference"}
+# A check for productions that fire again looks at so many.
+MOST_PRODUCTIONS, MOST_HINTS = 500, 5
+REMEDY = "carry the old value in the operator, as docs/FROM-SOAR.md shows; `tools/port FILE` lists all such rules"
 
 
 class Hint(NamedTuple):
@@ -56,6 +61,31 @@ def hints_of_soar(command):
     lines = command.split("\n")
     return [Hint(sum(len(line) + 1 for line in lines[:one.line - 1]) + one.column - 1, f"{one.why}. {one.recipe}")
             for one in findings_of(command) if one.kind in LOADED_KINDS]
+
+
+class Typed(Source):
+    """A command of a file or of the prompt, which gives findings the line in its source."""
+
+    def __init__(self, name, cut):
+        super().__init__(name, cut.text)
+        self.line = cut.line
+
+    def finding(self, *words):
+        found = super().finding(*words)
+        return replace(found, line=found.line + self.line - 1)
+
+
+def refiring_hints(commands):
+    """Returns hints on productions that fire again by what they make, as lines.
+
+    `commands` are the productions of a file or of the prompt, each with its source."""
+    found = []
+    for source, cut in [one for one in commands if "operator" in one[1].text][:MOST_PRODUCTIONS]:
+        checks = check_command(Typed(source, cut), next(commands_of(cut.text)))[1]
+        found += [checks] if checks and checks.rule else []
+    findings = sorted(set(refiring(found)))
+    lines = [f"hint: {'' if one.file == '-' else one.file + ', '}line {one.line}, column {one.column}: {one.why}" for one in findings]
+    return lines[:MOST_HINTS] + [f"hint: {REMEDY}"] * bool(lines)
 
 
 # ---- conditions

@@ -1,6 +1,8 @@
 """The program as a process, with a pipe to it and a pipe from it."""
 
+import os
 import re
+import signal
 import subprocess
 from typing import NamedTuple
 
@@ -70,7 +72,9 @@ class Program:
         return self.process.wait()
 
     def kill(self):
-        self.process.kill()
+        """Ends the program, also while `./soar_app` still builds it."""
+        if self.process.poll() is None:
+            os.killpg(self.process.pid, signal.SIGTERM)
 
 
 def end_message(status):

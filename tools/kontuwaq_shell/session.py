@@ -73,14 +73,18 @@ class Session:
         feeder = Feeder(self)
         with self.runner.interrupts:
             feeder.feed(name, cut)
-        if feeder.loaded:
-            self.screen.line(f"{name}: {feeder.loaded} production{'' if feeder.loaded == 1 else 's'}")
+        count = len(feeder.productions)
+        if count:
+            self.screen.line(f"{name}: {count} production{'' if count == 1 else 's'}")
+        self.screen.lines(hints.refiring_hints(feeder.productions))
 
     def pass_on(self, cut):
         """Hands a command to the program."""
         if not self.show(self.program.ask(cut.text), piece_of([cut])):
             self.learn(cut)
             self.screen.lines(self.print_hints(cut.text))
+            if first_word(cut.text) == "sp":
+                self.screen.lines(hints.refiring_hints([("-", cut)]))
 
     def print_hints(self, command):
         """Returns the hint on a `print` of a label or of a rule whose name reads as an identifier, if there is one."""

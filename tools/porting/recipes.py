@@ -93,7 +93,7 @@ NO_REWARDS = ("there is no reinforcement learning", "Take the command out, and g
 COMMAND_RECIPES = {
     "gp": ("rules are not generated", "Write an `sp` for each rule that it stands for"),
     "learn": ("the command has another name", "Use `chunk always` or `chunk never`"),
-    "waitsnc": ("a state without operators always gets a substate", "Propose a `wait` operator that is worst, `+ <`, and a new one in each cycle"),
+    "waitsnc": ("a state without operators always gets a substate", "Take the command out. If it was on, propose a `wait` operator that is worst, `+ <`, and a new one in each cycle"),
     "multi-attributes": ("the matcher orders conditions itself", TAKE_OUT),
     "smem": NO_MEMORY_HERE,
     "epmem": NO_MEMORY_HERE,

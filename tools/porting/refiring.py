@@ -6,6 +6,7 @@ while its operator is still there. The rule fires once if one value that it test
 which has the old value, by a test that the new value fails, or by a negation that its own action blocks."""
 import re
 from dataclasses import dataclass, replace
+from functools import cached_property
 
 from .production import Call
 from .triples import Triples
@@ -50,7 +51,7 @@ class Application:
         flags = {flag.text for flag in self.checks.rule.flags}
         return bool(self.operators) and bool(self.makes or writes) and ":i-support" not in flags
 
-    @property
+    @cached_property
     def names(self):
         """The names that its operators may have; none if any."""
         return {token.text for condition in self.triples.positive

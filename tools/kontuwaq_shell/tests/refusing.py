@@ -6,7 +6,7 @@ from ..aliases import canonical
 from ..completion import Completer
 from ..cuts import cuts, extent, words_of
 from ..feeding import LARGEST_PIECE, pieces
-from ..hints import hints_on_production
+from ..hints import hints_on_production, refiring_hints
 from ..memory import memory_of
 from ..refusals import Refusal, refusal_of, shown
 from ..remedies import remedies
@@ -66,6 +66,15 @@ class Hints(unittest.TestCase):
             with self.subTest(command):
                 self.assertEqual([hint.line(command, 1, "-") for hint in hints_on_production(command)], wanted)
 
+    def test_an_application_that_fires_again_is_named(self):
+        commands = [("a.soar", cut) for cut in cuts(
+            "\nsp {a (state <s> ^operator <o> ^n <x>) (<o> ^name count ^from <x>) --> (<s> ^n <x> - (+ <x> 1))}\n"
+            "sp {b\n (state <s> ^operator <o> ^n <x>) (<o> ^name add) --> (<s> ^n <x> - (+ <x> 1))}\n")]
+        first, remedy = refiring_hints(commands)
+        self.assertEqual(first, "hint: a.soar, line 4, column 63: b fires again by the new ^n, before the proposal retracts")
+        self.assertIn("docs/FROM-SOAR.md", remedy)
+        self.assertEqual(refiring_hints(commands[:1]), [])
+
     def test_a_hint_on_a_file_names_it(self):
         hint, = hints_on_production(HINTS[0][0])
         self.assertTrue(hint.line(HINTS[0][0], 7, "a.soar").startswith("hint: a.soar, line 7, column 25: "))
@@ -96,7 +105,7 @@ class Remedies(unittest.TestCase):
                 (10, "unknown command", "matchs", ["hint: is matches or watch meant?"]),
                 (10, "unknown command", "(assert (a))", ["hint: docs/FROM-CLIPS.md says what to write here"]),
                 (10, "unknown command", "waitsnc --on", ["hint: a state without operators always gets a substate. "
-                                                         "Propose a `wait` operator that is worst, `+ <`, and a new one in each cycle"]),
+                                                         "If it was on, propose a `wait` operator that is worst, `+ <`, and a new one in each cycle"]),
                 (30, "wrong words", "watch 9", ["hint: its form is watch N: it sets the watch level, 0 to 5"]),
                 (32, "no production lamp*no", "print lamp*no", ["hint: is lamp*on meant?"]), (37, "halted", "run 1", [])):
             self.assertEqual(remedies(Refusal(number, "-", 1, text), command, completer), wanted, command)
