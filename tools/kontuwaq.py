@@ -88,11 +88,13 @@ class Answer:
 
 
 class Agent(contextlib.AbstractContextManager):
-    """An agent without rules. To `log`, a text file, goes all that it is sent, but for the markers."""
+    """An agent without rules. To `log`, a text file, goes all that it is sent, but for the markers.
+
+    The program reads 64 MiB in its life, and `bytes_sent` counts what it was sent."""
     def __init__(self, watch=1, program=None, log=None):
         program = program or os.environ.get("SOAR_APP") or TOP / "soar_app"
         self.process = subprocess.Popen([program, f"--watch={watch}"], stdin=subprocess.PIPE, stdout=subprocess.PIPE)
-        self.log, self.queued, self.lines_sent = log, "", 0
+        self.log, self.queued, self.lines_sent, self.bytes_sent = log, "", 0, 0
 
     def add(self, identifier, attribute, value, how="add"):
         """Queues that a triple joins the inputs in the next input phase."""
@@ -129,7 +131,9 @@ class Agent(contextlib.AbstractContextManager):
         # The marker: a dot is no command, so it is refused and changes nothing, and no other refusal names its line.
         self.lines_sent += commands.count("\n") + 1
         marker = f"error 10 -:{self.lines_sent}: unknown command\n".encode()
-        threading.Thread(target=self.send, args=(f"{commands}.\n".encode(),), daemon=True).start()
+        sent = f"{commands}.\n".encode()
+        self.bytes_sent += len(sent)
+        threading.Thread(target=self.send, args=(sent,), daemon=True).start()
         written = []
         for line in iter(self.process.stdout.readline, marker):
             if not line:
