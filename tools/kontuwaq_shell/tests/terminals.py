@@ -9,6 +9,7 @@ import unittest
 from pathlib import Path
 
 from ..main import TOP, program_words
+from ..runs import IDLE
 from .sessions import has_program
 
 SECONDS = 120
@@ -93,7 +94,8 @@ class Terminal(unittest.TestCase):
         self.pane.type("sp {wrong (state <s> ^a <x>)\n")
         self.expect("soar> sp {wrong (state <s> ^a <x>)\n   {>")
         self.pane.type("   --> (<s> ^b <x>+)}\n")
-        self.expect("error 12 -:1: bad byte at byte 44\n  2 |    --> (<s> ^b <x>+)}\n    |                ^ column 16\nsoar>")
+        self.expect("error 12 -:1: bad byte at byte 44\n  2 |    --> (<s> ^b <x>+)}\n    |                ^ column 16\n"
+                    "hint: line 2, column 16: `<x>+` is no token. Put a blank between a variable and a sign\nsoar>")
         self.pane.type(AGENT)
         self.pane.press("-l", "why pai")
         self.pane.press("Tab")
@@ -111,7 +113,12 @@ class Terminal(unittest.TestCase):
         self.expect("soar> run 1000000\n")
         time.sleep(1)
         self.pane.press("C-c")
-        self.expect(": Ctrl-C\nsoar>")
+        self.expect(f": Ctrl-C\n{IDLE}\nsoar>")
+        Path(self.folder.name, "long.soar").write_text("run 1000000\nstats\n")
+        self.pane.type(f"source {self.folder.name}/long.soar\n")
+        time.sleep(1)
+        self.pane.press("C-c")
+        self.expect(f"left out: {self.folder.name}/long.soar from line 2 on\nsoar>")
         self.pane.type("sp {open\n")
         self.pane.press("C-c")
         self.pane.type("find ^color\n")
