@@ -10,7 +10,7 @@ WORDS = {
     "p": "print", "wmes": "print", "pref": "preferences", "ex": "excise", "is": "init-soar", "init": "init-soar",
     "r": "run", "s": "run", "d": "run", "step": "run", "w": "watch", "trace": "watch", "st": "stats",
     "aw": "add-wme", "rw": "remove-wme", "fc": "counts", "firing-counts": "counts", "gs": "goals", "pgs": "goals", "stack": "goals",
-    "ms": "matches", "pbreak": "break", "b": "break", "clog": "log", "learn": "chunk", "ls": "!ls", "pwd": "!pwd",
+    "ms": "matches", "pc": "print --chunks", "ps": "goals", "pbreak": "break", "b": "break", "clog": "log", "learn": "chunk", "ls": "!ls", "pwd": "!pwd",
     "wm add": "add-wme", "wm remove": "remove-wme", "soar init": "init-soar", "soar max-elaborations": "max-elaborations",
     "load file": "source", "output log": "log", "production excise": "excise", "production firing-counts": "counts",
     "production matches": "why", "production break": "break", "explain chunk": "explain",
@@ -48,7 +48,7 @@ def canonical(command):
         name = " ".join(words[:count])
         if len(words) >= count and name in WORDS:
             return with_options(name, WORDS[name].split() + words[count:])
-    if not words or words[0] not in ("run", "print", "preferences"):
+    if not words or words[0] not in ("run", "print", "preferences", "matches"):
         return command
     changed = with_options(words[0], words)
     return command if changed == " ".join(words) else changed
@@ -57,7 +57,7 @@ def canonical(command):
 def with_options(name, words):
     """Returns a command whose options of Soar are put into the form of this shell."""
     form = {"run": run_words, "print": print_words, "preferences": preference_words, "chunk": chunk_words,
-            "indifferent-selection": selection_words}.get(words[0])
+            "indifferent-selection": selection_words, "matches": match_words, "break": break_words}.get(words[0])
     return " ".join(form(name, words) if form else words)
 
 
@@ -86,6 +86,17 @@ def preference_words(name, words):
     """The attribute is `operator` by default."""
     rest = [word for word in words[1:] if word not in IGNORED]
     return ["preferences", *rest[:1], *([word.lstrip("^") for word in rest[1:]] or ["operator"])]
+
+
+def match_words(name, words):
+    """With an option and a name, Soar counts the matches of each condition."""
+    rest = [word for word in words[1:] if not word.startswith("-")]
+    return ["why", *rest] if len(rest) == 1 and len(words) > 2 else ["matches", *rest]
+
+
+def break_words(name, words):
+    clears = {"-c", "--clear"} & set(words)
+    return ["unbreak" if clears else "break", *(word for word in words[1:] if not word.startswith("-"))]
 
 
 def chunk_words(name, words):

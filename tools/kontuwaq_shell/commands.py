@@ -1,5 +1,6 @@
 """The commands that the shell itself carries out."""
 
+import os
 import random
 import re
 import secrets
@@ -34,10 +35,12 @@ class Commands:
 
     def __init__(self, agent, runner, screen):
         self.agent, self.runner, self.screen = agent, runner, screen
+        self.folders = []
         self.by_word = {
             "help": self.help, "why": self.why, "print": self.print, "find": self.find, "goals": self.goals, "run": self.run,
             "until": self.until, "break": self.set_break, "unbreak": self.unset_break, "counts": self.counts,
             "draw": self.draw, "log": self.log, "excise": self.excise, "srand": self.srand,
+            "cd": self.cd, "pushd": self.pushd, "popd": self.popd, "echo": self.echo,
         }
 
     def carry_out(self, name, command):
@@ -177,7 +180,7 @@ class Commands:
             answer = self.agent.program.ask("excise " + barred(meaning(name)))
             if answer.text:
                 raise Refused(answer)
-        return [f"{len(names)} rules are gone"]
+        return ["1 rule is gone" if len(names) == 1 else f"{len(names)} rules are gone"]
 
     # ---- files
 
@@ -210,6 +213,26 @@ class Commands:
         if name != "off":
             self.screen.open_log(name)
         return []
+
+    # ---- folders
+
+    def cd(self, _, command):
+        os.chdir(os.path.expanduser(rest_of(command) or "~"))
+        return [os.getcwd()]
+
+    def pushd(self, _, command):
+        """Goes to a folder; `popd` goes back."""
+        before = os.getcwd()
+        lines = self.cd([], command)
+        self.folders.append(before)
+        return lines
+
+    def popd(self, words, _):
+        exactly(words, 0)
+        return self.cd([], f"cd {self.folders.pop()}") if self.folders else ["no folder to go back to"]
+
+    def echo(self, _, command):
+        return [rest_of(command)]
 
     def system(self, command):
         """Runs a command of the system's shell at the same terminal."""

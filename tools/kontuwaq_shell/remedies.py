@@ -7,7 +7,7 @@ from porting import recipes
 
 from .aliases import is_of_clips
 from .cuts import first_word
-from .help import entries
+from .help import brief, entries
 from .hints import findings_of
 from .refusals import UNFINISHED, place_in
 from .tokens import tokens
@@ -45,7 +45,7 @@ def command_hints(command, words):
     if word in recipes.COMMAND_RECIPES or word in recipes.WITHOUT or word.startswith("set-"):
         why, recipe = recipes.command_finding(word)
         return [f"hint: {why}" + ("" if recipe == recipes.TAKE_OUT else f". {recipe.replace(recipes.TAKE_OUT + '. ', '')}")]
-    return nearest_hints(word, words)
+    return nearest_hints(word, words) or ["hint: `help` lists the commands"]
 
 
 def form_hints(word):
@@ -53,7 +53,7 @@ def form_hints(word):
     found = [entry for entry in entries() if word == entry.word()]
     forms = [form for entry in found for form in entry.forms]
     if len(forms) == 1:
-        return [f"hint: its form is {forms[0]}: it {found[0].text}"]
+        return [f"hint: its form is {forms[0]}: it {brief(found[0].text)}"]
     return [f"hint: its forms are {', '.join(forms)}"] if forms else []
 
 

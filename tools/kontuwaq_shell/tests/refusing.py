@@ -107,7 +107,8 @@ class Remedies(unittest.TestCase):
                 (10, "unknown command", "waitsnc --on", ["hint: a state without operators always gets a substate. "
                                                          "If it was on, propose a `wait` operator that is worst, `+ <`, and a new one in each cycle"]),
                 (30, "wrong words", "watch 9", ["hint: its form is watch N: it sets the watch level, 0 to 5"]),
-                (32, "no production lamp*no", "print lamp*no", ["hint: is lamp*on meant?"]), (37, "halted", "run 1", [])):
+                (32, "no production lamp*no", "print lamp*no", ["hint: is lamp*on meant?"]),
+                (10, "unknown command", "zzz", ["hint: `help` lists the commands"]), (37, "halted", "run 1", [])):
             self.assertEqual(remedies(Refusal(number, "-", 1, text), command, completer), wanted, command)
 
 
@@ -147,7 +148,8 @@ class Commands(unittest.TestCase):
         for said, wanted in (
                 ("d", "run 1"), ("d 5", "run 5"), ("run -d 5", "run 5"), ("run", "run"), ("p s1 -d 2", "print -d 2 s1"), ("p --stack", "goals"),
                 ("print (s1 ^a *)", "find s1 ^a *"), ("pref s1", "preferences s1 operator"), ("wm add s1 ^a b", "add-wme s1 ^a b"),
-                ("learn --on", "chunk always"), ('sp "a\n (b)" # c', "sp {a\n (b)} # c"), ('sp "a |\\"|"', 'sp "a |\\"|"'), ("(reset)", "init-soar"), ("(run 5)", "run 5"), ("(facts)", "print --wm"),
+                ("learn --on", "chunk always"), ('sp "a\n (b)" # c', "sp {a\n (b)} # c"), ('sp "a |\\"|"', 'sp "a |\\"|"'), ("matches -w a", "why a"), ("matches a", "matches a"), ("matches", "matches"), ("ps", "goals"),
+                ("production break --set a", "break a"), ("pbreak -c a", "unbreak a"), ("(reset)", "init-soar"), ("(run 5)", "run 5"), ("(facts)", "print --wm"),
                 ('(load "a b.soar")', "source a b.soar"), ("(watch rules)", "watch 3"), ("(assert (a))", "(assert (a))"),
                 ("source a b # c", "source a b # c"), ("print |a  b|", "print |a  b|")):
             self.assertEqual(canonical(said), wanted)

@@ -183,6 +183,14 @@ class Sessions(unittest.TestCase):
             self.assertIn('  "S1" [label="S1\\l", shape=ellipse];', Path(folder, "goals.dot").read_text().split("\n"))
             self.assertIn("soar> add-wme S1 ^box <b>\n", Path(folder, "log").read_text())
 
+    def test_a_folder_is_entered_and_left(self):
+        with tempfile.TemporaryDirectory() as folder:
+            folder = str(Path(folder).resolve())
+            Path(folder, "a.soar").write_text("stats\n")
+            said, status = shell(f"pushd {folder}\nsource a.soar\npopd\npopd\ncd {folder}/none\necho a  b # c\n")
+        self.assertEqual((said.split("\n")[0], said.split("\n")[2:], status), (
+            folder, [str(TOP), "no folder to go back to", f"{folder}/none: No such file or directory", "a  b", ""], 0))
+
     def test_the_page_shows_what_the_shell_writes(self):
         for blocks in sessions(PAGE.read_text()):
             self.assertEqual(blocks, replayed(blocks))
