@@ -45,7 +45,7 @@ TURNS = [(re.compile(pattern), advice) for pattern, advice in [
     (r"\b[Ww]ant of (?:memory|words|room|space)\b|\bmemory (?:is|was) wanting\b|\bwants? memory\b", "out of memory"),
     (r"\btak(?:e|es|ing) (?:no|any|some|more) memory\b|\btak(?:e|es|ing) memory\b", "does not allocate, allocates"),
     (r"\b(?:a|the|its|their|longest|this|such) fronts?\b(?! end\b)|\bfronts? of\b|\bin front\b", "prefix, or before"),
-    (rf"\bbehind (?:{CODE}|them\b|that\b|those\b|the (?:last|first|others|word|name|arrow)\b|all (?:others|that)\b|it\.?$)", "after"),
+    (rf"\bbehind (?:{CODE}|them\b|that\b|those\b|the (?:last|first|others|word|name|arrow)\b|all (?:others|that)\b)", "after"),
     (r"\b(?<!thing )(?<!one )(?<!body )(?<!where )(?<!all )(?<!what )(?<!ever )(?<!who )[Ee]lse\b", "otherwise"),
     (r"\b(?i:exactly|only|just|also|except|even|but|as) where\b(?! to\b)", "if"),
     (r"^Where (?:there|no|none|nothing|one|this|that|it|both|each|several|more|an?|neither|all|some) [^?]*[,:]", "if"),
