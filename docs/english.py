@@ -45,9 +45,9 @@ TURNS = [(re.compile(pattern), advice) for pattern, advice in [
     (r"\b[Ww]ant of (?:memory|words|room|space)\b|\bmemory (?:is|was) wanting\b|\bwants? memory\b", "out of memory"),
     (r"\btak(?:e|es|ing) (?:no|any|some|more) memory\b|\btak(?:e|es|ing) memory\b", "does not allocate, allocates"),
     (r"\b(?:a|the|its|their|longest|this|such) fronts?\b(?! end\b)|\bfronts? of\b|\bin front\b", "prefix, or before"),
-    (rf"\bbehind (?:{CODE}|them\b|that\b|those\b|the (?:last|first|others|word|name|arrow)\b|all (?:others|that)\b|it\.?$)", "after"),
+    (rf"\bbehind (?:{CODE}|them\b|that\b|those\b|the (?:last|first|others|word|name|arrow)\b|all (?:others|that)\b)", "after"),
     (r"\b(?<!thing )(?<!one )(?<!body )(?<!where )(?<!all )(?<!what )(?<!ever )(?<!who )[Ee]lse\b", "otherwise"),
-    (r"\b(?:exactly|only|just|also|except|even|but|as) where\b(?! to\b)", "if"),
+    (r"\b(?i:exactly|only|just|also|except|even|but|as) where\b(?! to\b)", "if"),
     (r"^Where (?:there|no|none|nothing|one|this|that|it|both|each|several|more|an?|neither|all|some) [^?]*[,:]", "if"),
     (r"\b[Ll]et(?:s|ting)? go(?: of)?\b", "free, remove or drop"),
     (r"\b(?:is|are) no more\b(?! than\b| \w+ than\b)", "is not there any more"),
@@ -61,8 +61,8 @@ TURNS = [(re.compile(pattern), advice) for pattern, advice in [
      r" (?:is|are|was|were)\b", "begin with the subject"),
     (r"^(?:Nor|Neither) (?:does|do|did|is|are|was|were|has|have|can|may)\b|^The same (?:with|for|of|holds)\b"
      r"|^So (?:does|do|did|is|are|was|were|has|have)\b", "name the thing again"),
-    (rf"\b(?:no|not|never|nothing|nobody|none|cannot)\b(?: {STOP}[\w'{CODE}-]+){{0,6}} (?:without|not|never)\b(?! only\b)"
-     r"|\bnot that no\b", "say it without two negations"),
+    (rf"\b(?:no|not|never|nothing|nobody|none|cannot)\b(?: {STOP}[\w'{CODE}-]+){{0,6}} (?:not|never)\b(?! only\b)"
+     r"|\b(?:not|never) without\b|\bnot that no\b", "say it without two negations"),
 ]]
 
 VERB = re.compile(r"[A-Z][a-z]+s,?$")
@@ -225,22 +225,27 @@ def limits():
 def named_files(words):
     """The pages and sources that words name: files, and those in folders."""
     found = []
-    for word in words:
-        path = Path(word).resolve()
-        found += sorted([*path.rglob("*.md"), *path.rglob("*.rt"), *path.rglob("*.1")]) if path.is_dir() else [path]
+    for path in (Path(word).resolve() for word in words):
+        found += sorted(file for end in ("md", "rt", "1") for file in path.rglob(f"*.{end}")) if path.is_dir() else [path]
     return found
+
+
+def shown(path):
+    """The path of a file as it is printed: from the top of the repository."""
+    return path.relative_to(TOP) if path.is_relative_to(TOP) else path
 
 
 def main(words):
     if words == ["--write"]:
         LIMITS.write_text("".join(f"{pattern} {count}\n" for pattern, count in counts().items()), encoding="utf-8")
         return 0
-    faults = faults_in(named_files(words) or files_of(PAGES))
+    faults = faults_in(named_files(words) if words else files_of(PAGES))
     for path, line, text in faults:
-        print(f"{path.relative_to(TOP)}:{line}: {text.replace(CODE, '`..`')}")
-    high = [] if words else [(pattern, count) for pattern, count in counts().items() if count > limits().get(pattern, 0)]
+        print(f"{shown(path)}:{line}: {text.replace(CODE, '`..`')}")
+    allowed = limits()
+    high = [] if words else [(pattern, count) for pattern, count in counts().items() if count > allowed.get(pattern, 0)]
     for pattern, count in high:
-        print(f"{pattern}: {count} faults of English, and docs/english.txt allows {limits().get(pattern, 0)}")
+        print(f"{pattern}: {count} faults of English, and docs/english.txt allows {allowed.get(pattern, 0)}")
     return 1 if faults or high else 0
 
 
