@@ -1,9 +1,9 @@
 #!/usr/bin/env python3
 """The map of the crates, from crates.txt.
 
-  docs/crates.py           writes docs/CRATES.md and docs/crates.svg anew
-  docs/crates.py --check   says whether they are as they would be written; the status is 1 where they are not
-  docs/crates.py NAME      what a crate stands on, what stands on it, and so what a change in it proves again
+  docs/crates.py           writes docs/CRATES.md and docs/crates.svg
+  docs/crates.py --check   says whether they are up to date; the status is 1 if not
+  docs/crates.py NAME      lists what a crate stands on, and what stands on it: a change proves these again
 """
 import pathlib
 import sys
@@ -17,18 +17,18 @@ GROUPS = [
     ("symbols and bytes", "the table of words, numbers of identifiers; source, sink and shelf; bytes cut into commands", "soar_sym soar_edge"),
     ("productions and elements", "a production as plain data, its check and match order; triples and identifiers as keys; working memory", "soar_rule rule_check condition_copies body_marks packed_triples packed_ids shared_values boxed_values soar_wm"),
     ("definitions", "what all code is proved against: `specs/` and plain types, hardly any code", "defs_text defs_match defs_read defs_soar defs_run"),
-    ("laws of definitions", "what the definitions of reading, matching and settling come to", "rule_laws reading_laws net_laws conflict_order settling_laws removal_laws level_laws trace_laws"),
+    ("laws of definitions", "properties of the definitions of reading, matching and settling", "rule_laws reading_laws net_laws conflict_order settling_laws removal_laws level_laws trace_laws"),
     ("reading", "bytes to tokens, trees and productions; words of the command line", "soar_lex tree_parts soar_tree read_parts soar_read random_words file_names command_words"),
     ("printing", "symbols, productions, explanations and lines of the trace as text", "soar_show chain_texts trace_lines trace_details"),
     ("matching", "the conflict set: by trying every rule (match_direct), and by a network (rete_net)", "match_row match_direct rete_alpha row_tags node_memory join_parts negation_parts node_table node_agenda rete_beta rete_net match_changes open_instances"),
-    ("stores", "rows of preferences, inputs, rules and firings, each found by what is asked for", "soar_prefs input_memory rule_shelf soar_record"),
-    ("levels and settling", "which identifiers are reached, what is held and kept, goals, and working memory made of it", "level_graph symbol_sets soar_levels level_change soar_settle live_firings kept_triples settle_changes touched_tags soar_goals dependency_tables goal_trimming"),
+    ("stores", "rows of preferences, inputs, rules and firings, by what callers ask for", "soar_prefs input_memory rule_shelf soar_record"),
+    ("levels and settling", "which identifiers are reached, what is held and kept, goals, and working memory", "level_graph symbol_sets soar_levels level_change soar_settle live_firings kept_triples settle_changes touched_tags soar_goals dependency_tables goal_trimming"),
     ("choosing", "what preferences leave, draws, and the outcome at a goal", "soar_choose soar_decide decision_laws"),
-    ("laws of agents", "an agent stays lawful; explanations stay; each chunk goes again", "learning_laws agent_laws record_laws letter_laws session_laws loading_laws program_laws wave_chunk_laws explanation_laws matching_laws row_laws"),
-    ("learning", "from a result to its explanation, the rule that it gives, and what becomes of it", "chain_identifiers chunk_back chunk_results condition_order carried_tests chunk_negations chunk_variables chunk_forms chunk_grounds chunk_make chunk_replay chunk_learn"),
-    ("waves", "what is pending, what fires and is learned, what stays recorded, what a step tells", "soar_fire firing_records record_keeping goal_dependence wave_entries explained_firings learned_firings outstanding pending_work wave_learning wave_firings step_report input_queue wave_parts"),
+    ("laws of agents", "an agent stays lawful; explanations stay; each chunk works again", "learning_laws agent_laws record_laws letter_laws session_laws loading_laws program_laws wave_chunk_laws explanation_laws matching_laws row_laws"),
+    ("learning", "from a result to its explanation, its rule, and the outcome", "chain_identifiers chunk_back chunk_results condition_order carried_tests chunk_negations chunk_variables chunk_forms chunk_grounds chunk_make chunk_replay chunk_learn"),
+    ("waves", "what waits, what fires, what is learned, what stays recorded, what a step reports", "soar_fire firing_records record_keeping goal_dependence wave_entries explained_firings learned_firings outstanding pending_work wave_learning wave_firings step_report input_queue wave_parts"),
     ("cycles", "decisions, output and phases, with any matcher", "decision_walk decision_parts output_link cycle_parts cycle_phases soar_cycle"),
-    ("sessions", "commands and what they say", "command_orders soar_cmd command_labels session_parts list_parts soar_agent"),
+    ("sessions", "commands and their output", "command_orders soar_cmd command_labels session_parts list_parts soar_agent"),
     ("the program", "streams of commands, files, the words of the command line, `main`", "generator command_runs soar_run soar_cases soar_app"),
     ("worked runs", "whole runs worked out by hand, as facts that the check computes", "defs_worked"),
 ]
@@ -57,6 +57,21 @@ def below(crates, name):
 
 def is_test(name):
     return name.endswith("_tests") and name != "carried_tests"
+
+
+def is_law(name):
+    return name.endswith("_laws") or name.startswith("defs_") or name == "conflict_order"
+
+
+def count_edits(pattern):
+    """How many must-fail edits a pattern names, and of how many crates."""
+    edits = list(TOP.glob(pattern))
+    return f"{len(edits)} for {len({edit.parent for edit in edits})} crates"
+
+
+def count_tests():
+    """How many functions are tests."""
+    return sum(file.read_text().count("#[test]") for file in TOP.glob("crates/*/src/**/*.rt"))
 
 
 def read_groups(crates):
@@ -144,9 +159,10 @@ def page(crates, groups, uses):
     rows = "\n".join(
         f"| {title} | {about} | " + ", ".join(names)
         + f" | {', '.join(sorted(direct[title], key=order.index)) or '-'} |" for title, about, names in groups)
+    laws = [name for name in crates if is_law(name)]
     return f"""# A map of the crates
 
-Written by `docs/crates.py` from `crates.txt`; a new crate is placed in its table `GROUPS`. {len(crates)} crates: {len(tests)} hold tests alone, and the others are in {len(groups)} groups. An arrow goes from a group to one that it stands on; those that follow from other arrows are left out.
+`docs/crates.py` writes this page from `crates.txt`; its table `GROUPS` gives each crate a group. An arrow goes from a group to one on which it stands. The picture leaves out arrows that follow from others.
 
 ![groups of crates, the lowest at the bottom](crates.svg)
 
@@ -154,7 +170,18 @@ Written by `docs/crates.py` from `crates.txt`; a new crate is placed in its tabl
 |---|---|---|---|
 {rows}
 
-What each crate holds is a line of `ARCHITECTURE.md`, and a page beside its code. Tests of a crate stand in `NAME_tests` behind it.
+[ARCHITECTURE.md](ARCHITECTURE.md#the-crates) says what each crate holds; each crate has a page beside its code.
+
+## Counts
+
+| What | How many |
+|---|---|
+| crates | {len(crates)} |
+| of these, definitions and laws | {len(laws)} |
+| of these, tests alone | {len(tests)}: {', '.join(tests)} |
+| must-fail edits that the gate tries | {count_edits("crates/*/must-fail/*.edit")} |
+| must-fail edits that `edits/try.sh` tries | {count_edits("edits/*/*.edit")} |
+| functions that are tests | {count_tests()} |
 
 ## What a change proves again
 
@@ -188,7 +215,7 @@ def main():
         if not words:
             file.write_text(text)
         elif not file.exists() or file.read_text() != text:
-            sys.exit(f"{file.name} is not as docs/crates.py writes it")
+            sys.exit(f"{file.name} is not up to date; run docs/crates.py")
 
 
 if __name__ == "__main__":
