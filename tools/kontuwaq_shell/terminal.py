@@ -13,8 +13,8 @@ except ImportError:
 
 PROMPT = "soar> "
 LONGEST_HISTORY = 5000
-# A comment, a text in bars or quotes, blanks.
-PIECE = re.compile(rf"(#[^\n]*)|({QUOTED.pattern})|(\s+)", re.S)
+# A text in bars or quotes; or blanks and comments.
+PIECE = re.compile(rf"({QUOTED.pattern})|(?:#[^\n]*|\s)+", re.S)
 
 
 class Terminal:
@@ -115,9 +115,9 @@ class Terminal:
 
 def one_line(text):
     """Returns a command on one line, without comments; None if a newline stands in bars or quotes."""
-    if any("\n" in (found[2] or "") for found in PIECE.finditer(text)):
+    if any("\n" in (found[1] or "") for found in PIECE.finditer(text)):
         return None
-    return PIECE.sub(lambda found: found[2] or (" " if found[3] else ""), text).strip()
+    return PIECE.sub(lambda found: found[1] or " ", text).strip()
 
 
 def swallowed(word, line):
