@@ -81,10 +81,10 @@ def hold(session, options, interrupts):
 def talk(session, terminal):
     """Obeys commands until the input or the program ends."""
     while not session.program.ended:
-        cut = terminal.command()
-        if cut is None:
-            return
         try:
+            cut = terminal.command()
+            if cut is None:
+                return
             session.obey(cut)
         except KeyboardInterrupt:
             if not terminal.keyboard:

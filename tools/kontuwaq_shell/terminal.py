@@ -4,7 +4,7 @@ import os
 import re
 import sys
 
-from .cuts import BLANKS, Cut, extent, first_word
+from .cuts import BLANKS, QUOTED, Cut, extent, first_word
 
 try:
     import readline
@@ -13,6 +13,8 @@ except ImportError:
 
 PROMPT = "soar> "
 LONGEST_HISTORY = 5000
+# A text in bars or quotes; or blanks and comments.
+PIECE = re.compile(rf"({QUOTED.pattern})|(?:#[^\n]*|\s)+", re.S)
 
 
 class Terminal:
@@ -34,6 +36,7 @@ class Terminal:
     def command(self):
         """Returns the next command, with its line; an unfinished one at the end of the input, and then None."""
         text, first = "", self.line + 1
+        kept = self.history_length()
         while True:
             opened = extent(text)[1]
             self.within = bool(opened)
@@ -54,6 +57,7 @@ class Terminal:
             if not text.strip(BLANKS) or re.fullmatch(r"\s*#[^\n]*", text):
                 text, first = "", self.line + 1
             elif not extent(text)[1]:
+                self.join_history(kept, text)
                 return cut(first, text)
 
     def read(self, prompt):
@@ -88,6 +92,18 @@ class Terminal:
             self.matches = self.completer.candidates(readline.get_line_buffer()[:readline.get_begidx()], begun, self.within)
         return self.matches[number] if number < len(self.matches) else None
 
+    def history_length(self):
+        return readline.get_current_history_length() if self.keyboard and readline else 0
+
+    def join_history(self, kept, text):
+        """Puts one line into the history for a command of several, after the first `kept` entries."""
+        line = one_line(text)
+        if not (self.keyboard and readline and "\n" in text and line):
+            return
+        for place in range(self.history_length() - 1, kept - 1, -1):
+            readline.remove_history_item(place)
+        readline.add_history(line)
+
     def close(self):
         """Keeps the history for the next session."""
         if self.keyboard and readline:
@@ -95,6 +111,13 @@ class Terminal:
                 readline.write_history_file(self.history)
             except OSError:
                 pass
+
+
+def one_line(text):
+    """Returns a command on one line, without comments; None if a newline stands in bars or quotes."""
+    if any("\n" in (found[1] or "") for found in PIECE.finditer(text)):
+        return None
+    return PIECE.sub(lambda found: found[1] or " ", text).strip()
 
 
 def swallowed(word, line):

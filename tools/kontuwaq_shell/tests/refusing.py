@@ -10,6 +10,7 @@ from ..hints import hints_on_production, refiring_hints
 from ..memory import memory_of
 from ..refusals import Refusal, refusal_of, shown
 from ..remedies import remedies
+from ..terminal import one_line
 
 RULE = "sp {a\n   (state <s> ^a <x> ^b <y>)\n   (<x> ^c 1 2)\n   -{(<y> ^d 1)}\n   (<z> ^e 3)\n   -->\n   (<s> ^f (+ <w> 1) ^g <x> >)}"
 
@@ -128,6 +129,11 @@ class Commands(unittest.TestCase):
     def test_what_is_open_is_known(self):
         for text, wanted in (("sp {a {b", [3, 6]), ("sp {a |b", [3, 6]), ("print |a\\|", [6]), ("a } {", [4]), ("a # {", [])):
             self.assertEqual(extent(text)[1], wanted, text)
+
+    def test_a_command_of_several_lines_is_recalled_as_one(self):
+        for text, wanted in (("sp {a  # c |x\n   (state <s> ^a |b  # c|)\n\t-->\n  (halt) # {\n}", "sp {a (state <s> ^a |b  # c|) --> (halt) }"),
+                             ("sp {a |b\nc|}", None), ("stats", "stats")):
+            self.assertEqual(one_line(text), wanted)
 
     def test_words_keep_bars_together(self):
         self.assertEqual(words_of("print |a  b| # c"), ["print", "|a  b|"])

@@ -9,8 +9,7 @@ import unittest
 from pathlib import Path
 
 from ..main import TOP, program_words
-from ..runs import IDLE
-from .sessions import has_program
+from .sessions import COUNTER, has_program
 
 SECONDS = 120
 
@@ -36,8 +35,11 @@ class Pane:
     """A shell in a session of tmux of its own."""
 
     def __init__(self, folder, history):
-        self.socket = str(Path(folder, "tmux"))
-        command = f"SOAR_APP={shlex.quote(program_words()[0])} KONTUWAQ_HISTORY={shlex.quote(history)} {shlex.quote(str(TOP / 'tools/shell'))}"
+        # A folder of its own for each pane, since a server that is ending takes no new session.
+        own = tempfile.mkdtemp(dir=folder)
+        self.socket, self.ended = f"{own}/tmux", Path(own, "status")
+        command = (f"SOAR_APP={shlex.quote(program_words()[0])} KONTUWAQ_HISTORY={shlex.quote(history)} {shlex.quote(str(TOP / 'tools/shell'))}; "
+                   f"echo $? >{shlex.quote(str(self.ended))}")
         self.tmux("-f", "/dev/null", "new-session", "-d", "-x", "120", "-y", "50", command)
         self.tmux("set-option", "-g", "remain-on-exit", "on")
 
@@ -57,7 +59,7 @@ class Pane:
 
     def status(self):
         """Returns the status with which the shell ended, or an empty text if it still runs."""
-        return self.tmux("display-message", "-p", "#{pane_dead_status}").strip()
+        return self.ended.read_text().strip() if self.ended.exists() else ""
 
     def wait_for(self, text):
         """Returns the screen once it shows a text, or after a long while."""
@@ -109,11 +111,11 @@ class Terminal(unittest.TestCase):
 
     def interrupt(self):
         """Ctrl-C ends a long run and an open command, and the agent stays."""
-        self.pane.type("watch 1\nwatch 0\nrun 1000000\n")
+        self.pane.type("".join(COUNTER.splitlines(True)[:3]) + "watch 0\nrun 1000000\n")
         self.expect("soar> run 1000000\n")
         time.sleep(1)
         self.pane.press("C-c")
-        self.expect(f": Ctrl-C\n{IDLE}\nsoar>")
+        self.expect(": Ctrl-C\nsoar>")
         Path(self.folder.name, "long.soar").write_text("run 1000000\nstats\n")
         self.pane.type(f"source {self.folder.name}/long.soar\n")
         time.sleep(1)
@@ -127,8 +129,12 @@ class Terminal(unittest.TestCase):
     def recall(self):
         """The history stays between sessions."""
         self.pane.press("C-d")
-        self.assertEqual(waited(self.pane.status, bool), "1")
-        self.assertIn("find ^color", Path(self.history).read_text())
+        self.assertEqual(waited(self.pane.status, bool), "1", self.pane.screen())
+        lines = Path(self.history).read_text().split("\n")
+        self.assertIn("find ^color", lines)
+        self.assertIn("sp {paint*propose (state <s> ^superstate nil ^house <h>) (<h> ^wall <w>) (<w> ^colour grey) (<h> ^owner.name anna) "
+                      "--> (<s> ^operator <o> +) (<o> ^name paint ^wall <w>) }", lines)
+        self.assertNotIn("    -->", lines)
         self.pane.kill()
         self.pane = Pane(self.folder.name, self.history)
         self.expect("soar>")
